@@ -1,5 +1,6 @@
-//! Tests of what the codecs to bytes stand on, over its public calls: shapes, types, metadata and containers
-//! (`base`), and the codecs of arrays. Without tests the crate is empty.
+//! Tests of what the array-to-bytes codecs are built on, over its public calls: shapes, types,
+//! metadata and containers (`base`), and the array-to-array codecs. Without tests the crate is
+//! empty.
 #![tactic(auto)]
 
 #[cfg(test)]

@@ -1,17 +1,18 @@
 //! The call `zarrs_decode`.
-ghost use Rattle.zarrs_calls.specs.Buffers.{room};
-ghost use Rattle.zarrs_calls.specs.Calls.{decoded};
-ghost use Rattle.zarrs_calls.specs.Told.{TellsElements};
+ghost use Rattle.zarrs_c_calls.specs.Buffers.{room};
+ghost use Rattle.zarrs_c_calls.specs.Calls.{decoded};
+ghost use Rattle.zarrs_c_calls.specs.Told.{TellsElements};
 
 use std::alloc::Global;
-use zarrs_calls::Sizes;
+use zarrs_c_calls::Sizes;
 
 /// The elements of the chunk that a value stands for.
 ///
-/// They stand in front of the three buffers: offsets begin at 0 and end at the length of the bytes, mask
-/// bytes are 0 and 1, and blank elements stand under absent ones. `needed` has how many items each part
-/// has; where a buffer is too short, that alone, and 1 is returned. Refusals, the first that holds,
-/// `OutOfMemory` aside: those of `zarrs_check`; those of `CodecChain::decode`.
+/// They are at the front of the three buffers: offsets begin at 0 and end at the length of the
+/// bytes, mask bytes are 0 and 1, and blank elements stand under absent ones. `needed` is how many
+/// items each part has; where a buffer is too short, only `needed` is written, and 1 is returned.
+/// Errors, the first that holds, `OutOfMemory` aside: those of `zarrs_check`; those of
+/// `CodecChain::decode`.
 #[unsafe(no_mangle)]
 pub extern "C" fn zarrs_decode(
     alloc: Global,
@@ -27,5 +28,5 @@ pub extern "C" fn zarrs_decode(
         (room masks.old offsets.old bytes.old needed.old)
         (room masks.new offsets.new bytes.new needed.new) }
 {
-    zarrs_calls::zarrs_decode(alloc, text, value, masks, offsets, bytes, needed)
+    zarrs_c_calls::zarrs_decode(alloc, text, value, masks, offsets, bytes, needed)
 }

@@ -1,19 +1,20 @@
 //! The call `zarrs_edit`.
-ghost use Rattle.zarrs_calls.specs.Edits.{TellsEdits};
+ghost use Rattle.zarrs_c_calls.specs.Edits.{TellsEdits};
 
 use std::alloc::Global;
-use zarrs_calls::EditSize;
+use zarrs_c_calls::EditSize;
 
 /// Writes new elements into the caller's own value, where the chain writes them in place: where all of its
 /// codecs write a part of a value, as array-to-array codecs and `bytes` do. The edits are made one after
 /// another, each as `zarrs_write` makes it, and the bytes of their places alone are written.
 ///
-/// Each edit takes as many numbers as `sizes` says in front of those that the ones before it left, which
-/// are its selection as in `zarrs_read`, and as many bytes, which are its new elements. `done` is how many
-/// edits were made: where one is refused, those before it stand, and it and those behind it leave the value
-/// as it is. Refusals, the first that holds, `OutOfMemory` aside: those of `zarrs_check`; `Argument` where
-/// the edits don't take just all numbers and bytes; `NotInPlace` where the chain doesn't write in place, or
-/// the value has fewer bytes than the chunk's; those of each edit in turn, as of `zarrs_write`.
+/// Each edit takes numbers and bytes, as many of each as `sizes` says, from the front of those that
+/// the edits before it left: the numbers are its selection, as in `zarrs_read`, and the bytes are
+/// its new elements. `done` is how many edits were made: where one fails, those before it stay, and
+/// it and those behind it leave the value as it is. Errors, the first that holds, `OutOfMemory`
+/// aside: those of `zarrs_check`; `Argument` where the edits don't take just all numbers and bytes;
+/// `NotInPlace` where the chain doesn't write in place, or the value has fewer bytes than the
+/// chunk's; those of each edit in turn, as of `zarrs_write`.
 #[unsafe(no_mangle)]
 pub extern "C" fn zarrs_edit(
     alloc: Global,
@@ -24,9 +25,9 @@ pub extern "C" fn zarrs_edit(
     bytes: &[u8],
     done: &mut usize,
 ) -> u32
-    // Wide: the edits have three parts, and the value is told before and after.
+    // Wide: the edits have three parts, and the value is named before and after.
     ensures told { TellsEdits text.now sizes.now numbers.now bytes.now
         value.old value.new result done.new }
 {
-    zarrs_calls::zarrs_edit(alloc, text, value, sizes, numbers, bytes, done)
+    zarrs_c_calls::zarrs_edit(alloc, text, value, sizes, numbers, bytes, done)
 }

@@ -1,4 +1,4 @@
-//! The library's calls as C calls them: each is the call of the same name in `zarrs_calls`, with its
+//! The library's calls as C calls them: each is the call of the same name in `zarrs_c_calls`, with its
 //! contract. `include/zarrs_codecs.h` declares them, and says what C has to keep.
 #![tactic(auto)]
 

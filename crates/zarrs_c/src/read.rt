@@ -1,18 +1,19 @@
 //! The call `zarrs_read`.
-ghost use Rattle.zarrs_calls.specs.Buffers.{room};
-ghost use Rattle.zarrs_calls.specs.Reads.{part_read, stored_value};
-ghost use Rattle.zarrs_calls.specs.Told.{TellsElements};
+ghost use Rattle.zarrs_c_calls.specs.Buffers.{room};
+ghost use Rattle.zarrs_c_calls.specs.Reads.{part_read, stored_value};
+ghost use Rattle.zarrs_c_calls.specs.Told.{TellsElements};
 
 use std::alloc::Global;
-use zarrs_calls::Sizes;
+use zarrs_c_calls::Sizes;
 
-/// The elements that a selection means, in its order, of the chunk that a value stands for, or fill values
-/// where nothing is stored; `value` isn't read then.
+/// The selected elements, in the selection's order, of the chunk that a value stands for, or fill
+/// values where nothing is stored; `value` isn't read then.
 ///
-/// Where `tuples` is 2^64 - 1 the selection is a box, and `numbers` are its starts and then its lengths, one
-/// an axis; else it is so many index tuples, one after another. The elements are told as by `zarrs_decode`.
-/// Refusals, the first that holds, `OutOfMemory` aside: those of `zarrs_check`; `Argument` or `Overflow` of
-/// the selection; those of `CodecChain::partial_decoder` and then of its `partial_decode`.
+/// Where `tuples` is 2^64 - 1 the selection is a box, and `numbers` are its starts and then its
+/// lengths, one an axis; else it is so many index tuples, one after another. The elements are
+/// returned as by `zarrs_decode`. Errors, the first that holds, `OutOfMemory` aside: those of
+/// `zarrs_check`; `Argument` or `Overflow` of the selection; those of `CodecChain::partial_decoder`
+/// and then of its `partial_decode`.
 #[unsafe(no_mangle)]
 pub extern "C" fn zarrs_read(
     alloc: Global,
@@ -32,7 +33,7 @@ pub extern "C" fn zarrs_read(
         (room masks.old offsets.old bytes.old needed.old)
         (room masks.new offsets.new bytes.new needed.new) }
 {
-    zarrs_calls::zarrs_read(
+    zarrs_c_calls::zarrs_read(
         alloc, text, is_stored, value, tuples, numbers, masks, offsets, bytes, needed,
     )
 }

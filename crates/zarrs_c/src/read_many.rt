@@ -1,20 +1,20 @@
 //! The call `zarrs_read_many`.
-ghost use Rattle.zarrs_calls.specs.Buffers.{room};
-ghost use Rattle.zarrs_calls.specs.ManyReads.{many_read, TellsMany};
-ghost use Rattle.zarrs_calls.specs.Reads.{stored_value};
+ghost use Rattle.zarrs_c_calls.specs.Buffers.{room};
+ghost use Rattle.zarrs_c_calls.specs.ManyReads.{many_read, TellsMany};
+ghost use Rattle.zarrs_c_calls.specs.Reads.{stored_value};
 
 use std::alloc::Global;
-use zarrs_calls::{SelectionSize, Sizes};
+use zarrs_c_calls::{SelectionSize, Sizes};
 
-/// The elements of each selection of a list, as `zarrs_read` tells those of one: the parts of each answer
-/// stand behind those of the one before it, with its own masks, its own offsets, which begin at 0, and its
-/// own bytes.
+/// The elements of each selection of a list, as `zarrs_read` returns those of one: the parts of
+/// each answer stand behind those of the one before it, with its own masks, its own offsets, which
+/// begin at 0, and its own bytes.
 ///
-/// Each selection takes as many numbers as `sizes` says in front of those that the ones before it left. The
-/// header is read once, and where bytes codecs stand behind the chain or chains inside it, the value is
-/// decoded once. Refusals, the first that holds, `OutOfMemory` aside: those of `zarrs_check`; those of each
-/// selection in turn, as of `zarrs_read`, and `Argument` where there aren't as many numbers; `Argument` where
-/// numbers are over.
+/// Each selection takes as many numbers as `sizes` says, from the front of those that the
+/// selections before it left. The header is read once, and a value that has to be decoded whole is
+/// decoded once. Errors, the first that holds, `OutOfMemory` aside: those of `zarrs_check`; those
+/// of each selection in turn, as of `zarrs_read`, and `Argument` where there aren't as many
+/// numbers; `Argument` where numbers are left over.
 #[unsafe(no_mangle)]
 pub extern "C" fn zarrs_read_many(
     alloc: Global,
@@ -34,7 +34,7 @@ pub extern "C" fn zarrs_read_many(
         (room masks.old offsets.old bytes.old needed.old)
         (room masks.new offsets.new bytes.new needed.new) }
 {
-    zarrs_calls::zarrs_read_many(
+    zarrs_c_calls::zarrs_read_many(
         alloc, text, is_stored, value, sizes, numbers, masks, offsets, bytes, needed,
     )
 }

@@ -1,20 +1,21 @@
 //! The call `zarrs_read_pieces`.
-ghost use Rattle.zarrs_calls.specs.Buffers.{room};
-ghost use Rattle.zarrs_calls.specs.Fetched.{TellsPieces};
+ghost use Rattle.zarrs_c_calls.specs.Buffers.{room};
+ghost use Rattle.zarrs_c_calls.specs.Fetched.{TellsPieces};
 
 use std::alloc::Global;
-use zarrs_calls::Sizes;
+use zarrs_c_calls::Sizes;
 
-/// The elements that a selection means of the chunk that a value of `len` bytes stands for, of which
-/// these ranges were fetched: each is a start and an end, they come in order, between one and the next
-/// there is a byte, and `fetched` has their bytes, joined.
+/// The selected elements of the chunk that a value of `len` bytes stands for, of which these ranges
+/// were fetched: each is a start and an end, they come in order, between one and the next there is
+/// a byte, and `fetched` has their bytes, joined.
 ///
-/// Where the bytes that `zarrs_planned_ranges` tells are among them, the answer is that of `zarrs_read`, for
-/// every value that has these bytes there. The selection is that of `zarrs_read`, and the elements are told
-/// as by `zarrs_decode`. Refusals, the first that holds, `OutOfMemory` aside: those of `zarrs_check`;
-/// `Argument` or `Overflow` of the selection; `Argument` where the ranges aren't pairs or have other bytes
-/// than are fetched; `InvalidByteRange` where they touch, come in another order or end behind the value;
-/// `Storage` where a byte is needed that isn't among them; those of `zarrs_read`.
+/// Where all bytes of the ranges that `zarrs_planned_ranges` returns are among them, the answer is
+/// that of `zarrs_read`, for every value that has these bytes there. The selection is that of
+/// `zarrs_read`, and the elements are returned as by `zarrs_decode`. Errors, the first that holds,
+/// `OutOfMemory` aside: those of `zarrs_check`; `Argument` or `Overflow` of the selection;
+/// `Argument` where the ranges aren't pairs or have other bytes than are fetched;
+/// `InvalidByteRange` where they touch, come in another order or end behind the value; `Storage`
+/// where a byte is needed that isn't among them; those of `zarrs_read`.
 #[unsafe(no_mangle)]
 pub extern "C" fn zarrs_read_pieces(
     alloc: Global,
@@ -34,7 +35,7 @@ pub extern "C" fn zarrs_read_pieces(
         (room masks.old offsets.old bytes.old needed.old)
         (room masks.new offsets.new bytes.new needed.new) }
 {
-    zarrs_calls::zarrs_read_pieces(
+    zarrs_c_calls::zarrs_read_pieces(
         alloc, text, len, ranges, fetched, tuples, numbers, masks, offsets, bytes, needed,
     )
 }

@@ -6,9 +6,9 @@ use std::alloc::Global;
 /// The value that the chain of `codecs`, a JSON list as in a header, writes for the chunk that a value
 /// stands for.
 ///
-/// It stands in front of `out`, and `needed` says how many bytes it has; where `out` is too short, that
-/// alone, and 1 is answered. Refusals, the first that holds, `OutOfMemory` aside: those of `zarrs_check`;
-/// those of the list and of its chain's making; those of `reencode`.
+/// It is at the front of `out`, and `needed` is how many bytes it has; where `out` is too short,
+/// only `needed` is written, and 1 is returned. Errors, the first that holds, `OutOfMemory` aside:
+/// those of `zarrs_check`; those of the list and of its chain's construction; those of `reencode`.
 #[unsafe(no_mangle)]
 pub extern "C" fn zarrs_reencode(
     alloc: Global,
@@ -20,5 +20,5 @@ pub extern "C" fn zarrs_reencode(
 ) -> u32
     ensures told { Rewrites text.now value.now codecs.now result out.old out.new needed.old needed.new }
 {
-    zarrs_calls::zarrs_reencode(alloc, text, value, codecs, out, needed)
+    zarrs_c_calls::zarrs_reencode(alloc, text, value, codecs, out, needed)
 }

@@ -1,10 +1,10 @@
 //! The call `zarrs_representation`.
-ghost use Rattle.zarrs_calls.specs.Calls.{TellsRepresented};
+ghost use Rattle.zarrs_c_calls.specs.Calls.{TellsRepresented};
 
 use std::alloc::Global;
 
 /// How many bytes the value of a header's chunk has: `kind` is 0 where just `size`, 1 where at most
-/// `size`, and 2 where any number, and then `size` is 0. Refusals: those of `zarrs_check`.
+/// `size`, and 2 where any number, and then `size` is 0. Errors: those of `zarrs_check`.
 #[unsafe(no_mangle)]
 pub extern "C" fn zarrs_representation(
     alloc: Global,
@@ -14,5 +14,5 @@ pub extern "C" fn zarrs_representation(
 ) -> u32
     ensures told { TellsRepresented text.now result kind.old kind.new size.old size.new }
 {
-    zarrs_calls::zarrs_representation(alloc, text, kind, size)
+    zarrs_c_calls::zarrs_representation(alloc, text, kind, size)
 }

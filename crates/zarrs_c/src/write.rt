@@ -1,18 +1,20 @@
 //! The call `zarrs_write`.
-ghost use Rattle.zarrs_calls.specs.Buffers.{buffers};
-ghost use Rattle.zarrs_calls.specs.Reads.{stored_value};
-ghost use Rattle.zarrs_calls.specs.Told.{TellsBytes};
-ghost use Rattle.zarrs_calls.specs.Writes.{part_written};
+ghost use Rattle.zarrs_c_calls.specs.Buffers.{buffers};
+ghost use Rattle.zarrs_c_calls.specs.Reads.{stored_value};
+ghost use Rattle.zarrs_c_calls.specs.Told.{TellsBytes};
+ghost use Rattle.zarrs_c_calls.specs.Writes.{part_written};
 
 use std::alloc::Global;
 
-/// The value that is left where new elements are written at the places that a selection means, in its
-/// order: the one that is written for the chunk with these elements, which begins as the chunk that `value`
-/// stands for, or as fill values where nothing is stored; `value` isn't read then, and is never changed.
+/// The value that is left where new elements are written at the selected places, in the selection's
+/// order: the one that is written for the chunk with these elements, which begins as the chunk that
+/// `value` stands for, or as fill values where nothing is stored; `value` isn't read then, and is
+/// never changed.
 ///
-/// The selection is that of `zarrs_read`, and the value is told as by `zarrs_encode`. Refusals, the first
-/// that holds, `OutOfMemory` aside: those of `zarrs_check`; `Argument` or `Overflow` of the selection; those
-/// of the elements, as of `zarrs_encode`; those of `ArrayPartialEncoder::partial_encode`.
+/// The selection is that of `zarrs_read`, and the value is returned as by `zarrs_encode`. Errors,
+/// the first that holds, `OutOfMemory` aside: those of `zarrs_check`; `Argument` or `Overflow` of
+/// the selection; those of the elements, as of `zarrs_encode`; those of
+/// `ArrayPartialEncoder::partial_encode`.
 #[unsafe(no_mangle)]
 pub extern "C" fn zarrs_write(
     alloc: Global,
@@ -27,12 +29,12 @@ pub extern "C" fn zarrs_write(
     out: &mut [u8],
     needed: &mut usize,
 ) -> u32
-    // Wide: a caller's three buffers, and the one that is told with its count, before and after.
+    // Wide: a caller's three buffers, and the one that is written with its count, before and after.
     ensures told { TellsBytes (part_written text.now (stored_value is_stored value.now)
         tuples numbers.now (buffers masks.now offsets.now bytes.now)) result
         out.old out.new needed.old needed.new }
 {
-    zarrs_calls::zarrs_write(
+    zarrs_c_calls::zarrs_write(
         alloc, text, is_stored, value, tuples, numbers, masks, offsets, bytes, out, needed,
     )
 }

@@ -9,12 +9,13 @@ use Rattle.zarrs_array_bytes.specs.Validity.{validity}
 use Rattle.zarrs_codec.specs.declared.capabilities.PartialDecoderCapability.{PartialDecoderCapability}
 use Rattle.zarrs_array_to_array.specs.ArrayToArrayCodec.{ArrayMapping}
 use Rattle.zarrs_codec_chain.specs.CachePlace.{array_reads, codecs_read, last_without, greater, cache_place}
-use Rattle.zarrs_chain_laws.specs.Chain.{codec_reads, reads_all_if}
+use Rattle.zarrs_chain_meaning.specs.Chain.{codec_reads}
+use Rattle.zarrs_chain_meaning.specs.CodecFacts.{reads_all_if}
 use Rattle.zarrs_codec_chain.specs.ChunkRead.{asks_in_part}
 use Rattle.zarrs_codec_chain.specs.CacheTight.{CacheIsTight}
 use Rattle.zarrs_codec_chain.specs.ChunkSource.{IsSizeOf, bytes_left, bytes_stage, cache_fits, cache_stage, held_by, is_kept, source_of, stage_at, stage_by, stage_fits}
-use Rattle.zarrs_chain_laws.specs.PlainChain.{PlainCodec, bytes_codec, packbits_codec, vlen_codec, optional_codec, PlainChain}
-use Rattle.zarrs_chain_laws.specs.vlen.PlainVlen.{is_plain}
+use Rattle.zarrs_chain_meaning.specs.PlainChain.{PlainCodec, PlainChain}
+use Rattle.zarrs_codec_chain.proofs.LawfulPart.{part_laws}
 use Rattle.zarrs_codec_chain.specs.declared.partial_decoder.cache.Cache.{Cache}
 use Rattle.zarrs_codec_chain.specs.declared.partial_decoder.cache.Cache.TheVariants as kept
 use Rattle.zarrs_codec_chain.specs.declared.partial_decoder.cache.CacheStage.{CacheStage}
@@ -170,15 +171,8 @@ stage_by_fits codec codecs = fits_by codec codec.partial_decode codec.partial_re
 pub no_stage : {B : Type 0} (reads_of : B → PartialDecoderCapability) (chain : PlainChain B) → cache_place (codecs_read reads_of chain) ≡ None → cache_stage reads_of chain ≡ stage.Nowhere
 no_stage reads_of chain e = ap (stage_at (length chain.bytes_to_bytes)) e
 
-no_place_if : (test : Bool) → test ≡ true → cache_place (reads_all_if test ∷ []) ≡ None
-no_place_if true e = refl
-no_place_if false e = absurd cc
-
 no_place_of : {B : Type 0} (reads_of : B → PartialDecoderCapability) (outer : List B) (codec : PlainCodec B) → asks_in_part outer codec ≡ true → cache_place (codec_reads codec ∷ map reads_of outer) ≡ None
-no_place_of reads_of [] (bytes_codec order) e = refl
-no_place_of reads_of [] (packbits_codec settings) e = refl
-no_place_of reads_of [] (vlen_codec ia ix ib da dx db wide at_end) e = no_place_if (is_plain (vlen_codec ia ix ib da dx db wide at_end)) e
-no_place_of reads_of [] (optional_codec ma mx mb da dx db) e = absurd cc
+no_place_of reads_of [] codec e = ap (λ (reads : PartialDecoderCapability). cache_place (reads ∷ [])) ((part_laws codec).reads_all ∙ ap reads_all_if e)
 no_place_of reads_of (first ∷ rest) codec e = absurd cc
 
 -- where a read asks for a part of the value alone, there is none

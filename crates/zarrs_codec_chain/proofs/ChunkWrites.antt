@@ -22,15 +22,15 @@ use Rattle.zarrs_codec.specs.BytesToBytesCodec.{BytesCodecs}
 use Rattle.zarrs_codec.specs.ChunkEdits.{with_elements}
 use Rattle.zarrs_bytes.specs.BytesCodec.{IsChunk}
 use Rattle.zarrs_bytes.specs.PartialWrite.{filled_chunk}
-use Rattle.zarrs_chain_laws.specs.Chain.{held_value}
-use Rattle.zarrs_codec_chain.specs.ChunkRead.{ChunkForm}
+use Rattle.zarrs_chain_meaning.specs.Chain.{held_value}
+use Rattle.zarrs_chain_meaning.specs.ChunkForm.{ChunkForm}
 use Rattle.zarrs_codec_chain.specs.ChunkWrite.{edited_value, started_chunk, value_left}
-use Rattle.zarrs_chain_laws.specs.Laws.{IsChainOfMappings}
+use Rattle.zarrs_chain_meaning.specs.Laws.{IsChainOfMappings}
 use Rattle.zarrs_bytes.proofs.Coding.{ok, bind_ok}
 use Rattle.zarrs_array_bytes.proofs.UpdatedLemmas.{length-elements}
-use Rattle.zarrs_chain_laws.proofs.ArraySteps.{ok_is}
-use Rattle.zarrs_chain_laws.proofs.ChainRelations.{held_value_is}
-use Rattle.zarrs_chain_laws.proofs.NestedRead.{chain_read_found}
+use Rattle.zarrs_chain_meaning.proofs.ArraySteps.{ok_is}
+use Rattle.zarrs_chain_meaning.proofs.ChainRelations.{held_value_is}
+use Rattle.zarrs_chain_meaning.proofs.CodecLaws.{chain_read_found}
 use Rattle.zarrs_codec_chain.proofs.PartialCalls.{held_of}
 use Rattle.zarrs_array_bytes.proofs.UpdateCalls.{All-update}
 

@@ -1,5 +1,5 @@
 -- How often a handle is asked, and which bytes are replaced.
-use Rattle.std.proofs.Common.{◌≡◌, ℕ, false, List, [], ◌∷◌, Option, Some, None, Result, Ok, Err, OnErr, OnOk, IfOk, refl, sym, ap, ◌∙◌}
+use Rattle.std.proofs.Common.{◌≡◌, ℕ, true, false, List, [], ◌∷◌, Option, Some, None, Result, Ok, Err, OnErr, OnOk, IfOk, refl, sym, ap, ◌∙◌}
 use Rattle.zarrs_chunk.specs.Answer.{Answers, memory_or_fault}
 use Rattle.zarrs_chunk.specs.declared.codec_error.CodecError.{CodecError}
 use Rattle.zarrs_chunk.specs.Region.{Region}
@@ -11,10 +11,13 @@ use Rattle.zarrs_array_regions.specs.KeptRegions.{kept_region}
 use Rattle.zarrs_bytes.specs.PartialRead.{place_bytes, place_size}
 use Rattle.zarrs_bytes.specs.PartialWrite.{bytes_left, bytes_replaced}
 use Rattle.zarrs_codec_chain.specs.ChunkCalls.{replaced_in_place}
-use Rattle.zarrs_codec_chain.specs.ChunkRead.{ChunkForm, asks_in_part, form_in_place, order_in_place, planned_region}
-use Rattle.zarrs_chain_laws.specs.PlainChain.{PlainCodec, bytes_codec, packbits_codec, vlen_codec, optional_codec}
+use Rattle.zarrs_codec_chain.specs.ChunkRead.{asks_in_part, form_in_place, planned_region}
+use Rattle.zarrs_chain_meaning.specs.ChunkForm.{ChunkForm}
+use Rattle.zarrs_codec_chain.specs.CodecPart.{order_in_place, Part}
+use Rattle.zarrs_chain_meaning.specs.PlainChain.{PlainCodec}
 use Rattle.zarrs_codec.specs.Calls.{Calls, after_reads, after_replacing, after_write}
 use Rattle.zarrs_codec.specs.StorageState.{value_indices}
+use Rattle.zarrs_codec_chain.proofs.LawfulPart.{part_laws}
 
 -- what holds anyway holds of an answer
 pub anyway : {T E : Type 0} (r : Result T E) (P : Type 0) → P → OnOk r P
@@ -71,8 +74,7 @@ in_place_region form selection found order e is = rw e is
 
 -- where a chain writes in place, a read asks for a part of the value alone
 pub asked_in_part : {B : Type 0} (outer : List B) (codec : PlainCodec B) (order : Option Endianness) → order_in_place outer codec ≡ Some order → asks_in_part outer codec ≡ false → ⊥
-asked_in_part [] (bytes_codec own) order e whole = cc
-asked_in_part [] (packbits_codec settings) order e whole = cc
-asked_in_part [] (vlen_codec ia ix ib da dx db wide at_end) order e whole = cc
-asked_in_part [] (optional_codec ma mx mb da dx db) order e whole = cc
+asked_in_part [] codec order e whole =
+    let asks : asks_in_part [] codec ≡ true = (part_laws codec).plans_ask (ap (λ (p : Part _). p.plans) ((part_laws codec).in_place order e).does) in
+    cc
 asked_in_part (first ∷ rest) codec order e whole = cc

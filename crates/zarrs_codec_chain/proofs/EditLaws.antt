@@ -21,23 +21,21 @@ use Rattle.zarrs_codec.specs.declared.bytes_representation.BytesRepresentation.{
 use Rattle.zarrs_bytes.specs.BytesCodec.{IsChunk}
 use Rattle.zarrs_bytes.specs.PartialWrite.{filled_chunk}
 use Rattle.zarrs_packbits.specs.Laws.{HasBytes}
-use Rattle.zarrs_codec_chain.specs.ChunkRead.{ChunkForm, order_in_place}
+use Rattle.zarrs_chain_meaning.specs.ChunkForm.{ChunkForm}
+use Rattle.zarrs_codec_chain.specs.CodecPart.{order_in_place}
 use Rattle.zarrs_codec_chain.specs.ChunkWrite.{stored_written, value_left}
 use Rattle.zarrs_codec_chain.specs.Edits.{chunk_or_fill, edited_state, states_edited, edited_store, stores_edited, AcceptsEdits, edit_excuse, excuse_at, EditHasBytes, IsStoredFor, IsWritable, StateHasBytes}
-use Rattle.zarrs_chain_laws.specs.Laws.{IsChainOfMappings}
-use Rattle.zarrs_chain_laws.specs.MachineBytes.{HeldHasBytes}
-use Rattle.zarrs_chain_laws.specs.NormalForm.{normal_form}
-use Rattle.zarrs_chain_laws.specs.Written.{ChainWritten}
+use Rattle.zarrs_chain_meaning.specs.Laws.{IsChainOfMappings}
+use Rattle.zarrs_chain_meaning.specs.CodecMeaning.{normal_form, ChainWritten}
+use Rattle.zarrs_chain_meaning.specs.MachineBytes.{HeldHasBytes}
 use Rattle.zarrs_codec_chain.specs.declared.partial_encoder.edits.Edit.{Edit}
 use Rattle.zarrs_codec_chain.specs.declared.partial_encoder.edits.Edit.TheVariants.{Encode, Erase}
 use Rattle.zarrs_bytes.proofs.Coding.{bind_ok}
-use Rattle.zarrs_chain_laws.proofs.ChainSteps.{seen_ok}
-use Rattle.zarrs_chain_laws.proofs.HeldBytes.{held_bytes}
+use Rattle.zarrs_chain_meaning.proofs.ChainSteps.{seen_ok}
+use Rattle.zarrs_chain_meaning.proofs.HeldBytes.{held_bytes}
 use Rattle.zarrs_array_bytes.proofs.UpdateCalls.{All-update}
 use Rattle.zarrs_codec_chain.proofs.ChunkWrites.{edited_is}
-use Rattle.zarrs_chain_laws.proofs.NestedForNormal.{written_for_normal}
-use Rattle.zarrs_chain_laws.proofs.NestedNormal.{normal_elements, normal_twice, normal_updated}
-use Rattle.zarrs_chain_laws.proofs.NestedWrittenStands.{chain_stands}
+use Rattle.zarrs_chain_meaning.proofs.CodecLaws.{written_for_normal, normal_elements, normal_twice, normal_updated, chain_stands}
 use Rattle.zarrs_codec_chain.proofs.PartialReads.{IsReadable}
 use Rattle.zarrs_codec_chain.proofs.PlaceWrites.{data_inside, left_by}
 

@@ -1,4 +1,6 @@
 pub mod VlenReads
+pub mod SizedAlike
+pub mod LawfulPart
 pub mod PartialReads
 pub mod CachePlaces
 pub mod PartialCalls
@@ -18,3 +20,5 @@ pub mod ListedReads
 pub mod Unharmed
 pub mod Counting
 pub mod SameWriters
+pub mod PlannedAlike
+pub mod MadeCoders

@@ -10,8 +10,9 @@ use Rattle.zarrs_codec.specs.BytesToBytesCodec.{BytesCodecs}
 use Rattle.zarrs_codec.specs.StorageState.{are_sure, StorageState}
 use Rattle.zarrs_codec.specs.declared.bytes_representation.BytesRepresentation.{BytesRepresentation}
 use Rattle.zarrs_bytes.specs.PartialRead.{place_bytes, place_size, read_places}
-use Rattle.zarrs_chain_laws.specs.PlainChain.{PlainCodec}
-use Rattle.zarrs_codec_chain.specs.ChunkRead.{ChunkForm, codec_read, codec_rests_on, encoded_places, form_in_place, outer_stored}
+use Rattle.zarrs_codec_chain.specs.ChunkRead.{encoded_places, form_in_place, outer_stored}
+use Rattle.zarrs_chain_meaning.specs.ChunkForm.{ChunkForm}
+use Rattle.zarrs_codec_chain.specs.CodecPart.{codec_read, codec_rests_on, Part}
 use Rattle.zarrs_codec_chain.specs.ChunkSource.{Source, bytes_above, source_places, source_read}
 use Rattle.zarrs_codec_chain.proofs.PlaceWrites.{bytes_alone}
 
@@ -32,7 +33,7 @@ module _ {B : Type 0} (f : BytesCodecs B) (form : ChunkForm B) (encoded : List �
   source_alone stored places =
       let are = bytes_alone form.chain.bytes_to_bytes form.chain.array_to_bytes order alone in
       ap (λ (outer : List B). outer_stored f (take (length outer) outer) r stored >>= λ bytes. codec_read f form.chain.array_to_bytes encoded form.type form.fill bytes places) are.0
-      ∙ ap (λ (codec : PlainCodec B). outer_stored f [] r stored >>= λ bytes. codec_read f codec encoded form.type form.fill bytes places) are.1
+      ∙ ap (λ (p : Part B). outer_stored f [] r stored >>= λ bytes. p.read f encoded form.type form.fill bytes places) are.1.does
       ∙ stored_alone stored places
 
   -- the elements that a selection selects are those at its places
@@ -47,4 +48,4 @@ module _ {B : Type 0} (f : BytesCodecs B) (form : ChunkForm B) (encoded : List �
   pub sure_alone : (before : StorageState) (places : List ℕ) (P : Type 0) → (are_sure before.sure (place_bytes (place_size form.type) places) ≡ true → P) → IfOk (codec_rests_on form.chain.array_to_bytes encoded form.type form.fill before.value places) (λ numbers. are_sure before.sure numbers ≡ true → P)
   sure_alone before places P h =
       let are = bytes_alone form.chain.bytes_to_bytes form.chain.array_to_bytes order alone in
-      subst (λ (codec : PlainCodec B). IfOk (codec_rests_on codec encoded form.type form.fill before.value places) (λ numbers. are_sure before.sure numbers ≡ true → P)) (sym are.1) h
+      subst (λ (p : Part B). IfOk (p.rests_on encoded form.type form.fill before.value places) (λ numbers. are_sure before.sure numbers ≡ true → P)) (sym are.1.does) h

@@ -4,14 +4,13 @@ use Rattle.std.proofs.Common.{◌≡◌, ℕ, ◌<◌, ◌^◌, nat_lt, Bool, tr
 use Rattle.std.specs.Prelude.{is_ok, IsOkAnd}
 use Rattle.std.proofs.lemmas.Bool.Decides.{nat_tests}
 use Rattle.zarrs_chunk.specs.Answer.{◌>>=◌, checked_u64, demand, seen, Answers, AnswersBy, memory, no_refusal}
-use Rattle.zarrs_chunk.specs.AnswerLaws.{demand_ok}
 use Rattle.zarrs_chunk.specs.ChunkShape.{product}
 use Rattle.zarrs_chunk.specs.Runs.{joined_runs, AreApart, AreFilled}
 use Rattle.zarrs_chunk.specs.Selection.{Selection}
 use Rattle.zarrs_chunk.specs.declared.codec_error.CodecError.{CodecError}
-use Rattle.zarrs_chunk.specs.declared.codec_error.CodecError.TheVariants.{InvalidFillValue, UnsupportedDataType, Overflow}
+use Rattle.zarrs_chunk.specs.declared.codec_error.CodecError.TheVariants.{InvalidFillValue, Overflow}
 use Rattle.zarrs_data_type.specs.Element.{Element, Chunk, fill_element}
-use Rattle.zarrs_data_type.specs.ElementType.{ElementType, fixed, text, bytes, optional, is_variable}
+use Rattle.zarrs_data_type.specs.ElementType.{ElementType}
 use Rattle.zarrs_data_type.specs.FillValue.{fill_fits}
 use Rattle.zarrs_data_type.specs.declared.endianness.Endianness.{Endianness}
 use Rattle.zarrs_array_bytes.specs.Chunks.{fill_chunk}
@@ -29,26 +28,25 @@ use Rattle.zarrs_array_to_array.specs.Mapping.{chained_places}
 use Rattle.zarrs_bytes.specs.BytesCodec.{bytes_length}
 use Rattle.zarrs_bytes.specs.PartialRead.{place_bytes, place_size}
 use Rattle.zarrs_bytes.specs.PlannedRanges.{IsPlan as IsElementPlan}
-use Rattle.zarrs_bytes.proofs.Taken.{taken_fill}
 use Rattle.zarrs_packbits.specs.PackBitsSettings.{PackBitsSettings, packed_layout, packbits_length}
 use Rattle.zarrs_packbits.specs.PaddingByte.{value_len}
 use Rattle.zarrs_packbits.specs.ReadPlan.{IsPlan, IsPlanOfRuns}
 use Rattle.zarrs_packbits.proofs.PartReads.{plan_of_runs}
-use Rattle.zarrs_chain_laws.specs.ArrayStages.{arrays_map, IsMapWhere}
-use Rattle.zarrs_chain_laws.specs.Chain.{taken_form}
-use Rattle.zarrs_chain_whole.specs.ChainView.{plain_codec}
-use Rattle.zarrs_codec_chain.specs.ChunkRead.{encoded_places, IsCodecPlan}
-use Rattle.zarrs_chain_laws.specs.Decode.{codec_chunk}
-use Rattle.zarrs_chain_laws.specs.PlainChain.{PlainCodec, bytes_codec, packbits_codec, vlen_codec, optional_codec, PlainChain}
-use Rattle.zarrs_chain_laws.specs.Representation.{codec_representation}
-use Rattle.zarrs_chain_whole.specs.declared.array_to_bytes_codec.ArrayToBytesCodec.{ArrayToBytesCodec}
-use Rattle.zarrs_chain_whole.specs.declared.array_to_bytes_codec.ArrayToBytesCodec.TheVariants.{Bytes, PackBits}
-use Rattle.zarrs_chain_laws.proofs.Answered.{from_ok}
+use Rattle.zarrs_chain_meaning.specs.ArrayStages.{arrays_map, IsMapWhere}
+use Rattle.zarrs_chain_meaning.specs.Chain.{taken_form}
+use Rattle.zarrs_chain.specs.ChainView.{plain_codec}
+use Rattle.zarrs_codec_chain.specs.ChunkRead.{encoded_places}
+use Rattle.zarrs_codec_chain.specs.CodecPart.{IsCodecPlan}
+use Rattle.zarrs_chain_meaning.specs.CodecMeaning.{codec_chunk, codec_representation, meaning}
+use Rattle.zarrs_chain_meaning.specs.PlainChain.{PlainCodec, bytes_codec, packbits_codec, PlainChain}
+use Rattle.zarrs_chain.specs.declared.array_to_bytes_codec.ArrayToBytesCodec.{ArrayToBytesCodec}
+use Rattle.zarrs_chain.specs.declared.array_to_bytes_codec.ArrayToBytesCodec.TheVariants.{Bytes, PackBits}
+use Rattle.zarrs_chain_meaning.proofs.Answered.{from_ok}
 use Rattle.zarrs_bytes.proofs.Coding.{ok, bind_ok}
-use Rattle.zarrs_chain_laws.proofs.ArraySteps.{at_ok, ok_is}
-use Rattle.zarrs_chain_laws.proofs.ChainSteps.{chunk_count, is_taken}
-use Rattle.zarrs_codec_chain.proofs.PartialReads.{is_ok_of, places_through}
-use Rattle.zarrs_chain_laws.specs.declared.codec_name.TheConstants.{VLEN}
+use Rattle.zarrs_chain_meaning.proofs.ArraySteps.{at_ok, ok_is}
+use Rattle.zarrs_chain_meaning.proofs.CodecLaws.{chunk_count, codec_fits}
+use Rattle.zarrs_chain_meaning.proofs.ChainSteps.{is_taken, is_ok_of}
+use Rattle.zarrs_codec_chain.proofs.PartialReads.{places_through}
 
 -- ---- fill values
 
@@ -69,16 +67,16 @@ filled_places type fill places held count e h = filled_by type fill places held 
 
 -- ---- what an array-to-bytes codec takes
 
-seen_is_ok : {A C : Type 0} (g : A → C) (r : Result A CodecError) → is_ok (seen g r) ≡ true → is_ok r ≡ true
+pub seen_is_ok : {A C : Type 0} (g : A → C) (r : Result A CodecError) → is_ok (seen g r) ≡ true → is_ok r ≡ true
 seen_is_ok g (Ok x) e = refl
 seen_is_ok g (Err x) e = absurd cc
 
-pub bytes_is_ok : {B : Type 0} (f : BytesCodecs B) (order : Option Endianness) (sizes : List ℕ) (type : ElementType) (fill : List ℕ) → is_ok (codec_representation f (bytes_codec order) sizes type fill) ≡ true → is_ok (bytes_length order (form_of sizes type fill)) ≡ true
-unfolding codec_representation
+bytes_is_ok : {B : Type 0} (f : BytesCodecs B) (order : Option Endianness) (sizes : List ℕ) (type : ElementType) (fill : List ℕ) → is_ok (codec_representation f (bytes_codec order) sizes type fill) ≡ true → is_ok (bytes_length order (form_of sizes type fill)) ≡ true
+unfolding meaning
 bytes_is_ok f order sizes type fill e = seen_is_ok FixedSize (bytes_length order (form_of sizes type fill)) e
 
 packed_is_ok : {B : Type 0} (f : BytesCodecs B) (settings : PackBitsSettings) (sizes : List ℕ) (type : ElementType) (fill : List ℕ) → is_ok (codec_representation f (packbits_codec settings) sizes type fill) ≡ true → is_ok (packed_layout settings (form_of sizes type fill)) ≡ true
-unfolding codec_representation
+unfolding meaning
 packed_is_ok f settings sizes type fill e = seen_is_ok value_len (packed_layout settings (form_of sizes type fill)) (seen_is_ok FixedSize (packbits_length settings (form_of sizes type fill)) e)
 
 pub bytes_taken : {B : Type 0} (f : BytesCodecs B) (codec : ArrayToBytesCodec B) (order : Option Endianness) (sizes : List ℕ) (type : ElementType) (fill : List ℕ) → codec ≡ Bytes order → is_ok (codec_representation f (plain_codec codec) sizes type fill) ≡ true → is_ok (bytes_length order (form_of sizes type fill)) ≡ true
@@ -88,37 +86,6 @@ bytes_taken f codec order sizes type fill is e = bytes_is_ok f order sizes type 
 pub packed_taken : {B : Type 0} (f : BytesCodecs B) (codec : ArrayToBytesCodec B) (settings : PackBitsSettings) (sizes : List ℕ) (type : ElementType) (fill : List ℕ) → codec ≡ PackBits settings → is_ok (codec_representation f (plain_codec codec) sizes type fill) ≡ true → is_ok (packed_layout settings (form_of sizes type fill)) ≡ true
 unfolding plain_codec
 packed_taken f codec settings sizes type fill is e = packed_is_ok f settings sizes type fill (subst (λ x. is_ok (codec_representation f (plain_codec x) sizes type fill) ≡ true) is e)
-
-pub variable_fits : (type : ElementType) (fill : List ℕ) → is_variable type ≡ true → fill_fits type fill ≡ true
-variable_fits (fixed width components sign) fill e = absurd cc
-variable_fits text fill e = refl
-variable_fits bytes fill e = refl
-variable_fits (optional type) fill e = absurd cc
-
-packed_fits : (settings : PackBitsSettings) (sizes : List ℕ) (type : ElementType) (fill : List ℕ) (l : _) → packed_layout settings (form_of sizes type fill) ≡ Ok l → fill_fits type fill ≡ true
-packed_fits settings sizes (fixed width components sign) fill l e =
-    let a = bind_ok (demand (fill_fits (fixed width components sign) fill) InvalidFillValue) _ l e in
-    demand_ok (fill_fits (fixed width components sign) fill) InvalidFillValue a.1
-packed_fits settings sizes text fill l e = absurd cc
-packed_fits settings sizes bytes fill l e = absurd cc
-packed_fits settings sizes (optional type) fill l e = absurd cc
-
--- the fill value of a chunk that an array-to-bytes codec takes fits the type
-codec_fits : {B : Type 0} (f : BytesCodecs B) (codec : PlainCodec B) (sizes : List ℕ) (type : ElementType) (fill : List ℕ) (r : BytesRepresentation) → codec_representation f codec sizes type fill ≡ Ok r → fill_fits type fill ≡ true
-unfolding codec_representation
-codec_fits f (bytes_codec order) sizes type fill r e = taken_fill order sizes type fill (seen_is_ok FixedSize (bytes_length order (form_of sizes type fill)) (is_ok_of _ r e))
-codec_fits f (packbits_codec settings) sizes type fill r e =
-    let l = from_ok (packed_layout settings (form_of sizes type fill)) (seen_is_ok value_len (packed_layout settings (form_of sizes type fill)) (seen_is_ok FixedSize (packbits_length settings (form_of sizes type fill)) (is_ok_of _ r e))) in
-    packed_fits settings sizes type fill l.0 l.1
-codec_fits f (vlen_codec ia ix ib da dx db wide at_end) sizes type fill r e =
-    let a = bind_ok (demand (is_variable type) (UnsupportedDataType VLEN)) _ r e in
-    variable_fits type fill (demand_ok (is_variable type) (UnsupportedDataType VLEN) a.1)
-codec_fits f (optional_codec ma mx mb da dx db) sizes (optional type) fill r e =
-    let a = bind_ok (demand (fill_fits (optional type) fill) InvalidFillValue) _ r e in
-    demand_ok (fill_fits (optional type) fill) InvalidFillValue a.1
-codec_fits f (optional_codec ma mx mb da dx db) sizes (fixed width components sign) fill r e = absurd cc
-codec_fits f (optional_codec ma mx mb da dx db) sizes text fill r e = absurd cc
-codec_fits f (optional_codec ma mx mb da dx db) sizes bytes fill r e = absurd cc
 
 counted_test : (test : Bool) (n m : ℕ) → (if test then ok n else Err Overflow) ≡ ok m → test ≡ true
 counted_test true n m e = refl

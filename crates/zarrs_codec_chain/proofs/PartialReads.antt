@@ -1,7 +1,6 @@
 -- Reads in part through a chain.
-use Rattle.zarrs_data_type.specs.Form.{form_of}
-use Rattle.std.proofs.Common.{◌≡◌, ℕ, suc, ◌<◌, true, Option, Some, None, List, [], ◌∷◌, ◌++◌, length, map, take, drop, get_or, Result, Ok, Err, IfOk, arith, refl, ap, sym, ◌∙◌, subst}
-use Rattle.std.specs.Prelude.{is_ok, is_some}
+use Rattle.std.proofs.Common.{◌≡◌, ℕ, suc, ◌<◌, Option, Some, None, List, [], ◌∷◌, ◌++◌, length, map, take, drop, get_or, Result, Ok, Err, IfOk, arith, refl, ap, sym, ◌∙◌, subst}
+use Rattle.std.specs.Prelude.{is_some}
 use Rattle.std.specs.List.{All, range_with_len}
 use Rattle.std.proofs.lemmas.List.{take_all, take-append-drop, get_or-map, length-map}
 use Rattle.std.proofs.lemmas.List.FromFn.{get_or-map-range_with_len}
@@ -17,33 +16,25 @@ use Rattle.zarrs_array_bytes.specs.Elements.{select}
 use Rattle.zarrs_codec.specs.BytesToBytesCodec.{BytesCodecs}
 use Rattle.zarrs_codec.specs.CoordinateMap.{CoordinateMap, IsCoordinateMap, moved_chunk, inverse_map}
 use Rattle.zarrs_codec.specs.declared.bytes_representation.BytesRepresentation.{BytesRepresentation}
-use Rattle.zarrs_codec.specs.declared.bytes_representation.BytesRepresentation.TheVariants.{FixedSize}
 use Rattle.zarrs_array_to_array.specs.ArrayToArrayCodec.{ArrayMapping, IsMapping}
 use Rattle.zarrs_array_to_array.specs.Mapping.{chained_places}
-use Rattle.zarrs_bytes.proofs.CodecLaws.{read_selects}
-use Rattle.zarrs_bytes.proofs.Exact.{decoded_found}
-use Rattle.zarrs_packbits.specs.PackBitsSettings.{PackBitsSettings, packed_layout, packbits_length}
-use Rattle.zarrs_packbits.specs.PaddingByte.{value_len}
-use Rattle.zarrs_packbits.proofs.CodecLaws as packbits_laws
-use Rattle.zarrs_packbits.proofs.Exact as packbits
-use Rattle.zarrs_chain_laws.specs.ArrayStages.{arrays_map}
-use Rattle.zarrs_chain_laws.specs.BytesStages.{outer_bytes, outer_representation}
-use Rattle.zarrs_chain_laws.specs.Chain.{taken_form}
-use Rattle.zarrs_codec_chain.specs.ChunkRead.{ChunkForm, codec_read, encoded_places, outer_stored, read_by_form, stored_read}
+use Rattle.zarrs_chain_meaning.specs.ArrayStages.{arrays_map}
+use Rattle.zarrs_chain_meaning.specs.BytesStages.{outer_bytes, outer_representation}
+use Rattle.zarrs_chain_meaning.specs.Chain.{taken_form}
+use Rattle.zarrs_codec_chain.specs.ChunkRead.{encoded_places, outer_stored, stored_read}
+use Rattle.zarrs_chain_meaning.specs.ChunkForm.{ChunkForm}
+use Rattle.zarrs_codec_chain.specs.CodecPart.{codec_read}
 use Rattle.zarrs_codec_chain.specs.ChunkSource.{Source, is_there, opened_chunk, source_at, source_made_at, source_places, source_read}
-use Rattle.zarrs_chain_laws.specs.Decode.{Decoder, codec_chunk, chain_chunk}
-use Rattle.zarrs_chain_laws.specs.PlainChain.{PlainCodec, bytes_codec, packbits_codec, vlen_codec, optional_codec, PlainChain}
-use Rattle.zarrs_chain_laws.specs.vlen.PlainVlen.{PlainForm, plain_form_of}
-use Rattle.zarrs_chain_laws.specs.Representation.{codec_representation}
+use Rattle.zarrs_chain_meaning.specs.CodecMeaning.{codec_chunk, chain_chunk, codec_representation}
+use Rattle.zarrs_chain_meaning.specs.PlainChain.{PlainChain}
 use Rattle.zarrs_codec_chain.specs.declared.partial_decoder.cache.CacheStage.{CacheStage}
 use Rattle.zarrs_codec_chain.specs.declared.partial_decoder.cache.CacheStage.TheVariants as stage
 use Rattle.zarrs_bytes.proofs.Coding.{ok, bind_ok}
-use Rattle.zarrs_chain_laws.proofs.ArraySteps.{ok_is}
-use Rattle.zarrs_chain_laws.proofs.ChainSteps.{is_taken, seen_ok}
-use Rattle.zarrs_chain_laws.proofs.NestedStages.{arrays_are_map, chained_of}
-use Rattle.zarrs_chain_laws.proofs.PlainForms.{plain_is_plain}
-use Rattle.zarrs_plain_vlen.proofs.Selected.{decoded_selects}
+use Rattle.zarrs_chain_meaning.proofs.ArraySteps.{ok_is}
+use Rattle.zarrs_chain_meaning.proofs.ChainSteps.{is_taken}
+use Rattle.zarrs_chain_meaning.proofs.NestedStages.{arrays_are_map, chained_of}
 use Rattle.zarrs_plain_vlen.proofs.IndexOffsets.{same_answer}
+use Rattle.zarrs_codec_chain.proofs.LawfulPart.{codec_fills, codec_selects}
 
 -- ---- what is known of a chunk that a chain takes
 
@@ -69,65 +60,9 @@ is_readable f chain sizes type fill encoded r mappings positive e =
       measured = subst (λ s. codec_representation f chain.array_to_bytes s type fill ≡ Ok r) t.encoded_is t.measured;
     }
 
-pub is_ok_of : {A : Type 0} (r : Result A CodecError) (x : A) → r ≡ Ok x → is_ok r ≡ true
-is_ok_of r x e = rw e refl
-
 -- where places go through the codecs of a chain that takes the chunk
 pub places_through : (type : ElementType) (arrays : List ArrayMapping) (sizes : List ℕ) (selection : Selection) (m : CoordinateMap) → arrays_map type arrays sizes ≡ Ok m → chained_places arrays selection sizes ≡ encoded_places type arrays sizes selection
 places_through type arrays sizes selection m e = rw (e, chained_of type arrays sizes m e) refl
-
--- ---- array-to-bytes codecs
-
-layout_of : (settings : PackBitsSettings) (sizes : List ℕ) (type : ElementType) (fill : List ℕ) (r : BytesRepresentation) → seen FixedSize (packbits_length settings (form_of sizes type fill)) ≡ Ok r → is_ok (packed_layout settings (form_of sizes type fill)) ≡ true
-layout_of settings sizes type fill r e =
-    let a = seen_ok FixedSize (packbits_length settings (form_of sizes type fill)) r e in
-    let b = seen_ok value_len (packed_layout settings (form_of sizes type fill)) a.0 a.1 in
-    is_ok_of (packed_layout settings (form_of sizes type fill)) b.0 b.1
-
-filled_if : {A : Type 0} (r : Result A CodecError) (chunk : Chunk) → is_ok r ≡ true → (r >>= λ _. ok chunk) ≡ Ok chunk
-filled_if (Ok x) chunk h = refl
-filled_if (Err e) chunk h = absurd cc
-
--- where nothing is stored a `vlen`, plain or not, reads fill elements
-form_fills : (form : Option PlainForm) (decode : Decoder) (sizes : List ℕ) (type : ElementType) (fill places : List ℕ) → read_by_form form decode sizes type fill None places ≡ Ok (map (λ _. fill_element type fill) places)
-form_fills None decode sizes type fill places = refl
-form_fills (Some form) decode sizes type fill places = refl
-
--- where nothing is stored an array-to-bytes codec reads fill elements
-pub codec_fills : {B : Type 0} (f : BytesCodecs B) (codec : PlainCodec B) (sizes : List ℕ) (type : ElementType) (fill : List ℕ) (r : BytesRepresentation) (places : List ℕ) → codec_representation f codec sizes type fill ≡ Ok r → codec_read f codec sizes type fill None places ≡ Ok (map (λ _. fill_element type fill) places)
-unfolding codec_representation
-codec_fills f (bytes_codec order) sizes type fill r places e = refl
-codec_fills f (packbits_codec settings) sizes type fill r places e = filled_if (packed_layout settings (form_of sizes type fill)) (map (λ _. fill_element type fill) places) (layout_of settings sizes type fill r e)
-codec_fills f (vlen_codec ia ix ib da dx db wide at_end) sizes type fill r places e =
-    let codec = vlen_codec ia ix ib da dx db wide at_end in
-    form_fills (plain_form_of codec) (codec_chunk f codec) sizes type fill places
-codec_fills f (optional_codec ma mx mb da dx db) sizes type fill r places e = refl
-
-whole_selects : (r : Result Chunk CodecError) (chunk : Chunk) (places : List ℕ) → r ≡ Ok chunk → (r >>= λ c. ok (select c places)) ≡ Ok (select chunk places)
-whole_selects r chunk places e = rw e refl
-
--- of a value that it reads as a chunk, a `vlen`, plain or not, reads the chunk's elements
-form_selects : {B : Type 0} (f : BytesCodecs B) (codec : PlainCodec B) (form : Option PlainForm) (sizes : List ℕ) (type : ElementType) (fill value : List ℕ) (chunk : Chunk) (places : List ℕ) → plain_form_of codec ≡ form
-    → codec_chunk f codec sizes type fill value ≡ Ok chunk → All (λ place. place < product sizes) places → read_by_form form (codec_chunk f codec) sizes type fill (Some value) places ≡ Ok (select chunk places)
-form_selects f codec None sizes type fill value chunk places p e h = whole_selects (codec_chunk f codec sizes type fill value) chunk places e
-form_selects {B} f codec (Some form) sizes type fill value chunk places p e h =
-    let plain = plain_is_plain B codec form p in
-    decoded_selects f form plain.0 sizes type fill value chunk places (subst (λ (c : PlainCodec B). codec_chunk f c sizes type fill value ≡ Ok chunk) plain.1 e) h
-
--- of a value that it reads as a chunk, an array-to-bytes codec reads the chunk's elements
-pub codec_selects : {B : Type 0} (f : BytesCodecs B) (codec : PlainCodec B) (sizes : List ℕ) (type : ElementType) (fill value : List ℕ) (chunk : Chunk) (places : List ℕ)
-    → codec_chunk f codec sizes type fill value ≡ Ok chunk → All (λ place. place < product sizes) places → codec_read f codec sizes type fill (Some value) places ≡ Ok (select chunk places)
-unfolding codec_chunk
-codec_selects f (bytes_codec order) sizes type fill value chunk places e h =
-    let stands = decoded_found order sizes type fill value chunk e in
-    read_selects order sizes type fill value chunk places stands (subst (λ n. All (λ place. place < n) places) (sym stands.elements.count_is) h)
-codec_selects f (packbits_codec settings) sizes type fill value chunk places e h =
-    let stands = packbits.decoded_found settings sizes type fill value chunk e in
-    packbits_laws.read_selects settings sizes type fill value chunk places stands (subst (λ n. All (λ place. place < n) places) (sym stands.elements.count_is) h)
-codec_selects f (vlen_codec ia ix ib da dx db wide at_end) sizes type fill value chunk places e h =
-    let codec = vlen_codec ia ix ib da dx db wide at_end in
-    form_selects f codec (plain_form_of codec) sizes type fill value chunk places refl e h
-codec_selects f (optional_codec ma mx mb da dx db) sizes type fill value chunk places e h = whole_selects (codec_chunk f (optional_codec ma mx mb da dx db) sizes type fill value) chunk places e
 
 -- ---- bytes-to-bytes codecs in two parts
 

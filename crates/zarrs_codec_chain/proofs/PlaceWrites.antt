@@ -22,48 +22,42 @@ use Rattle.zarrs_codec.specs.BytesToBytesCodec.{BytesCodecs}
 use Rattle.zarrs_codec.specs.ChunkEdits.{data_checked, data_places, edited_chunk, with_elements}
 use Rattle.zarrs_codec.specs.CoordinateMap.{CoordinateMap, IsCoordinateMap, moved_chunk}
 use Rattle.zarrs_codec.specs.declared.bytes_representation.BytesRepresentation.{BytesRepresentation}
+use Rattle.zarrs_codec.specs.declared.bytes_representation.BytesRepresentation.TheVariants.{FixedSize}
 use Rattle.zarrs_array_to_array.specs.ArrayToArrayCodec.{ArrayMapping}
 use Rattle.zarrs_array_to_array.proofs.CoordinateMaps.{length-moved, moved_each, moved_update}
 use Rattle.zarrs_bytes.specs.BytesCodec.{bytes_length, BytesStands, BytesWritten, IsChunk}
 use Rattle.zarrs_bytes.specs.PartialWrite.{bytes_left, filled_chunk, StartsFrom}
 use Rattle.zarrs_bytes.proofs.Coding as bytes_coding
 use Rattle.zarrs_bytes.proofs.PartWrites.{write_updates, ok_length}
-use Rattle.zarrs_chain_laws.specs.ArrayStages.{arrays_map}
-use Rattle.zarrs_chain_laws.specs.BytesStages.{outer_bytes, OuterWritten}
-use Rattle.zarrs_codec_chain.specs.ChunkRead.{ChunkForm, encoded_places, order_in_place}
+use Rattle.zarrs_chain_meaning.specs.ArrayStages.{arrays_map}
+use Rattle.zarrs_chain_meaning.specs.BytesStages.{outer_bytes, OuterWritten}
+use Rattle.zarrs_codec_chain.specs.ChunkRead.{encoded_places}
+use Rattle.zarrs_chain_meaning.specs.ChunkForm.{ChunkForm}
+use Rattle.zarrs_codec_chain.specs.CodecPart.{order_in_place, part_of}
 use Rattle.zarrs_codec_chain.specs.ChunkWrite.{edited_value, EditStarts, selection_left, stored_written, StoresChunk, value_left, written_places}
-use Rattle.zarrs_chain_laws.specs.Laws.{IsChainOfMappings}
-use Rattle.zarrs_chain_laws.specs.PlainChain.{PlainCodec, bytes_codec, packbits_codec, vlen_codec, optional_codec}
-use Rattle.zarrs_chain_laws.specs.Representation.{codec_representation}
-use Rattle.zarrs_chain_laws.specs.Stands.{CodecStands, ChainStands}
-use Rattle.zarrs_chain_laws.specs.Written.{CodecWritten, ChainWritten}
+use Rattle.zarrs_chain_meaning.specs.Laws.{IsChainOfMappings}
+use Rattle.zarrs_chain_meaning.specs.CodecMeaning.{bytes_meaning, codec_representation, CodecStands, ChainStands, CodecWritten, ChainWritten, meaning}
+use Rattle.zarrs_chain_meaning.specs.Meaning.{Meaning}
+use Rattle.zarrs_chain_meaning.specs.PlainChain.{PlainCodec}
 use Rattle.zarrs_bytes.proofs.Coding.{ok, bind_ok}
-use Rattle.zarrs_chain_laws.proofs.ArraySteps.{ok_is}
-use Rattle.zarrs_chain_laws.proofs.ChainSteps.{seen_ok}
+use Rattle.zarrs_chain_meaning.proofs.ArraySteps.{ok_is}
+use Rattle.zarrs_chain_meaning.proofs.ChainSteps.{seen_ok, is_ok_of}
 use Rattle.zarrs_codec_chain.proofs.ChunkWrites.{edited_is, filled_is}
-use Rattle.zarrs_chain_laws.proofs.NestedDecode.{chain_chunk_only}
-use Rattle.zarrs_chain_laws.proofs.NestedEncode.{chain_value_only}
-use Rattle.zarrs_chain_laws.proofs.NestedFound.{chain_value_found}
-use Rattle.zarrs_chain_laws.proofs.NestedWritten.{chain_once}
-use Rattle.zarrs_codec_chain.proofs.PartialCalls.{bytes_is_ok}
-use Rattle.zarrs_codec_chain.proofs.PartialReads.{IsReadable, is_ok_of}
+use Rattle.zarrs_chain_meaning.proofs.CodecLaws.{chain_chunk_only, chain_value_only, chain_value_found, chain_once}
+use Rattle.zarrs_codec_chain.proofs.LawfulPart.{IsBytes, part_laws}
+use Rattle.zarrs_codec_chain.proofs.PartialCalls.{seen_is_ok}
+use Rattle.zarrs_codec_chain.proofs.PartialReads.{IsReadable}
 
 -- ---- `bytes` alone behind array-to-array codecs
 
-pub bytes_alone : {B : Type 0} (outer : List B) (codec : PlainCodec B) (order : Option Endianness) → order_in_place outer codec ≡ Some order → (outer ≡ []) × (codec ≡ bytes_codec order)
-bytes_alone [] (bytes_codec order) other e = (refl, ap bytes_codec (same order other e))
-  where
-    same : (order other : Option Endianness) → Some order ≡ Some other → order ≡ other
-    same order other e = cc
-bytes_alone [] (packbits_codec settings) order e = absurd cc
-bytes_alone [] (vlen_codec ia ix ib da dx db wide at_end) order e = absurd cc
-bytes_alone [] (optional_codec ma mx mb da dx db) order e = absurd cc
+pub bytes_alone : {B : Type 0} (outer : List B) (codec : PlainCodec B) (order : Option Endianness) → order_in_place outer codec ≡ Some order → (outer ≡ []) × IsBytes (meaning codec) (part_of codec) order
+bytes_alone [] codec order e = (refl, (part_laws codec).in_place order e)
 bytes_alone (first ∷ rest) codec order e = absurd cc
 
 -- it takes such chunks
 pub in_place_taken : {B : Type 0} (f : BytesCodecs B) (outer : List B) (codec : PlainCodec B) (order : Option Endianness) (sizes : List ℕ) (type : ElementType) (fill : List ℕ) → order_in_place outer codec ≡ Some order → is_ok (codec_representation f codec sizes type fill) ≡ true → is_ok (bytes_length order (form_of sizes type fill)) ≡ true
-in_place_taken f outer codec order sizes type fill alone e =
-    bytes_is_ok f order sizes type fill (subst (λ x. is_ok (codec_representation f x sizes type fill) ≡ true) (bytes_alone outer codec order alone).1 e)
+in_place_taken {B} f outer codec order sizes type fill alone e =
+    seen_is_ok FixedSize (bytes_length order (form_of sizes type fill)) (subst (λ (m : Meaning B). is_ok (m.representation f sizes type fill) ≡ true) (bytes_alone outer codec order alone).1.means e)
 
 bytes_countable : (order : Option Endianness) (sizes : List ℕ) (type : ElementType) (fill : List ℕ) → is_ok (bytes_length order (form_of sizes type fill)) ≡ true → sizes_fit type (product sizes) ≡ Ok tt
 bytes_countable order sizes (fixed width components sign) fill t =
@@ -76,13 +70,11 @@ bytes_countable order sizes text fill t = absurd cc
 bytes_countable order sizes bytes fill t = absurd cc
 bytes_countable order sizes (optional type) fill t = absurd cc
 
-codec_written : {B : Type 0} (f : BytesCodecs B) (codec : PlainCodec B) (order : Option Endianness) (sizes : List ℕ) (type : ElementType) (fill value : List ℕ) (chunk : Chunk) → codec ≡ bytes_codec order → BytesWritten order (form_of sizes type fill) value chunk → CodecWritten f codec sizes type fill value chunk
-unfolding CodecWritten
-codec_written f codec order sizes type fill value chunk is w = subst (λ x. CodecWritten f x sizes type fill value chunk) (sym is) w
+codec_written : {B : Type 0} (f : BytesCodecs B) (codec : PlainCodec B) (order : Option Endianness) (sizes : List ℕ) (type : ElementType) (fill value : List ℕ) (chunk : Chunk) → meaning codec ≡ bytes_meaning order → BytesWritten order (form_of sizes type fill) value chunk → CodecWritten f codec sizes type fill value chunk
+codec_written {B} f codec order sizes type fill value chunk is w = subst (λ (m : Meaning B). m.Written f sizes type fill value chunk) (sym is) w
 
-codec_stands : {B : Type 0} (f : BytesCodecs B) (codec : PlainCodec B) (order : Option Endianness) (sizes : List ℕ) (type : ElementType) (fill value : List ℕ) (chunk : Chunk) → codec ≡ bytes_codec order → CodecStands f codec sizes type fill value chunk → BytesStands order (form_of sizes type fill) value chunk
-unfolding CodecStands
-codec_stands f codec order sizes type fill value chunk is s = subst (λ x. CodecStands f x sizes type fill value chunk) is s
+codec_stands : {B : Type 0} (f : BytesCodecs B) (codec : PlainCodec B) (order : Option Endianness) (sizes : List ℕ) (type : ElementType) (fill value : List ℕ) (chunk : Chunk) → meaning codec ≡ bytes_meaning order → CodecStands f codec sizes type fill value chunk → BytesStands order (form_of sizes type fill) value chunk
+codec_stands {B} f codec order sizes type fill value chunk is s = subst (λ (m : Meaning B). m.Stands f sizes type fill value chunk) is s
 
 -- ---- moving
 
@@ -200,7 +192,7 @@ module _ {B : Type 0} (f : BytesCodecs B) (form : ChunkForm B) (encoded : List �
         measured = subst (λ (s : List ℕ). codec_representation f form.chain.array_to_bytes s form.type form.fill ≡ Ok r) (sym h.encoded_is) h.measured;
         countable = subst (λ (n : ℕ). sizes_fit form.type n ≡ Ok tt) h.is_map.count (bytes_countable order h.map_is.encoded form.type form.fill at_bytes);
         elements = is;
-        written = codec_written f form.chain.array_to_bytes order h.map_is.encoded form.type form.fill value (moved_chunk h.map_is chunk) alone'.1 w;
+        written = codec_written f form.chain.array_to_bytes order h.map_is.encoded form.type form.fill value (moved_chunk h.map_is chunk) alone'.1.means w;
         around = subst (λ (bs : List B). OuterWritten f bs value value) (sym alone'.0) around;
       }
 
@@ -255,7 +247,7 @@ module _ {B : Type 0} (f : BytesCodecs B) (form : ChunkForm B) (encoded : List �
       let a = bytes_alone form.chain.bytes_to_bytes form.chain.array_to_bytes order alone in
       let same : s.map_is ≡ h.map_is = ok_is s.map_is h.map_is (sym s.mapped ∙ h.mapped) in
       let below : s.below ≡ value = outer_none f form.chain.bytes_to_bytes s.size value s.below a.0 s.opened in
-      let b = codec_stands f form.chain.array_to_bytes order s.map_is.encoded form.type form.fill s.below (moved_chunk s.map_is chunk) a.1 s.stands in
+      let b = codec_stands f form.chain.array_to_bytes order s.map_is.encoded form.type form.fill s.below (moved_chunk s.map_is chunk) a.1.means s.stands in
       subst (λ (m : CoordinateMap). BytesStands order (form_of m.encoded form.type form.fill) value (moved_chunk m chunk)) same
       (subst (λ (v : List ℕ). BytesStands order (form_of s.map_is.encoded form.type form.fill) v (moved_chunk s.map_is chunk)) below b)
 

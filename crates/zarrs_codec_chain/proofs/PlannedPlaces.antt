@@ -26,11 +26,12 @@ use Rattle.zarrs_array_regions.proofs.KeptRegions.{is_kept_by}
 use Rattle.zarrs_array_regions.proofs.PlaceReads.{places_back}
 use Rattle.zarrs_array_regions.proofs.Rearranged.{rearranged, is_rearranged}
 use Rattle.zarrs_array_regions.proofs.WindowMaps.{next_count}
-use Rattle.zarrs_chain_laws.specs.ArrayStages.{arrays_map}
+use Rattle.zarrs_chain_meaning.specs.ArrayStages.{arrays_map}
 use Rattle.zarrs_bytes.proofs.Coding.{ok, bind_ok}
-use Rattle.zarrs_chain_laws.proofs.ArraySteps.{ok_is}
-use Rattle.zarrs_chain_laws.proofs.NestedStages.{chained_of}
-use Rattle.zarrs_codec_chain.specs.ChunkRead.{ChunkForm, encoded_places, ordered_places, places_in_order, planned_region, form_in_place, standing_places}
+use Rattle.zarrs_chain_meaning.proofs.ArraySteps.{ok_is}
+use Rattle.zarrs_chain_meaning.proofs.NestedStages.{chained_of}
+use Rattle.zarrs_codec_chain.specs.ChunkRead.{encoded_places, ordered_places, places_in_order, planned_region, form_in_place, standing_places}
+use Rattle.zarrs_chain_meaning.specs.ChunkForm.{ChunkForm}
 use Rattle.zarrs_codec_chain.specs.ReadLaws.{PlannedPlacesAreMeant}
 
 -- ---- items that are rearranged one to one

@@ -8,20 +8,22 @@ use Rattle.zarrs_data_type.specs.Element.{Chunk}
 use Rattle.zarrs_codec.specs.BytesToBytesCodec.{BytesCodecs}
 use Rattle.zarrs_codec.specs.CoordinateMap.{CoordinateMap}
 use Rattle.zarrs_codec.specs.declared.bytes_representation.BytesRepresentation.{BytesRepresentation}
-use Rattle.zarrs_chain_laws.specs.ArrayStages.{arrays_map}
-use Rattle.zarrs_chain_laws.specs.BytesStages.{outer_bytes}
-use Rattle.zarrs_chain_laws.specs.Chain.{taken_form}
-use Rattle.zarrs_chain_laws.specs.Decode.{chain_chunk}
-use Rattle.zarrs_chain_laws.specs.vlen.PlainVlen.{PlainForm, plain_form_of}
-use Rattle.zarrs_chain_laws.specs.Representation.{codec_representation}
-use Rattle.zarrs_codec_chain.specs.ChunkRead.{ChunkForm, codec_read, codec_rests_on, encoded_places, outer_stored}
+use Rattle.zarrs_chain_meaning.specs.ArrayStages.{arrays_map}
+use Rattle.zarrs_chain_meaning.specs.BytesStages.{outer_bytes}
+use Rattle.zarrs_chain_meaning.specs.Chain.{taken_form}
+use Rattle.zarrs_chain_meaning.specs.CodecMeaning.{chain_chunk, codec_representation}
+use Rattle.zarrs_chain_meaning.specs.vlen.PlainVlen.{plain_form_of}
+use Rattle.zarrs_chain_meaning.specs.vlen.PlainForm.{PlainForm}
+use Rattle.zarrs_codec_chain.specs.ChunkRead.{encoded_places, outer_stored}
+use Rattle.zarrs_chain_meaning.specs.ChunkForm.{ChunkForm}
+use Rattle.zarrs_codec_chain.specs.CodecPart.{codec_read, codec_rests_on}
 use Rattle.zarrs_codec_chain.specs.ReadLaws.{StoredReadsAlike, StoredSelects}
 use Rattle.zarrs_plain_vlen.specs.VlenRead.{rests_on}
 use Rattle.zarrs_bytes.proofs.Coding.{ok, bind_ok}
-use Rattle.zarrs_chain_laws.proofs.NestedDecode.{chain_chunk_only}
+use Rattle.zarrs_chain_meaning.proofs.CodecLaws.{chain_chunk_only}
 use Rattle.zarrs_plain_vlen.proofs.Alike.{reads_alike}
 use Rattle.zarrs_codec_chain.proofs.PartialReads.{stored_selects}
-use Rattle.zarrs_codec_chain.proofs.VlenReads.{read_plainly, rests_plainly}
+use Rattle.zarrs_codec_chain.proofs.LawfulPart.{part_laws}
 
 -- ---- selections
 
@@ -62,11 +64,11 @@ module _ {B : Type 0} (f : BytesCodecs B) (form : ChunkForm B) (plain : PlainFor
   alike_at (Ok places) (Ok taken) value other below beside a b l h =
       let read : Result (List ℕ) CodecError → Result Chunk CodecError = λ o. seen (λ b. Some b) o >>= λ below. codec_read f form.chain.array_to_bytes taken.0 form.type form.fill below places in
       let same : All (λ number. slice_index below number ≡ slice_index beside number) (rests_on plain (product taken.0) below places)
-      = subst (λ (r : Result (List ℕ) CodecError). IfOk r (All (λ number. slice_index below number ≡ slice_index beside number))) (rests_plainly form.chain.array_to_bytes plain taken.0 form.type form.fill (Some below) places is) h in
+      = subst (λ (r : Result (List ℕ) CodecError). IfOk r (All (λ number. slice_index below number ≡ slice_index beside number))) ((part_laws form.chain.array_to_bytes).rests_plainly plain taken.0 form.type form.fill (Some below) places is) h in
       ap read a
-      ∙ read_plainly f form.chain.array_to_bytes plain taken.0 form.type form.fill (Some below) places is
+      ∙ (part_laws form.chain.array_to_bytes).plainly f plain taken.0 form.type form.fill (Some below) places is
       ∙ reads_alike plain (product taken.0) below beside places l same
-      ∙ sym (read_plainly f form.chain.array_to_bytes plain taken.0 form.type form.fill (Some beside) places is)
+      ∙ sym ((part_laws form.chain.array_to_bytes).plainly f plain taken.0 form.type form.fill (Some beside) places is)
       ∙ sym (ap read b)
 
 pub chunks_alike : {B : Type 0} (f : BytesCodecs B) → StoredReadsAlike f

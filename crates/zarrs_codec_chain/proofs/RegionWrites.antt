@@ -38,12 +38,14 @@ use Rattle.zarrs_array_regions.proofs.KeptChains.{chain_keeps}
 use Rattle.zarrs_array_to_array.proofs.CoordinateMaps.{length-moved}
 use Rattle.zarrs_codec.specs.CoordinateMap.{moved_chunk}
 use Rattle.zarrs_bytes.proofs.Coding.{ok}
-use Rattle.zarrs_chain_laws.proofs.NestedStages.{chained_of}
-use Rattle.zarrs_codec_chain.specs.ChunkRead.{ChunkForm, order_in_place}
+use Rattle.zarrs_chain_meaning.proofs.NestedStages.{chained_of}
+use Rattle.zarrs_chain_meaning.specs.ChunkForm.{ChunkForm}
+use Rattle.zarrs_codec_chain.specs.CodecPart.{order_in_place}
 use Rattle.zarrs_codec_chain.specs.ChunkWrite.{LendsData, form_checked, form_written, selection_left}
-use Rattle.zarrs_codec_chain.proofs.PartialReads.{IsReadable, is_ok_of}
+use Rattle.zarrs_codec_chain.proofs.PartialReads.{IsReadable}
+use Rattle.zarrs_chain_meaning.proofs.ChainSteps.{is_ok_of}
 use Rattle.zarrs_codec_chain.proofs.PlaceWrites.{in_place_taken, selection_in_place}
-use Rattle.zarrs_chain_laws.specs.Representation.{codec_representation}
+use Rattle.zarrs_chain_meaning.specs.CodecMeaning.{codec_representation}
 
 -- ---- new elements of a fixed type
 

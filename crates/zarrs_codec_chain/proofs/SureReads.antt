@@ -9,11 +9,13 @@ use Rattle.zarrs_codec.specs.BytesToBytesCodec.{BytesCodecs}
 use Rattle.zarrs_codec.specs.StorageState.{are_sure, StorageState}
 use Rattle.zarrs_codec.specs.declared.bytes_representation.BytesRepresentation.{BytesRepresentation}
 use Rattle.zarrs_array_to_array.specs.ArrayToArrayCodec.{ArrayMapping}
-use Rattle.zarrs_chain_laws.specs.Chain.{codec_reads, taken_form}
-use Rattle.zarrs_codec_chain.specs.ChunkRead.{ChunkForm, are_asked_sure, asks_in_part, codec_rests_on, encoded_places, read_rests_on, reads_surely, WhereSure}
+use Rattle.zarrs_chain_meaning.specs.Chain.{codec_reads, taken_form}
+use Rattle.zarrs_codec_chain.specs.ChunkRead.{are_asked_sure, asks_in_part, encoded_places, read_rests_on, reads_surely, WhereSure}
+use Rattle.zarrs_chain_meaning.specs.ChunkForm.{ChunkForm}
+use Rattle.zarrs_codec_chain.specs.CodecPart.{codec_rests_on}
 use Rattle.zarrs_codec_chain.specs.vlen.VlenPartialDecoder.{CodecForm, CodecWhereSure, are_given_sure, codec_reads_surely, codec_selection_rests_on}
 use Rattle.zarrs_bytes.proofs.Coding.{ok}
-use Rattle.zarrs_chain_laws.proofs.ArraySteps.{error_is}
+use Rattle.zarrs_chain_meaning.proofs.ArraySteps.{error_is}
 
 -- ---- sure bytes
 

@@ -16,30 +16,29 @@ use Rattle.zarrs_array_bytes.specs.Elements.{elements, select}
 use Rattle.zarrs_array_bytes.specs.Held.{Held}
 use Rattle.zarrs_array_bytes.specs.Validity.{Holds, validity}
 use Rattle.zarrs_codec.specs.BytesToBytesCodec.{BytesCodecs}
-use Rattle.zarrs_chain_whole.specs.ChainView.{plain_vlen, plain_vlen_at}
-use Rattle.zarrs_codec_chain.specs.ChunkRead.{codec_read, codec_rests_on, form_rests_on, read_by_form, whole_read}
-use Rattle.zarrs_chain_laws.specs.Chain.{codec_reads}
-use Rattle.zarrs_chain_laws.specs.Decode.{Decoder, codec_chunk}
-use Rattle.zarrs_chain_laws.specs.PlainChain.{PlainCodec, bytes_codec, packbits_codec, vlen_codec, optional_codec}
-use Rattle.zarrs_chain_laws.specs.vlen.PlainVlen.{PlainForm, plain_form_of}
-use Rattle.zarrs_plain_vlen.specs.PlainRead.{plain_read}
-use Rattle.zarrs_plain_vlen.specs.VlenRead.{stored_rests_on}
+use Rattle.zarrs_chain.specs.ChainView.{plain_vlen, plain_vlen_at}
+use Rattle.zarrs_codec_chain.specs.CodecPart.{codec_read, codec_rests_on}
+use Rattle.zarrs_codec_chain.specs.PartRead.{read_by_form, whole_read}
+use Rattle.zarrs_chain_meaning.specs.Chain.{codec_reads}
+use Rattle.zarrs_chain_meaning.specs.Meaning.{Decoder}
+use Rattle.zarrs_chain_meaning.specs.CodecMeaning.{codec_chunk, HasMappings, codec_representation, CodecStands}
+use Rattle.zarrs_chain_meaning.specs.vlen.Vlen.{vlen_representation}
+use Rattle.zarrs_chain_meaning.specs.PlainChain.{PlainCodec}
+use Rattle.zarrs_chain_meaning.specs.vlen.PlainVlen.{plain_form_of}
+use Rattle.zarrs_chain_meaning.specs.vlen.PlainForm.{PlainForm}
 use Rattle.zarrs_chunk.proofs.PlaceLaws.{places_below}
-use Rattle.zarrs_chain_laws.specs.Laws.{HasMappings}
-use Rattle.zarrs_chain_laws.specs.Representation.{codec_representation, vlen_representation}
-use Rattle.zarrs_chain_laws.specs.Stands.{CodecStands}
 use Rattle.zarrs_codec_chain.specs.vlen.VlenPartialDecoder.{CodecForm, codec_stored_read, CodecWhereSure}
 use Rattle.zarrs_codec.specs.StorageState.{are_sure, StorageState}
-use Rattle.zarrs_chain_whole.specs.declared.vlen.vlen_codec.VlenCodec.{VlenCodec}
-use Rattle.zarrs_chain_laws.proofs.Answered.{from_ok}
+use Rattle.zarrs_chain.specs.declared.vlen.vlen_codec.VlenCodec.{VlenCodec}
+use Rattle.zarrs_chain_meaning.proofs.Answered.{from_ok}
 use Rattle.zarrs_bytes.proofs.Coding.{ok, bind_ok}
-use Rattle.zarrs_chain_laws.proofs.ArraySteps.{ok_is}
-use Rattle.zarrs_chain_laws.proofs.ChainSteps.{chunk_count}
-use Rattle.zarrs_chain_laws.proofs.NestedDecode.{chunk_only}
-use Rattle.zarrs_codec_chain.proofs.PartialCalls.{counted_is, held_of, variable_fits}
-use Rattle.zarrs_codec_chain.proofs.PartialReads.{codec_fills, codec_selects}
-use Rattle.zarrs_chain_whole.proofs.TakenTight.{vlen_measured}
-use Rattle.zarrs_chain_laws.specs.declared.codec_name.TheConstants.{VLEN}
+use Rattle.zarrs_chain_meaning.proofs.ArraySteps.{ok_is}
+use Rattle.zarrs_chain_meaning.proofs.CodecLaws.{chunk_count, chunk_only}
+use Rattle.zarrs_codec_chain.proofs.PartialCalls.{counted_is, held_of}
+use Rattle.zarrs_codec_chain.proofs.LawfulPart.{codec_fills, codec_selects}
+use Rattle.zarrs_chain.proofs.TakenTight.{vlen_measured}
+use Rattle.zarrs_chain_meaning.specs.declared.codec_name.TheConstants.{VLEN}
+use Rattle.zarrs_chain_meaning.proofs.NestedRoom.{variable_fits}
 
 -- ---- chunks that the codec takes
 
@@ -66,28 +65,10 @@ vlen_taken f codec sizes type fill taken = taken_so sizes type fill (ap is_ok (s
 
 -- ---- what is read
 
-some_is : (x y : PlainForm) → Some x ≡ Some y → x ≡ y
-some_is x y e = cc
-
-by_form : (found : Option PlainForm) (form : PlainForm) (decode : Decoder) (sizes : List ℕ) (type : ElementType) (fill : List ℕ) (stored : Option (List ℕ)) (places : List ℕ) → found ≡ Some form
-    → read_by_form found decode sizes type fill stored places ≡ plain_read form (product sizes) type fill stored places
-by_form None form decode sizes type fill stored places e = absurd cc
-by_form (Some x) form decode sizes type fill stored places e = ap (λ (y : PlainForm). plain_read y (product sizes) type fill stored places) (some_is x form e)
-
 by_none : (found : Option PlainForm) (decode : Decoder) (sizes : List ℕ) (type : ElementType) (fill : List ℕ) (stored : Option (List ℕ)) (places : List ℕ) → found ≡ None
     → read_by_form found decode sizes type fill stored places ≡ whole_read decode sizes type fill stored places
 by_none None decode sizes type fill stored places e = refl
 by_none (Some x) decode sizes type fill stored places e = absurd cc
-
--- a codec that has a plain form is read by it
-pub read_plainly : {B : Type 0} (f : BytesCodecs B) (codec : PlainCodec B) (form : PlainForm) (sizes : List ℕ) (type : ElementType) (fill : List ℕ) (stored : Option (List ℕ)) (places : List ℕ) → plain_form_of codec ≡ Some form
-    → codec_read f codec sizes type fill stored places ≡ plain_read form (product sizes) type fill stored places
-read_plainly f (bytes_codec order) form sizes type fill stored places e = absurd cc
-read_plainly f (packbits_codec settings) form sizes type fill stored places e = absurd cc
-read_plainly f (vlen_codec ia ix ib da dx db wide at_end) form sizes type fill stored places e =
-    let codec = vlen_codec ia ix ib da dx db wide at_end in
-    by_form (plain_form_of codec) form (codec_chunk f codec) sizes type fill stored places e
-read_plainly f (optional_codec ma mx mb da dx db) form sizes type fill stored places e = absurd cc
 
 -- a `vlen` that has none is read by the whole chunk
 pub read_wholly : {B : Type 0} (f : BytesCodecs B) (codec : VlenCodec B) (sizes : List ℕ) (type : ElementType) (fill : List ℕ) (stored : Option (List ℕ)) (places : List ℕ) → plain_form_of (plain_vlen codec) ≡ None
@@ -95,19 +76,6 @@ pub read_wholly : {B : Type 0} (f : BytesCodecs B) (codec : VlenCodec B) (sizes 
 read_wholly {B} f codec sizes type fill stored places =
     subst (λ (p : PlainCodec B). plain_form_of p ≡ None → codec_read f p sizes type fill stored places ≡ whole_read (codec_chunk f p) sizes type fill stored places) (sym (plain_vlen_at codec))
     (λ e. by_none _ (codec_chunk f _) sizes type fill stored places e)
-
-rests_by_form : (found : Option PlainForm) (form : PlainForm) (count : ℕ) (stored : Option (List ℕ)) (places : List ℕ) → found ≡ Some form → form_rests_on found count stored places ≡ stored_rests_on form count stored places
-rests_by_form None form count stored places e = absurd cc
-rests_by_form (Some x) form count stored places e = ap (λ (y : PlainForm). stored_rests_on y count stored places) (some_is x form e)
-
--- the bytes that it rests on
-pub rests_plainly : {B : Type 0} (codec : PlainCodec B) (form : PlainForm) (sizes : List ℕ) (type : ElementType) (fill : List ℕ) (stored : Option (List ℕ)) (places : List ℕ) → plain_form_of codec ≡ Some form
-    → codec_rests_on codec sizes type fill stored places ≡ ok (stored_rests_on form (product sizes) stored places)
-rests_plainly (bytes_codec order) form sizes type fill stored places e = absurd cc
-rests_plainly (packbits_codec settings) form sizes type fill stored places e = absurd cc
-rests_plainly (vlen_codec ia ix ib da dx db wide at_end) form sizes type fill stored places e =
-    ap ok (rests_by_form (plain_form_of (vlen_codec ia ix ib da dx db wide at_end)) form (product sizes) stored places e)
-rests_plainly (optional_codec ma mx mb da dx db) form sizes type fill stored places e = absurd cc
 
 none_reads : (found : Option PlainForm) → found ≡ None → is_some found ≡ true → ⊥
 none_reads None e h = cc

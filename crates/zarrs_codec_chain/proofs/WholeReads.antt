@@ -1,6 +1,5 @@
 -- Reads by the whole chunk, and readers without a cache.
-use Rattle.std.proofs.Common.{◌≡◌, ℕ, ◌^◌, nat_lt, if◌then◌else◌, Bool, true, false, Option, Some, None, List, length, Result, Ok, Err, refl, ap, sym, ◌∙◌, subst}
-use Rattle.std.specs.Prelude.{is_some}
+use Rattle.std.proofs.Common.{◌≡◌, ℕ, ◌^◌, nat_lt, if◌then◌else◌, Bool, true, false, Option, Some, List, length, Result, Ok, Err, refl, ap, sym, ◌∙◌, subst}
 use Rattle.zarrs_chunk.specs.Answer.{◌>>=◌, checked_u64, seen, AnswersBy, fault, memory, memory_or_fault}
 use Rattle.zarrs_chunk.specs.ChunkShape.{product}
 use Rattle.zarrs_chunk.specs.declared.codec_error.CodecError.{CodecError}
@@ -13,17 +12,19 @@ use Rattle.zarrs_array_bytes.specs.Held.{Held}
 use Rattle.zarrs_array_bytes.specs.Validity.{Holds, validity}
 use Rattle.zarrs_codec.specs.BytesToBytesCodec.{BytesCodecs}
 use Rattle.zarrs_codec.specs.declared.bytes_representation.BytesRepresentation.{BytesRepresentation}
-use Rattle.zarrs_chain_laws.specs.BytesStages.{outer_bytes}
-use Rattle.zarrs_chain_laws.specs.Chain.{codec_reads, taken_form}
-use Rattle.zarrs_codec_chain.specs.ChunkRead.{ChunkForm, codec_read, outer_stored, read_by_form, whole_read}
+use Rattle.zarrs_chain_meaning.specs.BytesStages.{outer_bytes}
+use Rattle.zarrs_chain_meaning.specs.Chain.{codec_reads, taken_form}
+use Rattle.zarrs_codec_chain.specs.ChunkRead.{outer_stored}
+use Rattle.zarrs_chain_meaning.specs.ChunkForm.{ChunkForm}
+use Rattle.zarrs_codec_chain.specs.CodecPart.{codec_read}
 use Rattle.zarrs_codec_chain.specs.ChunkSource.{Source, bytes_above, is_kept, kept_stage, opened_chunk, source_at, source_made_at, source_of, source_places}
-use Rattle.zarrs_chain_laws.specs.Decode.{Decoder, codec_chunk}
-use Rattle.zarrs_chain_laws.specs.PlainChain.{PlainCodec, bytes_codec, packbits_codec, vlen_codec, optional_codec, PlainChain}
-use Rattle.zarrs_chain_laws.specs.vlen.PlainVlen.{PlainForm, plain_form_of}
+use Rattle.zarrs_chain_meaning.specs.CodecMeaning.{codec_chunk}
+use Rattle.zarrs_chain_meaning.specs.PlainChain.{PlainCodec, PlainChain}
 use Rattle.zarrs_codec_chain.specs.declared.partial_decoder.cache.Cache.{Cache}
 use Rattle.zarrs_codec_chain.specs.declared.partial_decoder.cache.Cache.TheVariants as kept
 use Rattle.zarrs_codec_chain.specs.declared.partial_decoder.cache.CacheStage.{CacheStage}
 use Rattle.zarrs_bytes.proofs.Coding.{ok}
+use Rattle.zarrs_codec_chain.proofs.LawfulPart.{part_laws}
 use Rattle.zarrs_codec_chain.proofs.PartialReads.{take_codecs}
 use Rattle.zarrs_array_to_array.proofs.Stages.{first_false}
 
@@ -49,27 +50,14 @@ uncached_filled f form encoded r (kept.Chunk held) stored e u = absurd cc
 
 -- ---- codecs that read no part
 
-whole_of : (decode : Decoder) (sizes : List ℕ) (type : ElementType) (fill : List ℕ) (o : Result (List ℕ) CodecError) (places : List ℕ) → (seen (λ b. Some b) o >>= λ (below : Option (List ℕ)). whole_read decode sizes type fill below places) ≡ seen (λ chunk. select chunk places) (o >>= decode sizes type fill)
-whole_of decode sizes type fill (Err e) places = refl
-whole_of decode sizes type fill (Ok bytes) places = go (decode sizes type fill bytes)
-  where
-    go : (d : Result Chunk CodecError) → (d >>= λ chunk. ok (select chunk places)) ≡ seen (λ chunk. select chunk places) d
-    go (Ok chunk) = refl
-    go (Err e) = refl
-
-form_of_whole : (form : Option PlainForm) (decode : Decoder) (sizes : List ℕ) (type : ElementType) (fill : List ℕ) (o : Result (List ℕ) CodecError) (places : List ℕ) → is_some form ≡ false
-    → (seen (λ b. Some b) o >>= λ (below : Option (List ℕ)). read_by_form form decode sizes type fill below places) ≡ seen (λ chunk. select chunk places) (o >>= decode sizes type fill)
-form_of_whole None decode sizes type fill o places e = whole_of decode sizes type fill o places
-form_of_whole (Some form) decode sizes type fill o places e = absurd cc
+selected_of : (d : Result Chunk CodecError) (places : List ℕ) → (d >>= λ chunk. ok (select chunk places)) ≡ seen (λ chunk. select chunk places) d
+selected_of (Ok chunk) places = refl
+selected_of (Err e) places = refl
 
 read_of : {B : Type 0} (f : BytesCodecs B) (codec : PlainCodec B) (encoded : List ℕ) (type : ElementType) (fill : List ℕ) (o : Result (List ℕ) CodecError) (places : List ℕ) → (codec_reads codec).partial_decode ≡ false
     → (seen (λ b. Some b) o >>= λ below. codec_read f codec encoded type fill below places) ≡ seen (λ chunk. select chunk places) (o >>= codec_chunk f codec encoded type fill)
-read_of f (bytes_codec order) encoded type fill o places e = absurd cc
-read_of f (packbits_codec settings) encoded type fill o places e = absurd cc
-read_of f (vlen_codec ia ix ib da dx db wide at_end) encoded type fill o places e =
-    let codec = vlen_codec ia ix ib da dx db wide at_end in
-    form_of_whole (plain_form_of codec) (codec_chunk f codec) encoded type fill o places e
-read_of f (optional_codec ma mx mb da dx db) encoded type fill o places e = whole_of (codec_chunk f (optional_codec ma mx mb da dx db)) encoded type fill o places
+read_of f codec encoded type fill (Ok bytes) places e = (part_laws codec).wholly f encoded type fill (Some bytes) places e ∙ selected_of (codec_chunk f codec encoded type fill bytes) places
+read_of f codec encoded type fill (Err x) places e = refl
 
 -- of a stored value, what a codec that reads no part reads is selected of the whole chunk
 pub whole_places : {B : Type 0} (f : BytesCodecs B) (chain : PlainChain B) (encoded : List ℕ) (type : ElementType) (fill : List ℕ) (r : BytesRepresentation) (value places : List ℕ) → (codec_reads chain.array_to_bytes).partial_decode ≡ false

@@ -4,10 +4,10 @@ use Rattle.zarrs_chunk.specs.Answer.{is_fault}
 use Rattle.zarrs_chunk.specs.declared.codec_error.CodecError.{CodecError}
 use Rattle.zarrs_codec.specs.declared.capabilities.PartialDecoderCapability.{PartialDecoderCapability}
 use Rattle.zarrs_array_to_array.specs.ArrayToArrayCodec.{ArrayMapping}
-use Rattle.zarrs_chain_laws.specs.Chain.{codec_reads}
-use Rattle.zarrs_chain_laws.specs.PlainChain.{PlainChain}
-use Rattle.zarrs_chain_whole.specs.ChainView.{plain_chain}
-use Rattle.zarrs_chain_whole.specs.declared.codec_chain.CodecChain.{CodecChain}
+use Rattle.zarrs_chain_meaning.specs.Chain.{codec_reads}
+use Rattle.zarrs_chain_meaning.specs.PlainChain.{PlainChain}
+use Rattle.zarrs_chain.specs.ChainView.{plain_chain}
+use Rattle.zarrs_chain.specs.declared.codec_chain.CodecChain.{CodecChain}
 
 -- what an array-to-array codec reads in part: all
 abbrev pub array_reads : ArrayMapping → PartialDecoderCapability

@@ -6,8 +6,9 @@ use Rattle.zarrs_data_type.specs.declared.endianness.Endianness.{Endianness}
 use Rattle.zarrs_codec.specs.Calls.{Calls, MakesReads, MakesWrite}
 use Rattle.zarrs_codec.specs.StorageState.{StorageState, value_indices}
 use Rattle.zarrs_bytes.specs.PartialRead.{place_bytes, place_size}
-use Rattle.zarrs_chain_laws.specs.PlainChain.{PlainCodec}
-use Rattle.zarrs_codec_chain.specs.ChunkRead.{ChunkForm, asks_in_part, ordered_places}
+use Rattle.zarrs_chain_meaning.specs.PlainChain.{PlainCodec}
+use Rattle.zarrs_codec_chain.specs.ChunkRead.{asks_in_part, ordered_places}
+use Rattle.zarrs_chain_meaning.specs.ChunkForm.{ChunkForm}
 
 -- the numbers of the bytes that an accepted write in place replaces: those of these places, in order; all of the new value, where none was stored
 abbrev pub replaced_in_place : ElementType → Option (List ℕ) → Option (List ℕ) → List ℕ → List ℕ

@@ -7,11 +7,13 @@ use Rattle.zarrs_array_regions.specs.KeptRegions.{IsKept, keeps_regions, kept_re
 use Rattle.zarrs_chunk.specs.Indexer.{selection_of}
 use Rattle.zarrs_chunk.specs.Region.{Region}
 use Rattle.zarrs_chunk.specs.declared.indexer.Indexer.{Indexer}
-use Rattle.zarrs_chain_whole.specs.ChainView.{plain_chain}
-use Rattle.zarrs_chain_whole.specs.declared.codec_chain.CodecChain.{CodecChain}
+use Rattle.zarrs_chain.specs.ChainView.{plain_chain}
+use Rattle.zarrs_chain.specs.declared.codec_chain.CodecChain.{CodecChain}
 use Rattle.zarrs_codec.specs.ByteSpan.{ByteSpan}
 use Rattle.zarrs_codec.specs.BytesToBytesCodec.{BytesCodecs}
-use Rattle.zarrs_codec_chain.specs.ChunkRead.{ChunkForm, PlansRead, ReadsChunk, WhereSure, asks_in_part, chunk_of, codec_rests_on, form_in_place, form_places, ordered_places, planned_region, standing_places}
+use Rattle.zarrs_codec_chain.specs.ChunkRead.{PlansRead, ReadsChunk, WhereSure, asks_in_part, chunk_of, form_in_place, form_places, ordered_places, planned_region, standing_places}
+use Rattle.zarrs_chain_meaning.specs.ChunkForm.{ChunkForm}
+use Rattle.zarrs_codec_chain.specs.CodecPart.{codec_rests_on}
 use Rattle.zarrs_codec_chain.specs.ChunkSource.{Source, is_kept, kept_stage, source_made_at, source_of, bytes_above, chunk_below, is_cache_of, opened_chunk, source_made, source_places, source_read, is_there, wants_cache, filling_reads}
 use Rattle.zarrs_codec_chain.specs.declared.chunk_coder.ChunkCoder.{ChunkCoder}
 use Rattle.zarrs_chunk.specs.Answer.{Answers, AnswersBy, Gives, GivesBy, memory, memory_or_fault, seen, is_fault}
@@ -28,7 +30,7 @@ use Rattle.zarrs_array_bytes.specs.Validity.{Holds}
 use Rattle.zarrs_codec.specs.Calls.{Calls, after_reads}
 use Rattle.zarrs_codec.specs.StorageState.{are_sure, StorageState}
 use Rattle.zarrs_codec.specs.declared.capabilities.PartialDecoderCapability.{PartialDecoderCapability}
-use Rattle.zarrs_chain_laws.specs.Chain.{codec_reads, taken_form}
+use Rattle.zarrs_chain_meaning.specs.Chain.{codec_reads, taken_form}
 use Rattle.zarrs_codec_chain.specs.CacheTight.{CacheIsTight}
 use Rattle.zarrs_codec_chain.specs.ChunkCalls.{AsksOnceForAll, AsksOnceUncached, LeftAloneIf}
 use Rattle.zarrs_codec_chain.specs.RefusedFirst.{RefusedFirst}

@@ -1,10 +1,9 @@
 -- What a read in part answers through a chain.
-use Rattle.zarrs_chain_laws.specs.Stands.{ChainStands}
+use Rattle.zarrs_chain_meaning.specs.CodecMeaning.{ChainStands, codec_representation}
 use Rattle.zarrs_array_bytes.specs.Validity.{Holds}
 use Rattle.zarrs_array_bytes.specs.Held.{Held}
 use Rattle.zarrs_data_type.specs.Form.{form_of, Form}
 use Rattle.std.specs.Prelude.{◌≡◌, ℕ, ◌||◌, Bool, true, false, if◌then◌else◌, Option, Some, None, IfSome, IfOk, IsOkAnd, List, [], ◌∷◌, map, Result, Ok, Err, IfErr, is_ok, is_some, option_map, Vec}
-use Rattle.zarrs_chunk.specs.ChunkShape.{product}
 use Rattle.zarrs_chunk.specs.Answer.{◌>>=◌, seen, AnswersBy, memory, memory_or_fault, is_fault, GivesBy}
 use Rattle.zarrs_chunk.specs.Region.{Region}
 use Rattle.zarrs_chunk.specs.Selection.{Selection, places_of, bounds_of}
@@ -20,60 +19,17 @@ use Rattle.zarrs_codec.specs.declared.bytes_representation.BytesRepresentation.{
 use Rattle.zarrs_array_to_array.specs.ArrayToArrayCodec.{ArrayMapping}
 use Rattle.zarrs_array_regions.specs.KeptRegions.{kept_region}
 use Rattle.zarrs_array_regions.specs.Windows.{window_of, window_places, last_window}
-use Rattle.zarrs_bytes.specs.PlannedRanges.{IsPlan as IsElementPlan}
-use Rattle.zarrs_bytes.specs.PartialRead.{place_bytes, place_size, read_places}
-use Rattle.zarrs_packbits.specs.PackBitsSettings.{packed_layout}
-use Rattle.zarrs_packbits.specs.PartialRead.{bytes_of_places, read_places_of}
-use Rattle.zarrs_packbits.specs.ReadPlan.{IsPlan}
-use Rattle.zarrs_chain_laws.specs.ArrayStages.{arrays_map}
-use Rattle.zarrs_chain_laws.specs.BytesStages.{outer_bytes}
-use Rattle.zarrs_chain_laws.specs.Chain.{codec_reads, taken_form, chain_reads}
-use Rattle.zarrs_chain_laws.specs.Decode.{Decoder, codec_chunk}
-use Rattle.zarrs_chain_laws.specs.PlainChain.{PlainCodec, bytes_codec, packbits_codec, vlen_codec, optional_codec, PlainChain}
-use Rattle.zarrs_chain_laws.specs.vlen.PlainVlen.{PlainForm, plain_form_of}
-use Rattle.zarrs_plain_vlen.specs.PlainRead.{plain_read}
-use Rattle.zarrs_plain_vlen.specs.VlenRead.{stored_rests_on}
+use Rattle.zarrs_chain_meaning.specs.ArrayStages.{arrays_map}
+use Rattle.zarrs_chain_meaning.specs.BytesStages.{outer_bytes}
+use Rattle.zarrs_chain_meaning.specs.Chain.{codec_reads, taken_form, chain_reads}
+use Rattle.zarrs_chain_meaning.specs.PlainChain.{PlainCodec, PlainChain}
 use Rattle.std.proofs.Common.{Global}
 use Rattle.zarrs_chunk.specs.Runs.{joined_runs}
 use Rattle.zarrs_codec.specs.declared.capabilities.PartialDecoderCapability.{PartialDecoderCapability}
-use Rattle.zarrs_chain_laws.specs.Representation.{codec_representation}
-use Rattle.zarrs_chain_whole.specs.ChainView.{plain_chain}
-use Rattle.zarrs_chain_whole.specs.declared.codec_chain.CodecChain.{CodecChain}
-
--- the chunk that is read: through which chain, its sizes, its type and its fill value
-pub record ChunkForm (B : Type 0) : Type 0 where
-  pub chain : PlainChain B
-  pub sizes : List ℕ
-  pub type : ElementType
-  pub fill : List ℕ
-
--- ---- array-to-bytes codecs
-
--- what answers the elements at places of a chunk of these sizes, this type and this fill value, by the bytes that are there, or by none
-abbrev pub PlaceReader : Type 0
-PlaceReader = List ℕ → ElementType → List ℕ → Option (List ℕ) → List ℕ → Result Chunk CodecError
-
--- by the whole chunk: its elements; the fill element at each place, where no bytes are there
-abbrev pub whole_read : Decoder → PlaceReader
-whole_read decode sizes type fill None places = Ok (map (λ _. fill_element type fill) places)
-whole_read decode sizes type fill (Some value) places = do
-  chunk ← decode sizes type fill value
-  Ok (select chunk places)
-
--- of a `vlen` by its plain form: by the offsets and the bytes of the elements alone; where it has none, by the whole chunk
-abbrev pub read_by_form : Option PlainForm → Decoder → PlaceReader
-read_by_form None decode sizes type fill stored places = whole_read decode sizes type fill stored places
-read_by_form (Some form) decode sizes type fill stored places = plain_read form (product sizes) type fill stored places
-
--- the elements at these places of a chunk that an array-to-bytes codec gets: of `bytes` and `packbits` by the places' bytes alone; of a plain `vlen` by the offsets and the elements' bytes alone; of any other codec with chains inside by the whole chunk
-abbrev pub codec_read : {B : Type 0} → BytesCodecs B → PlainCodec B → PlaceReader
-codec_read f (bytes_codec order) sizes type fill stored places = read_places order type fill stored places
-codec_read f (packbits_codec settings) sizes type fill stored places = read_places_of settings (form_of sizes type fill) stored places
-codec_read f (vlen_codec ia ix ib da dx db wide at_end) sizes type fill stored places =
-    let codec = vlen_codec ia ix ib da dx db wide at_end in
-    read_by_form (plain_form_of codec) (codec_chunk f codec) sizes type fill stored places
-codec_read f (optional_codec ma mx mb da dx db) sizes type fill stored places =
-    whole_read (codec_chunk f (optional_codec ma mx mb da dx db)) sizes type fill stored places
+use Rattle.zarrs_chain.specs.ChainView.{plain_chain}
+use Rattle.zarrs_chain.specs.declared.codec_chain.CodecChain.{CodecChain}
+use Rattle.zarrs_codec_chain.specs.CodecPart.{codec_read, codec_plans, order_in_place, IsCodecPlan, codec_rests_on}
+use Rattle.zarrs_chain_meaning.specs.ChunkForm.{ChunkForm}
 
 -- ---- chains
 
@@ -99,13 +55,6 @@ stored_read f form stored selection = do
 
 -- ---- plans
 
--- whether the bytes of a place are known before anything is read: they are over `bytes` and `packbits`
-abbrev pub codec_plans : {B : Type 0} → PlainCodec B → Bool
-codec_plans (bytes_codec order) = true
-codec_plans (packbits_codec settings) = true
-codec_plans (vlen_codec ia ix ib da dx db wide at_end) = false
-codec_plans (optional_codec ma mx mb da dx db) = false
-
 -- whether a read asks for the bytes of its places alone: it does over `bytes` and `packbits` where there are no bytes-to-bytes codecs
 abbrev pub reads_places : {B : Type 0} → List B → PlainCodec B → Bool
 reads_places [] codec = codec_plans codec
@@ -114,14 +63,6 @@ reads_places (first ∷ rest) codec = false
 -- the same of a chain
 abbrev pub chain_reads_places : {B : Type 0} → PlainChain B → Bool
 chain_reads_places chain = reads_places chain.bytes_to_bytes chain.array_to_bytes
-
--- the byte order of `bytes` without bytes-to-bytes codecs: there the bytes of places are those of their elements, and a write over a stored value replaces them alone
-abbrev pub order_in_place : {B : Type 0} → List B → PlainCodec B → Option (Option Endianness)
-order_in_place [] (bytes_codec order) = Some order
-order_in_place [] (packbits_codec settings) = None
-order_in_place [] (vlen_codec ia ix ib da dx db wide at_end) = None
-order_in_place [] (optional_codec ma mx mb da dx db) = None
-order_in_place (first ∷ rest) codec = None
 
 -- the same of a chain
 abbrev pub chain_in_place : {B : Type 0} → PlainChain B → Option (Option Endianness)
@@ -155,13 +96,6 @@ abbrev pub planned_places : {B : Type 0} → ChunkForm B → Selection → Resul
 planned_places form selection =
     seen (λ places. if reads_places form.chain.bytes_to_bytes form.chain.array_to_bytes then Some places else None) (ordered_places form selection)
 
--- The ranges are the bytes of these places and no others: each is the bytes of one run of places, none of them empty, and no run starts where the one before it ends. Of `bytes` their lengths sum to the elements' bytes.
-abbrev pub IsCodecPlan : {B : Type 0} → PlainCodec B → List ℕ → ElementType → List ℕ → List ℕ → List ByteSpan → Type 0
-IsCodecPlan (bytes_codec order) sizes type fill places ranges = IsElementPlan (place_size type) places ranges
-IsCodecPlan (packbits_codec settings) sizes type fill places ranges = IsOkAnd (packed_layout settings (form_of sizes type fill)) (λ layout. IsPlan layout places ranges)
-IsCodecPlan (vlen_codec ia ix ib da dx db wide at_end) sizes type fill places ranges = ⊥
-IsCodecPlan (optional_codec ma mx mb da dx db) sizes type fill places ranges = ⊥
-
 -- what a plan is of a read of these places: ranges where it asks for the places' bytes alone, and else none
 abbrev pub IsReadPlan : {B : Type 0} → BytesCodecs B → ChunkForm B → Option (List ByteSpan) → Option (List ℕ) → Type 0
 IsReadPlan f form None None = Unit {0}
@@ -180,19 +114,6 @@ asks_in_part (first ∷ rest) codec = false
 abbrev pub SureInPart : {B T : Type 0} → CodecChain B → Result T CodecError → Type 0
 SureInPart chain result =
     asks_in_part (plain_chain chain).bytes_to_bytes (plain_chain chain).array_to_bytes ≡ true → is_fault result ≡ false
-
--- the numbers of the bytes of what is stored that the elements at these places rest on, of a `vlen` by its plain form: the offsets' and the elements'; none where it has no such form
-abbrev pub form_rests_on : Option PlainForm → ℕ → Option (List ℕ) → List ℕ → List ℕ
-form_rests_on None count stored places = []
-form_rests_on (Some form) count stored places = stored_rests_on form count stored places
-
--- the same of an array-to-bytes codec: of `bytes` and `packbits` the places' bytes, whatever is stored; none of a codec that is read whole
-abbrev pub codec_rests_on : {B : Type 0} → PlainCodec B → List ℕ → ElementType → List ℕ → Option (List ℕ) → List ℕ → Result (List ℕ) CodecError
-codec_rests_on (bytes_codec order) sizes type fill stored places = Ok (place_bytes (place_size type) places)
-codec_rests_on (packbits_codec settings) sizes type fill stored places = bytes_of_places settings (form_of sizes type fill) places
-codec_rests_on (vlen_codec ia ix ib da dx db wide at_end) sizes type fill stored places =
-    Ok (form_rests_on (plain_form_of (vlen_codec ia ix ib da dx db wide at_end)) (product sizes) stored places)
-codec_rests_on (optional_codec ma mx mb da dx db) sizes type fill stored places = Ok []
 
 -- the numbers of the bytes that a read asks for, of what is stored, where it asks for a part alone; or the first error
 abbrev pub read_rests_on : {B : Type 0} → BytesCodecs B → ChunkForm B → Option (List ℕ) → Selection → Result (Option (List ℕ)) CodecError

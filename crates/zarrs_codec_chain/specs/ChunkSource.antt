@@ -14,20 +14,22 @@ use Rattle.zarrs_codec.specs.BytesToBytesCodec.{BytesCodecs}
 use Rattle.zarrs_codec.specs.Calls.{Calls, after_reads}
 use Rattle.zarrs_codec.specs.declared.bytes_representation.BytesRepresentation.{BytesRepresentation}
 use Rattle.zarrs_codec.specs.declared.capabilities.PartialDecoderCapability.{PartialDecoderCapability}
-use Rattle.zarrs_chain_laws.specs.BytesStages.{outer_bytes, outer_representation}
+use Rattle.zarrs_chain_meaning.specs.BytesStages.{outer_bytes, outer_representation}
 use Rattle.zarrs_codec_chain.specs.CachePlace.{cache_place, codecs_read}
-use Rattle.zarrs_chain_laws.specs.Chain.{taken_form, codec_reads}
-use Rattle.zarrs_codec_chain.specs.ChunkRead.{ChunkForm, codec_read, encoded_places, outer_stored}
-use Rattle.zarrs_chain_laws.specs.Decode.{codec_chunk}
-use Rattle.zarrs_chain_laws.specs.PlainChain.{PlainChain}
+use Rattle.zarrs_chain_meaning.specs.Chain.{taken_form, codec_reads}
+use Rattle.zarrs_codec_chain.specs.ChunkRead.{encoded_places, outer_stored}
+use Rattle.zarrs_chain_meaning.specs.ChunkForm.{ChunkForm}
+use Rattle.zarrs_codec_chain.specs.CodecPart.{codec_read}
+use Rattle.zarrs_chain_meaning.specs.CodecMeaning.{codec_chunk}
+use Rattle.zarrs_chain_meaning.specs.PlainChain.{PlainChain}
 use Rattle.zarrs_codec_chain.specs.declared.partial_decoder.cache.Cache.{Cache}
 use Rattle.zarrs_codec_chain.specs.declared.partial_decoder.cache.Cache.TheVariants as kept
 use Rattle.zarrs_codec_chain.specs.declared.partial_decoder.cache.CacheStage.{CacheStage}
 use Rattle.zarrs_codec_chain.specs.declared.partial_decoder.cache.CacheStage.TheVariants as stage
 use Rattle.zarrs_chunk.specs.ChunkShape.{product}
 use Rattle.zarrs_data_type.specs.Form.{Form}
-use Rattle.zarrs_chain_whole.specs.ChainView.{plain_chain}
-use Rattle.zarrs_chain_whole.specs.declared.codec_chain.CodecChain.{CodecChain}
+use Rattle.zarrs_chain.specs.ChainView.{plain_chain}
+use Rattle.zarrs_chain.specs.declared.codec_chain.CodecChain.{CodecChain}
 
 -- What answers rest on: the bytes above so many of the first bytes-to-bytes codecs, or the chunk that the array-to-bytes codec reads; either only where something is stored.
 pub data Source : Type 0 where

@@ -22,18 +22,16 @@ use Rattle.zarrs_array_to_array.specs.ArrayToArrayCodec.{ArrayMapping}
 use Rattle.zarrs_bytes.specs.BytesCodec.{spelling}
 use Rattle.zarrs_bytes.specs.PartialRead.{place_size}
 use Rattle.zarrs_bytes.specs.PartialWrite.{bytes_left, filled_chunk, with_place_bytes}
-use Rattle.zarrs_chain_laws.specs.ArrayStages.{arrays_map}
-use Rattle.zarrs_codec_chain.specs.ChunkRead.{ChunkForm, order_in_place}
-use Rattle.zarrs_chain_laws.specs.Decode.{chain_chunk}
-use Rattle.zarrs_chain_laws.specs.Encode.{chain_value}
+use Rattle.zarrs_chain_meaning.specs.ArrayStages.{arrays_map}
+use Rattle.zarrs_chain_meaning.specs.ChunkForm.{ChunkForm}
+use Rattle.zarrs_codec_chain.specs.CodecPart.{order_in_place}
+use Rattle.zarrs_chain_meaning.specs.CodecMeaning.{chain_chunk, chain_value, ChainStands, ChainWritten}
 use Rattle.zarrs_codec_chain.specs.PartialDecoder.{chunk_reader}
-use Rattle.zarrs_chain_laws.specs.Stands.{ChainStands}
-use Rattle.zarrs_chain_laws.specs.Written.{ChainWritten}
 use Rattle.std.proofs.Common.{Global}
 use Rattle.zarrs_chunk.specs.Runs.{joined_runs, places_in}
 use Rattle.zarrs_array_bytes.specs.Validity.{data_fit, validity}
 use Rattle.zarrs_codec.specs.declared.capabilities.PartialEncoderCapability.{PartialEncoderCapability}
-use Rattle.zarrs_chain_laws.specs.Chain.{chain_writes}
+use Rattle.zarrs_chain_meaning.specs.Chain.{chain_writes}
 
 -- the value of a chunk with new elements at these places, or the first error
 abbrev pub edited_value : {B : Type 0} → BytesCodecs B → ChunkForm B → Chunk → List ℕ → Held → Result (List ℕ) CodecError

@@ -18,7 +18,7 @@ use Rattle.zarrs_codec.specs.BytesToBytesCodec.{BytesCodecs}
 use Rattle.zarrs_codec.specs.Calls.{Calls, MakesWrite}
 use Rattle.zarrs_codec.specs.StorageState.{StorageState, value_indices}
 use Rattle.zarrs_bytes.specs.PartialWrite.{FailsByWriting}
-use Rattle.zarrs_chain_whole.specs.ChainView.{plain_chain}
+use Rattle.zarrs_chain.specs.ChainView.{plain_chain}
 use Rattle.zarrs_codec_chain.specs.ChunkRead.{form_in_place, standing_places}
 use Rattle.zarrs_codec_chain.specs.ChunkCalls.{CountsEdit}
 use Rattle.zarrs_codec_chain.specs.ChunkCoder.{coder_form, reader_places}

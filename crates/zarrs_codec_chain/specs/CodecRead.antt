@@ -10,10 +10,11 @@ use Rattle.zarrs_data_type.specs.declared.endianness.Endianness.{Endianness}
 use Rattle.zarrs_codec.specs.ByteSpan.{ByteSpan}
 use Rattle.zarrs_codec.specs.BytesToBytesCodec.{BytesCodecs}
 use Rattle.zarrs_codec.specs.StorageState.{StorageState}
-use Rattle.zarrs_chain_whole.specs.ChainView.{plain_chain, plain_codec}
-use Rattle.zarrs_chain_whole.specs.declared.array_to_bytes_codec.ArrayToBytesCodec.{ArrayToBytesCodec}
-use Rattle.zarrs_chain_whole.specs.declared.codec_chain.CodecChain.{CodecChain}
-use Rattle.zarrs_codec_chain.specs.ChunkRead.{IsCodecPlan, SureRuns, TakenBy, order_in_place}
+use Rattle.zarrs_chain.specs.ChainView.{plain_chain, plain_codec}
+use Rattle.zarrs_chain.specs.declared.array_to_bytes_codec.ArrayToBytesCodec.{ArrayToBytesCodec}
+use Rattle.zarrs_chain.specs.declared.codec_chain.CodecChain.{CodecChain}
+use Rattle.zarrs_codec_chain.specs.ChunkRead.{SureRuns, TakenBy}
+use Rattle.zarrs_codec_chain.specs.CodecPart.{IsCodecPlan, order_in_place}
 
 -- the codec takes chunks of these sizes, this type and this fill value
 abbrev pub Takes : {B : Type 0} → BytesCodecs B → ArrayToBytesCodec B → List ℕ → ElementType → List ℕ → Type 0

@@ -7,9 +7,9 @@ use Rattle.zarrs_codec.specs.Refused.{outcome}
 use Rattle.zarrs_codec.specs.StorageState.{StorageState, after_reading}
 use Rattle.zarrs_codec.specs.declared.capabilities.PartialDecoderCapability.{PartialDecoderCapability}
 use Rattle.zarrs_codec.specs.declared.refused.Refused.{Refused}
-use Rattle.zarrs_chain_laws.specs.Representation.{chain_representation}
-use Rattle.zarrs_chain_whole.specs.ChainView.{plain_chain}
-use Rattle.zarrs_chain_whole.specs.declared.codec_chain.CodecChain.{CodecChain}
+use Rattle.zarrs_chain_meaning.specs.CodecMeaning.{chain_representation}
+use Rattle.zarrs_chain.specs.ChainView.{plain_chain}
+use Rattle.zarrs_chain.specs.declared.codec_chain.CodecChain.{CodecChain}
 use Rattle.zarrs_codec_chain.specs.CachePlace.{has_cache_place}
 use Rattle.zarrs_codec_chain.specs.ChunkRead.{chunk_of}
 use Rattle.zarrs_codec_chain.specs.ChunkSource.{filling_reads, source_made}

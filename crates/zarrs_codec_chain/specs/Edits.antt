@@ -10,10 +10,10 @@ use Rattle.zarrs_codec.specs.ChunkEdits.{edited_chunk}
 use Rattle.zarrs_codec.specs.StorageState.{StorageState, count_if}
 use Rattle.zarrs_bytes.specs.PartialWrite.{filled_chunk}
 use Rattle.zarrs_packbits.specs.Laws.{HasBytes}
-use Rattle.zarrs_codec_chain.specs.ChunkRead.{ChunkForm}
+use Rattle.zarrs_chain_meaning.specs.ChunkForm.{ChunkForm}
 use Rattle.zarrs_codec_chain.specs.ChunkWrite.{stored_written}
-use Rattle.zarrs_chain_laws.specs.MachineBytes.{HeldHasBytes}
-use Rattle.zarrs_chain_laws.specs.Written.{ChainWritten}
+use Rattle.zarrs_chain_meaning.specs.MachineBytes.{HeldHasBytes}
+use Rattle.zarrs_chain_meaning.specs.CodecMeaning.{ChainWritten}
 use Rattle.zarrs_codec_chain.specs.declared.partial_encoder.edits.Edit.{Edit}
 use Rattle.zarrs_codec_chain.specs.declared.partial_encoder.edits.Edit.TheVariants.{Encode, Erase}
 use Rattle.zarrs_codec_chain.specs.declared.partial_encoder.edits.EditOutcome.{EditOutcome}

@@ -1,11 +1,10 @@
 -- An element as plain parts, so that equations of chunks are propositions.
 use Rattle.std.specs.Prelude.{◌≡◌, ℕ, zero, suc, Bool, true, false, List, [], cond}
-use Rattle.std.proofs.Common.{refl, ap}
+use Rattle.std.proofs.Common.{refl, ap, sym, ◌∙◌}
 use Rattle.zarrs_data_type.specs.Element.{Element, plain, absent, present}
 use Rattle.std.proofs.Props.{props}
 use mathlib.Core.HLevel.{collapsible→set}
 use mathlib.Core.List.{is_set as List-set}
-use Rattle.std.proofs.Common.{sym, ◌∙◌}
 
 abbrev ElementParts : Type 0
 ElementParts = ℕ × (Bool × List ℕ)

@@ -1,5 +1,7 @@
 pub mod vlen
 pub mod CachePlace
+pub mod PartRead
+pub mod CodecPart
 pub mod ChunkRead
 pub mod CodecRead
 pub mod ChunkSource
@@ -9,6 +11,7 @@ pub mod ChunkCoder
 pub mod PartialDecoder
 pub mod CountLaws
 pub mod ChunkWrite
+pub mod MadeCoder
 pub mod PartialEncoder
 pub mod CodersMade
 pub mod ChunkCalls
@@ -17,6 +20,7 @@ pub mod Edits
 pub mod ElementCode
 pub mod RefusedFirst
 pub mod ReadLaws
+pub mod PlannedReads
 pub use Rattle.zarrs_chunk.specs.Answer
 pub use Rattle.zarrs_chunk.specs.Selection
 pub use Rattle.zarrs_data_type.specs.Element
@@ -28,11 +32,12 @@ pub use Rattle.zarrs_codec.specs.ChunkEdits
 pub use Rattle.zarrs_codec.specs.CodersOverHandles
 pub use Rattle.zarrs_codec.specs.Refused
 pub use Rattle.zarrs_codec.specs.StorageState
-pub use Rattle.zarrs_chain_laws.specs.Chain
-pub use Rattle.zarrs_chain_laws.specs.vlen.PlainVlen
-pub use Rattle.zarrs_chain_whole.specs.ChainView
-pub use Rattle.zarrs_chain_laws.specs.Representation
-pub use Rattle.zarrs_chain_laws.specs.Stands
-pub use Rattle.zarrs_chain_laws.specs.Written
+pub use Rattle.zarrs_chain_meaning.specs.Chain
+pub use Rattle.zarrs_chain_meaning.specs.vlen.PlainVlen
+pub use Rattle.zarrs_chain.specs.ChainView
+pub use Rattle.zarrs_chain_meaning.specs.Meaning
+pub use Rattle.zarrs_chain_meaning.specs.vlen.Vlen
+pub use Rattle.zarrs_chain_meaning.specs.optional.Optional
 pub use Rattle.zarrs_plain_vlen.specs.PlainRead
 pub use Rattle.zarrs_plain_vlen.specs.VlenRead
+pub use Rattle.zarrs_chain_meaning.specs.ChunkForm

@@ -12,7 +12,8 @@ use Rattle.zarrs_codec.specs.StorageState.{StorageState, after_reading}
 use Rattle.zarrs_codec_chain.specs.ChunkCalls.{AsksOnceUncached, LeftAloneIf}
 use Rattle.zarrs_codec.specs.declared.refused.Refused.{Refused}
 use Rattle.zarrs_codec_chain.specs.ChunkCoder.{coder_form, reader_source}
-use Rattle.zarrs_codec_chain.specs.ChunkRead.{ChunkForm, PlansRead, ReadsChunk, form_decodes_parts, reads_surely, stored_read}
+use Rattle.zarrs_codec_chain.specs.ChunkRead.{PlansRead, ReadsChunk, form_decodes_parts, reads_surely, stored_read}
+use Rattle.zarrs_chain_meaning.specs.ChunkForm.{ChunkForm}
 use Rattle.zarrs_codec_chain.specs.ChunkSource.{Source, held_by, is_kept, IsCacheSize}
 use Rattle.zarrs_codec_chain.specs.declared.partial_decoder.array_partial_decoder.ArrayPartialDecoder.{ArrayPartialDecoder}
 use Rattle.zarrs_array_bytes.specs.Held.{Held}

@@ -13,7 +13,8 @@ use Rattle.zarrs_codec.specs.StorageState.{StorageState, after_writing, apart_fr
 use Rattle.zarrs_codec_chain.specs.ChunkCalls.{AsksOnceForAll, CountsEdit}
 use Rattle.zarrs_codec_chain.specs.ChunkCoder.{coder_form}
 use Rattle.zarrs_bytes.specs.PartialWrite.{FailsByWriting}
-use Rattle.zarrs_codec_chain.specs.ChunkRead.{ChunkForm, PlansRead, ReadsChunk, form_decodes_parts, form_in_place}
+use Rattle.zarrs_codec_chain.specs.ChunkRead.{PlansRead, ReadsChunk, form_decodes_parts, form_in_place}
+use Rattle.zarrs_chain_meaning.specs.ChunkForm.{ChunkForm}
 use Rattle.zarrs_codec_chain.specs.Edits.{edit_excuse, edited_store, RunsEdits}
 use Rattle.zarrs_codec_chain.specs.declared.partial_encoder.array_partial_encoder.ArrayPartialEncoder.{ArrayPartialEncoder}
 use Rattle.zarrs_codec_chain.specs.declared.partial_encoder.edits.Edit.{Edit}

@@ -8,12 +8,15 @@ use Rattle.zarrs_chunk.specs.declared.codec_error.CodecError.{CodecError}
 use Rattle.zarrs_data_type.specs.Element.{Chunk}
 use Rattle.zarrs_array_bytes.specs.Elements.{select}
 use Rattle.zarrs_codec.specs.BytesToBytesCodec.{BytesCodecs}
-use Rattle.zarrs_chain_laws.specs.BytesStages.{outer_bytes}
-use Rattle.zarrs_chain_laws.specs.Chain.{taken_form}
-use Rattle.zarrs_chain_laws.specs.Laws.{IsChainOfMappings}
-use Rattle.zarrs_chain_laws.specs.vlen.PlainVlen.{PlainForm, plain_form_of}
-use Rattle.zarrs_chain_laws.specs.Stands.{ChainStands}
-use Rattle.zarrs_codec_chain.specs.ChunkRead.{ChunkForm, codec_rests_on, encoded_places, ordered_places, planned_region, stored_read}
+use Rattle.zarrs_chain_meaning.specs.BytesStages.{outer_bytes}
+use Rattle.zarrs_chain_meaning.specs.Chain.{taken_form}
+use Rattle.zarrs_chain_meaning.specs.Laws.{IsChainOfMappings}
+use Rattle.zarrs_chain_meaning.specs.CodecMeaning.{ChainStands}
+use Rattle.zarrs_chain_meaning.specs.vlen.PlainVlen.{plain_form_of}
+use Rattle.zarrs_chain_meaning.specs.vlen.PlainForm.{PlainForm}
+use Rattle.zarrs_codec_chain.specs.ChunkRead.{encoded_places, ordered_places, planned_region, stored_read}
+use Rattle.zarrs_chain_meaning.specs.ChunkForm.{ChunkForm}
+use Rattle.zarrs_codec_chain.specs.CodecPart.{codec_rests_on}
 
 -- Of a stored value that stands for a chunk, a read in part answers the chunk's elements that the selection selects, or the selection's error.
 abbrev pub StoredSelects : {B : Type 0} → BytesCodecs B → Type 0

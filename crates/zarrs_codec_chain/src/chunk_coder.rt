@@ -3,18 +3,18 @@ ghost use Rattle.std.specs.Prelude.{◌≡◌, ◌<◌, ◌^◌, All, Ok, IfOk, 
 ghost use Rattle.zarrs_chunk.specs.ChunkShape.{product};
 ghost use Rattle.zarrs_data_type.specs.FillValue.{fill_fits};
 ghost use Rattle.zarrs_codec.specs.StorageState.{after_reading};
-ghost use Rattle.zarrs_chain_laws.specs.Chain.{codec_reads as codec_reads_of, taken_form as taken_form_of};
-ghost use Rattle.zarrs_chain_whole.specs.ChainView.{plain_chain};
+ghost use Rattle.zarrs_chain_meaning.specs.Chain.{codec_reads as codec_reads_of, taken_form as taken_form_of};
+ghost use Rattle.zarrs_chain.specs.ChainView.{plain_chain};
 ghost use Rattle.zarrs_codec_chain.specs.ChunkSource.{cache_fits, SureUncached};
 ghost use Rattle.zarrs_codec_chain.specs.CacheTight.{CacheIsTight, CacheIsTight-prop};
-ghost use Rattle.zarrs_chain_laws.specs.Laws.{IsChainOfMappings};
-ghost use Rattle.zarrs_chain_laws.specs.Representation.{codec_representation};
+ghost use Rattle.zarrs_chain_meaning.specs.Laws.{IsChainOfMappings};
+ghost use Rattle.zarrs_chain_meaning.specs.CodecMeaning.{codec_representation};
 
 use crate::partial_decoder::cache::Cache;
 use crate::partial_decoder::make_cache::{cache_stage, make_cache};
 use std::alloc::Global;
-use zarrs_chain_whole::CodecChain;
-use zarrs_chain_whole::stages::{chain_is_sound, taken_form};
+use zarrs_chain::CodecChain;
+use zarrs_chain::stages::{chain_is_sound, taken_form};
 use zarrs_chunk::{ChunkShape, CodecError};
 use zarrs_codec::{BytesPartialDecoderTraits, BytesRepresentation, BytesToBytesCodecTraits};
 use zarrs_data_type::{DataType, FillValue};

@@ -10,7 +10,7 @@ use crate::chunk_coder::ChunkCoder;
 use crate::partial_decoder::array_partial_decoder::ArrayPartialDecoder;
 use crate::partial_encoder::array_partial_encoder::ArrayPartialEncoder;
 use std::alloc::Global;
-use zarrs_chain_whole::CodecChain;
+use zarrs_chain::CodecChain;
 use zarrs_chunk::ChunkShape;
 use zarrs_codec::{
     BytesPartialDecoderTraits, BytesPartialEncoderTraits, BytesToBytesCodecTraits, Refused,

@@ -1,5 +1,6 @@
 //! Laws over the definitions alone. The functions do nothing; their contracts are the laws.
 ghost use Rattle.zarrs_codec.specs.BytesToBytesCodec.{BytesCodecs};
+ghost use Rattle.zarrs_codec_chain.specs.PlannedReads.{PlannedIsAsked, PlannedReadsAlike, SizedReadsAlike};
 ghost use Rattle.zarrs_codec_chain.specs.ReadLaws.{PlannedPlacesAreMeant, StoredReadsAlike, StoredSelects};
 ghost use Rattle.zarrs_codec_chain.specs.SizeLaws.{ChunkSizesAreExact, SizesAreExact};
 
@@ -30,4 +31,21 @@ pub fn reads_are_alike<B>()
 /// and all others in the indexer's order.
 pub fn planned_places_are_meant<B>()
     ensures law { PlannedPlacesAreMeant B }
+{}
+
+/// Where a read asks for the bytes of its places alone, it rests on these: two stored values that both
+/// have all of them, and the same ones, are read alike, whatever else they have.
+pub fn planned_reads_are_alike<B>()
+    ensures law { (f : BytesCodecs B) → PlannedReadsAlike f }
+{}
+
+/// The same of two values of one length, also where some of these bytes lie past their end: they are
+/// read alike, or fail by the same cause.
+pub fn sized_reads_are_alike<B>()
+    ensures law { (f : BytesCodecs B) → SizedReadsAlike f }
+{}
+
+/// Of whatever is stored, such a read asks for the planned bytes and no others.
+pub fn planned_is_asked<B>()
+    ensures law { (f : BytesCodecs B) → PlannedIsAsked f }
 {}

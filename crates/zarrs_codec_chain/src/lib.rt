@@ -29,10 +29,10 @@ pub use zarrs_array_to_array::{
     ArrayToArrayCodec, RESHAPE, ReshapeCodec, SQUEEZE, SqueezeCodec, TRANSPOSE, TransposeCodec,
 };
 pub use zarrs_bytes::{BYTES, BytesCodec, BytesCodecPartial};
-pub use zarrs_chain_laws::codec_name::{OPTIONAL, VLEN};
-pub use zarrs_chain_laws::vlen::plain_vlen::PlainVlen;
-pub use zarrs_chain_whole::reencode::reencode;
-pub use zarrs_chain_whole::{ArrayToBytesCodec, CodecChain, OptionalCodec, VlenCodec};
+pub use zarrs_chain::reencode::reencode;
+pub use zarrs_chain::{ArrayToBytesCodec, CodecChain, OptionalCodec, VlenCodec};
+pub use zarrs_chain_meaning::codec_name::{OPTIONAL, VLEN};
+pub use zarrs_chain_meaning::vlen::plain_vlen::PlainVlen;
 pub use zarrs_chunk::{ArrayIndices, ArraySubset, ChunkShape, Indexer};
 pub use zarrs_codec::{
     ArrayCodecTraits, ArrayPartialDecoderTraits, ArrayPartialEncoderTraits,

@@ -16,8 +16,7 @@ pub(crate) fn is<T: PartialEq + Debug>(
     assert_eq!(rt; *came, *wanted, "{row}: {about}");
 }
 
-/// The refusal that came, or none, is the one that is wanted. A want of memory is an error of the
-/// test.
+/// The error that came, or none, is the expected one. Out of memory is an error of the test.
 pub(crate) fn is_cause(
     rt: &impl Abort,
     row: &str,

@@ -2,11 +2,11 @@
 
 use serde_json::Value;
 use std::alloc::Global;
-use zarrs_chain_json::{Refusal, data_type, hex_bytes, member, numbers, object, read_edit, tree};
-use zarrs_chain_whole::CodecChain;
+use zarrs_chain::CodecChain;
 use zarrs_chunk::ChunkShape;
 use zarrs_codec::{SampleBytesCodec, SampleMaker};
 use zarrs_data_type::{DataType, FillValue};
+use zarrs_json::{Refusal, data_type, hex_bytes, member, numbers, object, read_edit, tree};
 use zarrs_metadata::MetadataV3;
 
 /// Four bytes.
@@ -37,8 +37,8 @@ pub(crate) const HALF_BYTES: &'static str =
 pub(crate) const OPTIONAL: &'static str =
     r#"{"shape":[3],"data_type":{"optional":"uint8"},"fill_value":"00","codecs":[{"name":"optional","configuration":{"mask_codecs":["bytes"],"data_codecs":["bytes"]}}]}"#;
 
-/// Three texts that may be absent at two levels: three codecs, one inside another, and a bytes codec
-/// inside them.
+/// Three texts that may be absent at two levels: three codecs, one inside another, and a
+/// bytes-to-bytes codec inside them.
 pub(crate) const THREE_LEVELS: &'static str =
     r#"{"shape":[3],"data_type":{"optional":{"optional":"string"}},"fill_value":"00","codecs":[{"name":"optional","configuration":{"mask_codecs":["packbits"],"data_codecs":[{"name":"optional","configuration":{"mask_codecs":["bytes"],"data_codecs":[{"name":"zarrs.vlen","configuration":{"index_codecs":[{"name":"bytes","configuration":{"endian":"little"}}],"data_codecs":["bytes","sample.length"],"index_data_type":"uint32","index_location":"end"}}]}}]}}]}"#;
 
@@ -62,7 +62,7 @@ pub(crate) const TWO_BYTES_WITH_LENGTH: &'static str =
 pub(crate) const TURNED_TEXTS: &'static str =
     r#"{"shape":[2,3],"data_type":"string","fill_value":"","codecs":[{"name":"transpose","configuration":{"order":[1,0]}},{"name":"zarrs.vlen","configuration":{"index_codecs":[{"name":"bytes","configuration":{"endian":"little"}}],"data_codecs":["bytes"],"index_data_type":"uint64"}},"sample.reverse"]}"#;
 
-/// What a chain is told of a chunk.
+/// What a chain is given of a chunk.
 #[derive(Drop)]
 pub(crate) struct Form {
     pub(crate) shape: ChunkShape,
@@ -78,7 +78,7 @@ pub(crate) struct Chunk {
 }
 
 /// Places of a chunk, and elements that are read or written there.
-pub(crate) type Part = zarrs_chain_json::Edit;
+pub(crate) type Part = zarrs_json::Edit;
 
 /// A chunk and a part of it, as one value: each that a function owns makes it dearer to prove.
 #[derive(Drop)]

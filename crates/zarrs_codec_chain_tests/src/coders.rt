@@ -3,7 +3,7 @@
 
 use crate::chunks::{Chunk, Form};
 use std::alloc::{AllocError, Global};
-use zarrs_chain_whole::VlenCodec;
+use zarrs_chain::VlenCodec;
 use zarrs_codec::testing::FailingHandle;
 use zarrs_codec::{
     BytesPartialDecoderTraits, BytesPartialEncoderTraits, Refused, SampleBytesCodec,

@@ -7,11 +7,11 @@ use crate::coders::{Encoder, encoder};
 use std::alloc::Global;
 use std::process::Abort;
 use std::test::Fail;
-use zarrs_chain_json::Refusal;
 use zarrs_chunk::{CodecError, StorageError};
 use zarrs_codec::BytesPartialEncoderTraits;
 use zarrs_codec::testing::{FailingHandle, TornHandle};
 use zarrs_codec_chain::{Edit, EditOutcome, run_edits};
+use zarrs_json::Refusal;
 
 /// Where elements are written and which, or nothing where all is erased. The fourth edit has an element
 /// too many.
@@ -118,8 +118,8 @@ impl Counted for TornHandle {
     }
 }
 
-/// The refusal is the handle's where its call of this number failed. Else the first three edits are
-/// accepted, and the fourth is refused before the handle is asked.
+/// The error is the handle's where its call of this number failed. Else the first three edits are
+/// accepted, and the fourth is rejected before the handle is asked.
 fn is_refused(
     rt: &impl Abort,
     row: &Row,
@@ -137,9 +137,9 @@ fn is_refused(
     Ok(())
 }
 
-/// Each accepted edit made one writing call; the refused one made none, or the one that failed. The value
-/// is what the accepted edits leave, or what is torn of it where a writing call failed and the handle
-/// isn't atomic.
+/// Each accepted edit made one writing call; the rejected one made none, or the one that failed.
+/// The value is what the accepted edits leave, or what is torn of it where a writing call failed
+/// and the handle isn't atomic.
 fn is_left(rt: &impl Abort, row: &Row, done: usize, left: &Left<'_>, is_atomic: bool) {
     let failed = left.writes.wrapping_sub(left.accepted);
     let value = if is_atomic || failed == 0 {

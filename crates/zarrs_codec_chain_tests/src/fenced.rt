@@ -9,12 +9,12 @@ use std::alloc::Global;
 use std::process::Abort;
 use std::test::Fail;
 use zarrs_array_bytes::ArrayBytes;
-use zarrs_chain_json::Refusal;
-use zarrs_chain_whole::{ArrayToBytesCodec, VlenCodec};
+use zarrs_chain::{ArrayToBytesCodec, VlenCodec};
 use zarrs_chunk::CodecError;
 use zarrs_codec::testing::FencedHandle;
 use zarrs_codec::{ByteRange, Refused, SampleBytesCodec, StorageError};
 use zarrs_codec_chain::VlenCodecPartialTraits;
+use zarrs_json::Refusal;
 
 /// A chunk and its value, the part that is asked for, and the elements that are read there.
 struct Row {
@@ -137,7 +137,7 @@ const OF_TEXTS: &'static [Row] = &[
 const WORDS: &'static [u8] =
     b"\0\0\0\0\0\0\0\x01\0\0\0\x04\0\0\0\x05\0\0\0\x02\0\0\0\x03\0\0\0\x06\0\0\0\x07";
 
-/// Array codecs say where the places go; bytes codecs need the whole value.
+/// Array-to-array codecs say where the places go; bytes-to-bytes codecs need the whole value.
 const THROUGH_CHAINS: &'static [Row] = &[
     Row {
         name: "the third of four bytes",
@@ -202,8 +202,8 @@ fn handle_of(alloc: Global, row: &Row) -> Result<FencedHandle, CodecError> {
     Ok(FencedHandle::new(row.value.to_vec(alloc)?, inside))
 }
 
-/// Once the part is read, or refused as the row says, the handle failed where a byte outside was asked
-/// for.
+/// Once the part is read, or has failed as the row says, the handle failed where a byte outside was
+/// asked for.
 fn has_failed(
     rt: &impl Abort,
     done: Result<(), CodecError>,
@@ -282,7 +282,7 @@ fn read_by_vlen(
     }
 }
 
-/// The same by a decoder of the chain's codec to bytes, which has to be `vlen`.
+/// The same by a decoder of the chain's array-to-bytes codec, which has to be `vlen`.
 fn read_by_codec(
     alloc: Global,
     chunk: &Chunk,

@@ -1,14 +1,14 @@
 //! Tests of chunks that are read and written in part through chains, over the public calls. Without
 //! tests the crate is empty.
 //!
-//! What is read, what is written, what is stored afterwards and why a line is refused stands in the
-//! transcripts of `zarrs_transcripts`. Here is what no line of the tool shows: which bytes are planned
-//! and how many are kept, which bytes a read asks for, how often a handle is written, what a refused
-//! making hands back, edits and reads over handles that fail, tear their value or hold back bytes, the
-//! decoder of a `vlen` codec by itself, and the traits of coders.
+//! What is read, what is written, what is stored afterwards and why a line fails stands in the
+//! transcripts of `zarrs_transcripts`. Here is what no line of the tool shows: which bytes are
+//! planned and how many are kept, which bytes a read asks for, how often a handle is written, what
+//! a failed construction hands back, edits and reads over handles that fail, tear their value or
+//! hold back bytes, the decoder of a `vlen` codec by itself, and the traits of coders.
 //!
 //! Chunks, values, indexers and elements are the texts that the tool takes. Answers are written by
-//! hand. A want of memory ends a test with that error and is never compared.
+//! hand. Out of memory ends a test with that error and is never compared.
 #![tactic(auto)]
 
 #[cfg(test)]

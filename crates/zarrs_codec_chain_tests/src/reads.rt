@@ -10,11 +10,11 @@ use std::alloc::Global;
 use std::process::Abort;
 use std::test::Fail;
 use zarrs_array_bytes::ArrayBytes;
-use zarrs_chain_json::Refusal;
-use zarrs_chain_whole::{ArrayToBytesCodec, VlenCodec};
+use zarrs_chain::{ArrayToBytesCodec, VlenCodec};
 use zarrs_chunk::{CodecError, StorageError};
 use zarrs_codec::testing::FailingHandle;
 use zarrs_codec::{ArrayPartialDecoderTraits, ByteRange, Refused, SampleBytesCodec};
+use zarrs_json::Refusal;
 
 /// What was read is what is wanted.
 pub(crate) fn is_read(
@@ -98,7 +98,7 @@ fn plans(
     Ok(())
 }
 
-/// Once the row is done, the handle keeps the value, wasn't written, and failed where a refusal says
+/// Once the row is done, the handle keeps the value, wasn't written, and failed where an error says
 /// so.
 fn is_kept(
     rt: &impl Abort,
@@ -232,7 +232,7 @@ fn by_vlen(
     }
 }
 
-/// The chain's codec to bytes has to be `vlen`.
+/// The chain's array-to-bytes codec has to be `vlen`.
 fn by_codec(
     rt: &impl Abort,
     alloc: Global,

@@ -15,9 +15,10 @@ pub(crate) struct Row {
     pub(crate) value: Option<&'static [u8]>,
     /// Which of the handle's calls fails, counted from 1, or 0 where none does.
     pub(crate) fails_at: u32,
-    /// The places that are asked for, and the elements that are read there, where it isn't refused.
+    /// The places that are asked for, and the elements that are read there, unless the read fails.
     pub(crate) part: &'static str,
-    /// Why the coder isn't made, if it isn't; why the part isn't read, and why not once more.
+    /// The error, if any, of the coder's construction, of reading the part, and of reading it once
+    /// more.
     pub(crate) refusals: [Option<CodecError>; 3],
     /// Whether the coder reads a part without the rest.
     pub(crate) in_part: bool,
@@ -238,9 +239,9 @@ pub(crate) const WITHOUT_CACHE: &'static [Row] = &[
     },
 ];
 
-/// A cache keeps the decoded bytes: of texts that aren't plain 8 for each offset too, where there is one
-/// more than texts, of plain ones those that the bytes codecs give, and of optional elements one for
-/// each at each level.
+/// A cache keeps the decoded bytes: of texts that aren't plain 8 for each offset too, where there
+/// is one more than texts, of plain ones those that the bytes-to-bytes codecs give, and of optional
+/// elements one for each at each level.
 pub(crate) const WITH_CACHE: &'static [Row] = &[
     Row {
         name: "under a length",

@@ -1,6 +1,6 @@
 //! How often the encoders of chains write, by the trait that encoders have, and what they say of
-//! themselves, over a handle that isn't atomic: a refused edit makes no writing call that could tear its
-//! value.
+//! themselves, over a handle that isn't atomic: a rejected edit makes no writing call that could
+//! tear its value.
 
 use crate::checks::{is, is_cause};
 use crate::chunks::{
@@ -10,10 +10,10 @@ use crate::coders::{Encoder, encoder, stored};
 use std::alloc::Global;
 use std::process::Abort;
 use std::test::Fail;
-use zarrs_chain_json::Refusal;
 use zarrs_chunk::CodecError;
 use zarrs_codec::ArrayPartialEncoderTraits;
 use zarrs_codec::testing::TornHandle;
+use zarrs_json::Refusal;
 
 /// A chunk, what is stored of it, where elements are written and which, why they aren't, if they
 /// aren't, whether a part is written without the rest, how many bytes the handle keeps then, and how

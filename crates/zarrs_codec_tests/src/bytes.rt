@@ -2,12 +2,12 @@
 //! over those of `zarrs_bytes`: whole chunks, and chunks that are read and written in part over a
 //! handle. Without tests the crate is empty.
 //!
-//! What the line tool shows stands in `zarrs_transcripts`. Here is the rest: ranges of bytes, the handle
-//! in memory, the sample codecs of bytes, bytes that are lent, components and batches at the edges of
-//! blocks, planned ranges, sizes held, writing calls, and a handle that fails. Answers are written by
-//! hand, or made by a plain slow rule that stands beside them. A want of memory ends a test with that
-//! error and is never compared, so a run in which an allocation fails shows each answer that changes
-//! otherwise.
+//! What the line tool shows stands in `zarrs_transcripts`. Here is the rest: ranges of bytes, the
+//! handle in memory, the sample bytes-to-bytes codecs, bytes that are lent, components and batches
+//! at the edges of blocks, planned ranges, sizes held, writing calls, and a handle that fails.
+//! Answers are written by hand, or made by a plain slow rule that stands beside them. A lack of
+//! memory ends a test with that error and is never compared, so a run in which an allocation fails
+//! shows each answer that changes otherwise.
 //!
 //! The check proves a test before it runs. So examples stand in tables of constants, which cost it
 //! nothing, and a test goes over its table by a function that takes one row. A function owns little,

@@ -1,5 +1,5 @@
-//! Tests of the codecs to bytes over their public calls, a module for each: `bytes`, with the handles, and
-//! `packbits`. Without tests the crate is empty.
+//! Tests of the array-to-bytes codecs over their public calls, a module for each: `bytes`, with the
+//! handles, and `packbits`. Without tests the crate is empty.
 #![tactic(auto)]
 
 #[cfg(test)]

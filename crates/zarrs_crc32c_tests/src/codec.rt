@@ -34,7 +34,7 @@ fn answers(
 }
 
 /// Bytes that are lent, or owned ones.
-fn raw<'a>(
+fn make_raw<'a>(
     alloc: Global,
     bytes: &'a [u8],
     is_owned: bool,
@@ -80,9 +80,13 @@ fn codes<C: BytesToBytesCodecTraits>(
     row: &Encoded,
     is_owned: bool,
 ) -> Result<(), CodecError> {
-    let encoded = codec.encode(alloc, raw(alloc, row.bytes, is_owned)?);
+    let encoded = codec.encode(alloc, make_raw(alloc, row.bytes, is_owned)?);
     answers(rt, row.name, &encoded, Ok(row.encoded))?;
-    let decoded = codec.decode(alloc, raw(alloc, row.encoded, is_owned)?, &UnboundedSize);
+    let decoded = codec.decode(
+        alloc,
+        make_raw(alloc, row.encoded, is_owned)?,
+        &UnboundedSize,
+    );
     answers(rt, row.name, &decoded, Ok(row.bytes))
 }
 
@@ -136,7 +140,7 @@ fn rejects(
     row: &Rejected,
     is_owned: bool,
 ) -> Result<(), CodecError> {
-    let encoded = raw(alloc, row.encoded, is_owned)?;
+    let encoded = make_raw(alloc, row.encoded, is_owned)?;
     let decoded = BytesToBytesCodecTraits::decode(&Crc32cCodec, alloc, encoded, &UnboundedSize);
     answers(rt, row.name, &decoded, Err(row.error))
 }

@@ -11,11 +11,11 @@ use Rattle.zarrs_data_type.specs.Element.{plain, Chunk}
 use Rattle.zarrs_array_bytes.specs.Elements.{cut}
 use Rattle.zarrs_array_bytes.proofs.ElementLemmas.{length_between}
 use Rattle.zarrs_codec.specs.ByteSpan.{ByteSpan}
-use Rattle.zarrs_chain_laws.specs.Decode.{length_of}
+use Rattle.zarrs_chain_meaning.specs.Parts.{length_of}
 use Rattle.zarrs_bytes.proofs.Coding.{ok}
-use Rattle.zarrs_chain_laws.proofs.ArraySteps.{ok_is}
+use Rattle.zarrs_chain_meaning.proofs.ArraySteps.{ok_is}
 use Rattle.zarrs_plain_vlen.specs.Laws.{ReadsAlike}
-use Rattle.zarrs_chain_laws.specs.vlen.PlainVlen.{PlainForm}
+use Rattle.zarrs_chain_meaning.specs.vlen.PlainForm.{PlainForm}
 use Rattle.zarrs_plain_vlen.specs.VlenLayout.{VlenLayout, span_bytes, span_numbers, head_at, head_of, layout_at, layout_within, layout_of}
 use Rattle.zarrs_plain_vlen.specs.VlenRead.{is_there, offsets_read, elements_read, vlen_read, numbers_in, element_numbers, elements_at, rests_on}
 use Rattle.zarrs_plain_vlen.proofs.ElementBytes.{numbers_at, cut_numbered}

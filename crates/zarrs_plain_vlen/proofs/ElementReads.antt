@@ -16,7 +16,7 @@ use Rattle.zarrs_array_bytes.proofs.ElementLemmas.{length_between}
 use Rattle.zarrs_codec.specs.ByteRanges.{range_indices, bytes_in_ranges}
 use Rattle.zarrs_codec.specs.ByteSpan.{ByteSpan}
 use Rattle.zarrs_bytes.proofs.Coding.{ok}
-use Rattle.zarrs_chain_laws.proofs.ArraySteps.{ok_is}
+use Rattle.zarrs_chain_meaning.proofs.ArraySteps.{ok_is}
 use Rattle.zarrs_plain_vlen.specs.Elements.{blank_element, bytes_read}
 use Rattle.zarrs_plain_vlen.specs.VlenLayout.{span_bytes}
 use Rattle.zarrs_plain_vlen.specs.VlenRead.{is_there, elements_read, element_numbers}

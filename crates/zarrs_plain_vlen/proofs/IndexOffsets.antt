@@ -14,19 +14,18 @@ use Rattle.zarrs_array_bytes.specs.Offsets.{rises, offsets_of}
 use Rattle.zarrs_array_bytes.specs.Parts.{fixed_part}
 use Rattle.zarrs_array_bytes.specs.Validity.{Holds}
 use Rattle.zarrs_bytes.specs.BytesCodec.{bytes_chunk, bytes_length, bytes_element}
-use Rattle.zarrs_chain_laws.specs.Decode.{offsets_in_chunk}
-use Rattle.zarrs_chain_laws.specs.Representation.{offset_type}
-use Rattle.zarrs_chain_laws.specs.vlen.VlenSteps.{offset_size, read_offsets, offsets_form}
+use Rattle.zarrs_chain_meaning.specs.vlen.Vlen.{offsets_in_chunk, offset_type}
+use Rattle.zarrs_chain_meaning.specs.vlen.VlenSteps.{offset_size, read_offsets, offsets_form}
 use Rattle.zarrs_bytes.proofs.Coding.{ok, bind_ok}
-use Rattle.zarrs_chain_laws.proofs.ArraySteps.{err, ok_is}
-use Rattle.zarrs_chain_laws.proofs.VlenOffsets.{numbers_in, numbers_long, zero_fits, fixed_held, rises_are}
+use Rattle.zarrs_chain_meaning.proofs.ArraySteps.{err, ok_is}
+use Rattle.zarrs_chain_meaning.proofs.VlenOffsets.{numbers_in, numbers_long, zero_fits, fixed_held, rises_are}
 use Rattle.zarrs_array_bytes.proofs.ElementLemmas.{length_between}
 use Rattle.zarrs_codec.specs.ByteSpan.{ByteSpan}
 use Rattle.zarrs_plain_vlen.specs.VlenLayout.{span_bytes}
 use Rattle.zarrs_plain_vlen.specs.IndexSteps.{index_count}
-use Rattle.zarrs_chain_laws.specs.vlen.PlainVlen.{PlainForm}
+use Rattle.zarrs_chain_meaning.specs.vlen.PlainForm.{PlainForm}
 use Rattle.zarrs_plain_vlen.specs.VlenRead.{offsets_of_index, offsets_read}
-use Rattle.zarrs_chain_laws.proofs.ChainSteps.{held_chunk}
+use Rattle.zarrs_chain_meaning.proofs.ChainSteps.{held_chunk}
 
 pub same_answer : {A : Type 0} (r : Result A CodecError) → (r >>= λ x. ok x) ≡ r
 same_answer (Ok x) = refl

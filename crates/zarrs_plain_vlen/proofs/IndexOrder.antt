@@ -5,11 +5,11 @@ use Rattle.zarrs_chunk.specs.declared.codec_error.CodecError.{CodecError}
 use Rattle.zarrs_chunk.specs.declared.codec_error.CodecError.TheVariants.{InvalidBytesLength, InvalidOffsets, Overflow}
 use Rattle.zarrs_array_bytes.specs.Offsets.{rises}
 use Rattle.zarrs_bytes.specs.BytesCodec.{bytes_length}
-use Rattle.zarrs_chain_laws.specs.vlen.VlenSteps.{offset_size, offsets_form}
+use Rattle.zarrs_chain_meaning.specs.vlen.VlenSteps.{offset_size, offsets_form}
 use Rattle.zarrs_bytes.proofs.Coding.{ok}
-use Rattle.zarrs_chain_laws.proofs.ArraySteps.{err}
+use Rattle.zarrs_chain_meaning.proofs.ArraySteps.{err}
 use Rattle.zarrs_plain_vlen.specs.Laws.{spelled_offsets, IndexIsRefusedInOrder}
-use Rattle.zarrs_chain_laws.specs.vlen.PlainVlen.{PlainForm}
+use Rattle.zarrs_chain_meaning.specs.vlen.PlainForm.{PlainForm}
 use Rattle.zarrs_plain_vlen.specs.VlenRead.{offsets_of_index}
 use Rattle.zarrs_plain_vlen.proofs.IndexOffsets.{at_length, guard, index_long, row_is}
 

@@ -6,7 +6,8 @@ use Rattle.zarrs_chunk.specs.Answer.{◌>>=◌, demand}
 use Rattle.zarrs_chunk.specs.declared.codec_error.CodecError.{CodecError}
 use Rattle.zarrs_chunk.specs.declared.codec_error.CodecError.TheVariants.{InvalidBytesLength, IndexLength}
 use Rattle.zarrs_codec.specs.ByteSpan.{ByteSpan}
-use Rattle.zarrs_chain_laws.specs.Decode.{length_of, vlen_parts}
+use Rattle.zarrs_chain_meaning.specs.Parts.{length_of}
+use Rattle.zarrs_chain_meaning.specs.vlen.Vlen.{vlen_parts}
 use Rattle.zarrs_bytes.proofs.Coding.{ok}
 use Rattle.zarrs_plain_vlen.specs.VlenLayout.{VlenLayout, span_bytes, head_at, layout_at, layout_within, layout_of}
 

@@ -7,8 +7,8 @@ use Rattle.std.proofs.lemmas.List.FromFn.{get_or-map-range_with_len}
 use Rattle.zarrs_array_bytes.specs.Elements.{piece}
 use Rattle.zarrs_array_bytes.specs.Pieces.{pieces}
 use Rattle.zarrs_array_bytes.proofs.Pieces.{length-pieces, read_pieces}
-use Rattle.zarrs_chain_laws.specs.Decode.{offset_of}
-use Rattle.zarrs_chain_laws.specs.vlen.VlenSteps.{offset_size, read_offsets}
+use Rattle.zarrs_chain_meaning.specs.vlen.Vlen.{offset_of}
+use Rattle.zarrs_chain_meaning.specs.vlen.VlenSteps.{offset_size, read_offsets}
 
 -- how many offsets bytes spell
 pub read_long : (wide : Bool) (items : List ℕ) → length (read_offsets wide items) ≡ length items / offset_size wide

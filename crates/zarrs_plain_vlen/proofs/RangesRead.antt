@@ -9,7 +9,7 @@ use Rattle.zarrs_codec.specs.ByteSpan.{ByteSpan}
 use Rattle.zarrs_codec.specs.StorageState.{value_or_empty}
 use Rattle.zarrs_bytes.proofs.Ranges.{range_indices-push}
 use Rattle.zarrs_chunk.proofs.Consecutive.{range-append}
-use Rattle.zarrs_chain_laws.proofs.ArraySteps.{ok_no_err}
+use Rattle.zarrs_chain_meaning.proofs.ArraySteps.{ok_no_err}
 
 -- the byte of a value with this number
 abbrev pub byte_of : List ℕ → ℕ → ℕ

@@ -9,7 +9,10 @@ use Rattle.zarrs_chunk.specs.AnswerLaws.{demand_ok}
 use Rattle.zarrs_chunk.specs.ChunkShape.{product}
 use Rattle.zarrs_chunk.specs.Selection.{Selection, places_of}
 use Rattle.zarrs_chunk.proofs.PlaceLaws.{known_below}
-use Rattle.zarrs_chain_laws.specs.Stands.{CodecStands}
+use Rattle.zarrs_chain_meaning.specs.CodecMeaning.{CodecStands, codec_chunk, codec_representation, meaning}
+use Rattle.zarrs_chain_meaning.specs.Meaning.{Decoder, around_chunk, part_chunk}
+use Rattle.zarrs_chain_meaning.specs.vlen.Vlen.{vlen_chunk, vlen_parts, slices, offsets_in_chunk}
+use Rattle.zarrs_chain_meaning.specs.Parts.{all_bytes, byte_type}
 use Rattle.zarrs_chunk.specs.declared.codec_error.CodecError.{CodecError}
 use Rattle.zarrs_chunk.specs.declared.codec_error.CodecError.TheVariants.{InvalidBytesLength, InvalidOffsets, InvalidByteRange, Overflow, EndiannessMissing}
 use Rattle.zarrs_data_type.specs.Element.{Element, plain, absent, Chunk}
@@ -30,19 +33,17 @@ use Rattle.zarrs_array_to_array.proofs.CoordinateMaps.{kept_places}
 use Rattle.zarrs_bytes.proofs.ReversedPieces.{reversed_pieces-single}
 use Rattle.zarrs_bytes.specs.ByteOrder.{bytes_of, has_order}
 use Rattle.zarrs_bytes.specs.BytesCodec.{bytes_chunk, bytes_length, bytes_element}
-use Rattle.zarrs_chain_laws.specs.Decode.{Decoder, around_chunk, codec_chunk, part_chunk, vlen_chunk, vlen_parts, slices, offsets_in_chunk}
-use Rattle.zarrs_chain_laws.specs.Encode.{all_bytes}
-use Rattle.zarrs_chain_laws.specs.PlainChain.{bytes_codec}
-use Rattle.zarrs_chain_laws.specs.Representation.{byte_type, codec_representation}
+use Rattle.zarrs_chain_meaning.specs.PlainChain.{bytes_codec}
 use Rattle.zarrs_bytes.proofs.Coding.{ok, bind_ok}
-use Rattle.zarrs_chain_laws.proofs.ArraySteps.{err, ok_is, next_answer}
-use Rattle.zarrs_chain_laws.proofs.NestedDecode.{chunk_only}
+use Rattle.zarrs_chain_meaning.proofs.ArraySteps.{err, ok_is, next_answer}
+use Rattle.zarrs_chain_meaning.proofs.CodecLaws.{chunk_only}
 use Rattle.zarrs_plain_vlen.specs.Laws.{ReadSelects, PartSelects}
-use Rattle.zarrs_chain_laws.specs.vlen.PlainVlen.{PlainForm, plain_codec_of}
-use Rattle.zarrs_chain_laws.specs.vlen.VlenSteps.{offsets_form}
+use Rattle.zarrs_chain_meaning.specs.vlen.PlainVlen.{plain_codec_of}
+use Rattle.zarrs_chain_meaning.specs.vlen.PlainForm.{PlainForm}
+use Rattle.zarrs_chain_meaning.specs.vlen.VlenSteps.{offsets_form}
 use Rattle.zarrs_plain_vlen.specs.VlenRead.{is_there, offsets_of_index, offsets_read, elements_read, vlen_read}
 use Rattle.zarrs_plain_vlen.proofs.IndexOffsets.{offsets_long, row_is}
-use Rattle.zarrs_chain_laws.proofs.VlenOffsets.{rises_are}
+use Rattle.zarrs_chain_meaning.proofs.VlenOffsets.{rises_are}
 
 -- what the codec `bytes` reads
 abbrev pub bytes_decoder : Option Endianness → Decoder
@@ -186,12 +187,12 @@ lone_at order sizes type fill value (Err e) = refl
 -- such a chain reads what the codec reads
 lone_chain : {B : Type 0} (f : BytesCodecs B) (order : Option Endianness) (sizes : List ℕ) (type : ElementType) (fill value : List ℕ)
     → around_chunk f [] (codec_representation f (bytes_codec order)) (codec_chunk f (bytes_codec order)) [] sizes type fill value ≡ bytes_decoder order sizes type fill value
-unfolding codec_chunk codec_representation
+unfolding meaning
 lone_chain f order sizes type fill value = lone_at order sizes type fill value (bytes_length order (form_of sizes type fill))
 
 plain_chunk : {B : Type 0} (f : BytesCodecs B) (form : PlainForm) (order : Option Endianness) (sizes : List ℕ) (type : ElementType) (fill value : List ℕ)
     → codec_chunk f (plain_codec_of form order) sizes type fill value ≡ vlen_chunk form.wide form.at_end (bytes_decoder (Some form.order)) (bytes_decoder order) (product sizes) value
-unfolding codec_chunk
+unfolding meaning
 plain_chunk f form order sizes type fill value =
     λ k. vlen_chunk form.wide form.at_end (λ s t l v. lone_chain f (Some form.order) s t l v k) (λ s t l v. lone_chain f order s t l v k) (product sizes) value
 
@@ -205,9 +206,10 @@ none_mapping : All IsMapping []
 none_mapping = λ k d l. absurd (omega arith)
 
 pub read_selects : {B : Type 0} (f : BytesCodecs B) → ReadSelects f
+unfolding meaning
 read_selects f form order sizes type fill value chunk places positive stands below =
     decoded_selects f form order sizes type fill value chunk places
-    (chunk_only f (plain_codec_of form order) (none_mapping, tt, none_mapping, tt) sizes type fill value chunk positive stands)
+    (chunk_only f (plain_codec_of form order) ((none_mapping, tt), (none_mapping, tt)) sizes type fill value chunk positive stands)
     below
 
 part_if : {B : Type 0} (f : BytesCodecs B) (form : PlainForm) (order : Option Endianness) (sizes : List ℕ) (type : ElementType) (fill value : List ℕ) (chunk : Chunk) (selection : Selection) (r : Result (List ℕ) CodecError)

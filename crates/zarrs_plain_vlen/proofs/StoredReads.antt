@@ -5,10 +5,10 @@ use Rattle.zarrs_chunk.specs.Answer.{◌>>=◌, seen}
 use Rattle.zarrs_chunk.specs.declared.codec_error.CodecError.{CodecError}
 use Rattle.zarrs_data_type.specs.Element.{Chunk}
 use Rattle.zarrs_codec.specs.StorageState.{are_sure}
-use Rattle.zarrs_chain_laws.specs.Decode.{vlen_parts}
+use Rattle.zarrs_chain_meaning.specs.vlen.Vlen.{vlen_parts}
 use Rattle.zarrs_bytes.proofs.Coding.{ok}
-use Rattle.zarrs_chain_laws.proofs.ArraySteps.{err, next_answer}
-use Rattle.zarrs_chain_laws.specs.vlen.PlainVlen.{PlainForm}
+use Rattle.zarrs_chain_meaning.proofs.ArraySteps.{err, next_answer}
+use Rattle.zarrs_chain_meaning.specs.vlen.PlainForm.{PlainForm}
 use Rattle.zarrs_plain_vlen.specs.VlenLayout.{VlenLayout, span_bytes, span_numbers, head_of, layout_of}
 use Rattle.zarrs_data_type.specs.ElementType.{ElementType}
 use Rattle.zarrs_plain_vlen.specs.PlainRead.{plain_read}

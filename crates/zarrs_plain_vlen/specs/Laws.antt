@@ -12,10 +12,10 @@ use Rattle.zarrs_array_bytes.specs.Elements.{select}
 use Rattle.zarrs_array_bytes.specs.Offsets.{rises}
 use Rattle.zarrs_bytes.specs.BytesCodec.{bytes_element}
 use Rattle.zarrs_codec.specs.BytesToBytesCodec.{BytesCodecs}
-use Rattle.zarrs_chain_laws.specs.Decode.{offsets_in_chunk}
-use Rattle.zarrs_chain_laws.specs.Representation.{offset_type}
-use Rattle.zarrs_chain_laws.specs.Stands.{CodecStands}
-use Rattle.zarrs_chain_laws.specs.vlen.PlainVlen.{PlainForm, plain_codec_of}
+use Rattle.zarrs_chain_meaning.specs.vlen.Vlen.{offsets_in_chunk, offset_type}
+use Rattle.zarrs_chain_meaning.specs.CodecMeaning.{CodecStands}
+use Rattle.zarrs_chain_meaning.specs.vlen.PlainVlen.{plain_codec_of}
+use Rattle.zarrs_chain_meaning.specs.vlen.PlainForm.{PlainForm}
 use Rattle.zarrs_plain_vlen.specs.IndexSteps.{index_count}
 use Rattle.zarrs_plain_vlen.specs.PlainRead.{plain_part}
 use Rattle.zarrs_plain_vlen.specs.VlenRead.{offsets_read, vlen_read, rests_on}

@@ -11,4 +11,4 @@ pub use Rattle.zarrs_chunk.specs.Answer
 pub use Rattle.zarrs_array_bytes.specs.Tight
 pub use Rattle.zarrs_array_bytes.specs.Validity
 pub use Rattle.zarrs_codec.specs.StorageState
-pub use Rattle.zarrs_chain_laws.specs.vlen.PlainVlen
+pub use Rattle.zarrs_chain_meaning.specs.vlen.PlainVlen

@@ -8,10 +8,10 @@ use Rattle.zarrs_data_type.specs.Element.{plain, Chunk}
 use Rattle.zarrs_array_bytes.specs.Elements.{cut}
 use Rattle.zarrs_array_bytes.specs.Offsets.{offsets_of, rises}
 use Rattle.zarrs_bytes.specs.BytesCodec.{bytes_chunk}
-use Rattle.zarrs_chain_laws.specs.Decode.{offsets_in_chunk, vlen_parts}
-use Rattle.zarrs_chain_laws.specs.vlen.PlainVlen.{PlainForm}
+use Rattle.zarrs_chain_meaning.specs.vlen.Vlen.{offsets_in_chunk, vlen_parts}
+use Rattle.zarrs_chain_meaning.specs.vlen.PlainForm.{PlainForm}
 use Rattle.zarrs_plain_vlen.specs.VlenLayout.{span_numbers, head_of, layout_of, span_bytes}
-use Rattle.zarrs_chain_laws.specs.vlen.VlenSteps.{offsets_form, read_offsets}
+use Rattle.zarrs_chain_meaning.specs.vlen.VlenSteps.{offsets_form, read_offsets}
 
 -- ---- the answer
 

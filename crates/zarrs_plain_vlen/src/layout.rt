@@ -2,7 +2,7 @@
 ghost use Rattle.std.specs.Prelude.{◌≡◌, ◌≤◌, ◌+◌, true, false, IfOk, is_some, length};
 ghost use Rattle.zarrs_chunk.specs.Answer.{is_fault, seen};
 ghost use Rattle.zarrs_codec.specs.StorageState.{after_reading};
-ghost use Rattle.zarrs_chain_laws.specs.vlen.VlenSettings.{is_at_end};
+ghost use Rattle.zarrs_chain_meaning.specs.vlen.VlenSettings.{is_at_end};
 ghost use Rattle.zarrs_plain_vlen.specs.Layout.{FindsLayout, vlen_layout};
 ghost use Rattle.zarrs_plain_vlen.specs.StoredBytes.{SureAt, stored_bytes};
 ghost use Rattle.zarrs_plain_vlen.specs.VlenLayout.{head_of, layout_within};
@@ -10,7 +10,7 @@ ghost use Rattle.zarrs_plain_vlen.specs.VlenRead.{head_numbers};
 
 use crate::handle_reads::read_range;
 use std::alloc::Global;
-use zarrs_chain_laws::vlen::length_fields::read_length;
+use zarrs_chain_meaning::vlen::length_fields::read_length;
 use zarrs_chunk::CodecError;
 use zarrs_codec::{ByteRange, BytesPartialDecoderTraits};
 use zarrs_metadata::VlenIndexLocation;

@@ -5,7 +5,7 @@
 //! `bytes`, both alone ([`PlainVlen`]). [`read_runs`] reads elements by runs of places over a lent
 //! handle, and the [`laws`] say what such a read has to do with the whole value.
 //!
-//! [`PlainVlen`]: zarrs_chain_laws::vlen::plain_vlen::PlainVlen
+//! [`PlainVlen`]: zarrs_chain_meaning::vlen::plain_vlen::PlainVlen
 #![tactic(auto)]
 
 mod elements;

@@ -4,16 +4,16 @@ ghost use Rattle.std.specs.List.{between};
 ghost use Rattle.zarrs_array_bytes.specs.Elements.{piece};
 ghost use Rattle.zarrs_array_bytes.specs.Held.{items_of};
 ghost use Rattle.zarrs_array_bytes.specs.Offsets.{is_offsets};
-ghost use Rattle.zarrs_chain_laws.specs.Decode.{offset_of};
-ghost use Rattle.zarrs_chain_laws.specs.vlen.VlenSettings.{is_wide};
-ghost use Rattle.zarrs_chain_laws.specs.vlen.VlenSteps.{read_offsets};
+ghost use Rattle.zarrs_chain_meaning.specs.vlen.Vlen.{offset_of};
+ghost use Rattle.zarrs_chain_meaning.specs.vlen.VlenSettings.{is_wide};
+ghost use Rattle.zarrs_chain_meaning.specs.vlen.VlenSteps.{read_offsets};
 ghost use Rattle.zarrs_plain_vlen.specs.Elements.{AppendsMoved, FitMoved};
 ghost use Rattle.zarrs_plain_vlen.specs.VlenRead.{spelled_offsets};
 
 use std::alloc::AllocError;
 use std::marker::Model;
 use zarrs_array_bytes::ArrayBytesRaw;
-use zarrs_chain_laws::vlen::vlen_offsets::{read_narrow, read_wide};
+use zarrs_chain_meaning::vlen::vlen_offsets::{read_narrow, read_wide};
 use zarrs_chunk::CodecError;
 use zarrs_metadata::VlenIndexDataType;
 
@@ -30,8 +30,8 @@ impl Model for Offsets {
     ghost use Rattle.std.specs.Prelude.{List, ℕ, ◌≡◌, true};
     ghost use Rattle.zarrs_array_bytes.specs.Held.{items_of};
     ghost use Rattle.zarrs_array_bytes.specs.Offsets.{is_offsets};
-    ghost use Rattle.zarrs_chain_laws.specs.vlen.VlenSettings.{is_wide};
-    ghost use Rattle.zarrs_chain_laws.specs.vlen.VlenSteps.{read_offsets};
+    ghost use Rattle.zarrs_chain_meaning.specs.vlen.VlenSettings.{is_wide};
+    ghost use Rattle.zarrs_chain_meaning.specs.vlen.VlenSteps.{read_offsets};
 
     ghost Value = { List ℕ };
 

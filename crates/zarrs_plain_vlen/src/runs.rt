@@ -11,7 +11,7 @@ use crate::index::read_index;
 use crate::layout::read_layout;
 use std::alloc::Global;
 use zarrs_array_bytes::ArrayBytes;
-use zarrs_chain_laws::vlen::plain_vlen::PlainVlen;
+use zarrs_chain_meaning::vlen::plain_vlen::PlainVlen;
 use zarrs_chunk::CodecError;
 use zarrs_codec::BytesPartialDecoderTraits;
 use zarrs_data_type::DataType;

@@ -1,7 +1,7 @@
 //! A transcript's runs: what is sent, what has to come back, and what does.
 use std::alloc::{AllocError, Global};
 use std::str::Lines;
-use zarrs_chain_lines::run::{RunEnd, run};
+use zarrs_tool_lines::run::{RunEnd, run};
 
 /// How a run ends where its transcript says nothing of that: all that is sent is read.
 const DONE: &str = "= done";

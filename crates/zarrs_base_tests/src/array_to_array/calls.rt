@@ -2,7 +2,7 @@
 
 use crate::array_to_array::checks::{answers, indexer, is, shape};
 use crate::array_to_array::examples::{Example, Mapped};
-use crate::array_to_array::forms::{ChunkForm, lent, owned};
+use crate::array_to_array::forms::{ChunkForm, lend, own};
 use std::alloc::Global;
 use std::process::Abort;
 use zarrs_array_bytes::ArrayBytes;
@@ -10,7 +10,7 @@ use zarrs_chunk::{ChunkShape, CodecError, Indexer};
 use zarrs_codec::{ArrayToArrayCodecTraits, PartialDecoderCapability, PartialEncoderCapability};
 use zarrs_data_type::{DataType, FillValue};
 
-/// A container's bytes or a refusal, as plain data.
+/// A container's bytes or an error, as plain data.
 pub(crate) fn bytes_of<'a>(
     came: &'a Result<ArrayBytes<'_>, CodecError>,
 ) -> Result<&'a [u8], CodecError> {
@@ -20,7 +20,7 @@ pub(crate) fn bytes_of<'a>(
     }
 }
 
-/// The container has these bytes, or this is the refusal.
+/// The container has these bytes, or this is the error.
 pub(crate) fn has_bytes(
     rt: &impl Abort,
     about: &str,
@@ -72,10 +72,10 @@ fn moves<C: ArrayToArrayCodecTraits>(
         about,
         codec,
         form,
-        owned(alloc, decoded)?,
+        own(alloc, decoded)?,
         &Ok(encoded),
     )?;
-    decodes(rt, alloc, about, codec, form, lent(encoded), &Ok(decoded))
+    decodes(rt, alloc, about, codec, form, lend(encoded), &Ok(decoded))
 }
 
 /// The type and the fill value are those of the chunk.
@@ -85,7 +85,7 @@ fn is_kept(rt: &impl Abort, example: &Example, data_type: &DataType, fill_value:
     is(rt, example.name, &fill_value.as_ne_bytes(), &fill);
 }
 
-/// An encoded chunk has another shape, the same type and the same fill value.
+/// The moved chunk has another shape, the same type and the same fill value.
 fn represents<C: ArrayToArrayCodecTraits>(
     rt: &impl Abort,
     alloc: Global,
@@ -154,7 +154,7 @@ fn is_decoded_whole<C: ArrayToArrayCodecTraits>(
     Ok(())
 }
 
-/// The shape of the encoded chunk, and of the chunk whose encoded one has this shape.
+/// The shape of the moved chunk, and of the chunk whose moved one has this shape.
 fn shapes<C: ArrayToArrayCodecTraits>(
     rt: &impl Abort,
     alloc: Global,
@@ -187,7 +187,7 @@ fn are_places(
     answers(rt, about, &Ok(places.as_slice()), &mapped.places)
 }
 
-/// The places in the encoded chunk that the indexer of it means.
+/// The places that this indexer of the moved chunk selects in it.
 fn has_places(
     rt: &impl Abort,
     alloc: Global,
@@ -199,7 +199,7 @@ fn has_places(
     are_places(rt, about, indexer.places(alloc, &encoded), mapped)
 }
 
-/// What is asked of a chunk of this shape has these places in the encoded one.
+/// What is asked of a chunk of this shape has these places in the moved one.
 fn places<C: ArrayToArrayCodecTraits>(
     rt: &impl Abort,
     alloc: Global,

@@ -12,7 +12,7 @@ pub(crate) fn is<T: PartialEq + Debug>(rt: &impl Abort, about: &str, came: &T, w
     assert_eq!(rt; *came, *wanted, "{about}");
 }
 
-/// The answer is this one, or this refusal. A want of memory is an error of the test.
+/// The answer is this one, or this error. A lack of memory is an error of the test.
 pub(crate) fn answers<T: PartialEq + Debug>(
     rt: &impl Abort,
     about: &str,
@@ -31,7 +31,7 @@ pub(crate) fn shape(alloc: Global, sizes: &[u64]) -> Result<ChunkShape, CodecErr
     ChunkShape::new(sizes.to_vec(alloc)?).ok_or(CodecError::OutOfBounds)
 }
 
-/// Which elements are meant, as plain data.
+/// Which elements are selected, as plain data.
 pub(crate) enum Asked<'a> {
     Ranges(&'a [Range<u64>]),
     Tuples(&'a [&'a [u64]]),

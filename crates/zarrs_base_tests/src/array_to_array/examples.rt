@@ -7,7 +7,8 @@ use zarrs_chunk::CodecError;
 
 const AXES: CodecError = CodecError::IncompatibleDimensionality;
 
-/// What is done with a stage: a read and its answer, a write and why it is refused, or the value goes.
+/// What is done with a stage: a read and its answer, a write and the error it fails with, if any,
+/// or the value is erased.
 pub(crate) enum Step {
     Read {
         asked: Asked<'static>,
@@ -21,8 +22,8 @@ pub(crate) enum Step {
     Erase,
 }
 
-/// Sizes of a chunk, those of the encoded chunk, and those of the chunk whose encoded one has the sizes.
-/// Then what is asked of the chunk, and the places of that in the encoded one.
+/// Sizes of a chunk, those of the moved chunk, and those of the chunk whose moved one has the
+/// sizes. Then what is asked of the chunk, and the places of that in the moved one.
 pub(crate) struct Mapped {
     pub(crate) sizes: &'static [u64],
     pub(crate) encoded: Result<&'static [u64], CodecError>,
@@ -31,9 +32,10 @@ pub(crate) struct Mapped {
     pub(crate) places: Result<&'static [u64], CodecError>,
 }
 
-/// A codec by its metadata, as it is written; a chunk and its encoded chunk, with the elements of both,
-/// the lowest byte of each first. Then the value of a stage's input, the highest byte of an element
-/// first, what is done with the stage, and the value that this leaves, after so many writing calls.
+/// A codec by its metadata, as it is written; a chunk and its moved chunk, with the elements of
+/// both, the lowest byte of each first. Then the value of a stage's input, the highest byte of an
+/// element first, what is done with the stage, and the value that this leaves, after so many
+/// writing calls.
 pub(crate) struct Example {
     pub(crate) name: &'static str,
     pub(crate) metadata: &'static str,
@@ -77,7 +79,7 @@ pub(crate) const TURNED: &'static Example = &Example {
             asked: Asked::Tuples(&[&[1, 0, 0], &[0, 0, 2]]),
             answer: Ok(&[3, 0, 2, 0]),
         },
-        // A region of the encoded chunk isn't one of the chunk.
+        // A region of the moved chunk isn't one of the chunk.
         Step::Read {
             asked: Asked::Ranges(&[0..3, 0..1, 0..2]),
             answer: Err(CodecError::OutOfBounds),
@@ -158,7 +160,7 @@ pub(crate) const RESHAPED: &'static Example = &Example {
             elements: &[7, 8],
             answer: Ok(()),
         },
-        // The axis of the encoded chunk.
+        // The axis of the moved chunk.
         Step::Write {
             at: Asked::Ranges(&[0..6]),
             elements: &[0, 0, 0, 0, 0, 0],
@@ -208,7 +210,7 @@ pub(crate) const SQUEEZED: &'static Example = &Example {
             asked: Asked::Ranges(&[0..2, 0..1, 1..2]),
             answer: Ok(&[1, 0, 0, 0, 3, 0, 0, 0]),
         },
-        // The axes of the encoded chunk.
+        // The axes of the moved chunk.
         Step::Read {
             asked: Asked::Ranges(&[0..2, 0..2]),
             answer: Err(AXES),

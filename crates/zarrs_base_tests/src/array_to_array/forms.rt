@@ -1,4 +1,4 @@
-//! Codecs and chunks as plain data, and what is made of them. A codec is told by its metadata.
+//! Codecs and chunks as plain data, and what is made of them. Metadata selects a codec.
 
 use crate::array_to_array::checks::shape;
 use serde_json::Value;
@@ -57,7 +57,7 @@ pub(crate) struct Chunk<'a> {
     pub(crate) fill: &'a [u8],
 }
 
-/// What a codec is told of a chunk.
+/// What a codec needs to know of a chunk.
 #[derive(Drop)]
 pub(crate) struct ChunkForm {
     pub(crate) shape: ChunkShape,
@@ -77,11 +77,11 @@ pub(crate) fn chunk_form(alloc: Global, chunk: &Chunk<'_>) -> Result<ChunkForm, 
 }
 
 /// Elements of one size.
-pub(crate) fn owned(alloc: Global, bytes: &[u8]) -> Result<ArrayBytes<'static>, CodecError> {
+pub(crate) fn own(alloc: Global, bytes: &[u8]) -> Result<ArrayBytes<'static>, CodecError> {
     Ok(ArrayBytes::new_flen(CowSlice::Owned(bytes.to_vec(alloc)?)))
 }
 
 /// Elements of one size, lent.
-pub(crate) fn lent(bytes: &[u8]) -> ArrayBytes<'_> {
+pub(crate) fn lend(bytes: &[u8]) -> ArrayBytes<'_> {
     ArrayBytes::new_flen(CowSlice::Borrowed(bytes))
 }

@@ -40,7 +40,7 @@ fn transpose_of(alloc: Global, order: &[usize]) -> Result<TransposeCodec, Plugin
 }
 
 /// A copy of that codec.
-pub(crate) fn copied_transpose_of(alloc: Global, order: &[usize]) -> Result<TransposeCodec, Fail> {
+pub(crate) fn copy_transpose_of(alloc: Global, order: &[usize]) -> Result<TransposeCodec, Fail> {
     Ok(transpose_of(alloc, order)?.clone()?)
 }
 

@@ -3,8 +3,8 @@
 
 use crate::array_to_array::calls::{decodes, encodes};
 use crate::array_to_array::checks::{Asked, answers};
-use crate::array_to_array::forms::{Chunk, ChunkForm, Type, chunk_form, lent, owned};
-use crate::array_to_array::metadata::copied_transpose_of;
+use crate::array_to_array::forms::{Chunk, ChunkForm, Type, chunk_form, lend, own};
+use crate::array_to_array::metadata::copy_transpose_of;
 use crate::array_to_array::stages::{Input, Made, input, reads};
 use std::alloc::Global;
 use std::process::Abort;
@@ -113,16 +113,8 @@ fn isnt_moved(
     row: &Row,
 ) -> Result<(), CodecError> {
     let wanted = Err(row.cause);
-    encodes(rt, alloc, row.name, codec, form, lent(SIX), &wanted)?;
-    decodes(
-        rt,
-        alloc,
-        row.name,
-        codec,
-        form,
-        owned(alloc, SIX)?,
-        &wanted,
-    )
+    encodes(rt, alloc, row.name, codec, form, lend(SIX), &wanted)?;
+    decodes(rt, alloc, row.name, codec, form, own(alloc, SIX)?, &wanted)
 }
 
 const LINE: Chunk<'static> = Chunk {
@@ -143,7 +135,7 @@ fn reads_line(
     reads(rt, alloc, row.name, &mut input, &PART, &Ok(&[1, 2]))
 }
 
-/// A stage is made, or the refusal has its input, for this cause.
+/// The stage is made, or the call fails with this error and hands its input back.
 fn is_made(
     rt: &impl Abort,
     alloc: Global,
@@ -209,6 +201,6 @@ fn are_refused(
 
 #[test]
 fn chunks_are_refused_by_the_first_cause(rt: HostRuntime) -> Result<(), Fail> {
-    let codec = copied_transpose_of(rt.alloc(), &[1, 0])?;
+    let codec = copy_transpose_of(rt.alloc(), &[1, 0])?;
     Ok(are_refused(&rt, rt.alloc(), &codec, REFUSED)?)
 }

@@ -8,7 +8,7 @@ ghost use Rattle.zarrs_array_regions.specs.Windows.{TakesRegion, TakeType};
 
 use crate::array_to_array::calls::has_bytes;
 use crate::array_to_array::checks::{Asked, answers, indexer, is};
-use crate::array_to_array::forms::{Chunk, ChunkForm, SQUEEZE, Type, chunk_form, codec, lent};
+use crate::array_to_array::forms::{Chunk, ChunkForm, SQUEEZE, Type, chunk_form, codec, lend};
 use std::alloc::Global;
 use std::process::Abort;
 use std::test::Fail;
@@ -78,7 +78,7 @@ fn comes_back(
     requires filled { 0 < product region.now.lengths }
 {
     let count = region.num_elements()?;
-    let held = lent(MOVED);
+    let held = lend(MOVED);
     held.validate(count, &form.data_type)?;
     let came = decoded_window(
         alloc,
@@ -111,7 +111,7 @@ fn goes_along(
     requires filled { 0 < product region.now.lengths }
 {
     let count = region.num_elements()?;
-    let held = lent(ELEMENTS);
+    let held = lend(ELEMENTS);
     held.validate(count, &form.data_type)?;
     let (runs, held) = encode_region(alloc, codecs, &form.shape, region, held, &form.data_type)?;
     is_moved(rt, runs.as_slice(), &held)
@@ -133,7 +133,7 @@ fn goes_and_comes(
     goes_along(rt, alloc, codecs, form, region)
 }
 
-/// The region that the indexer means goes through the codecs as a region.
+/// The region that the indexer selects goes through the codecs as a region.
 fn is_kept(
     rt: &impl Abort,
     alloc: Global,

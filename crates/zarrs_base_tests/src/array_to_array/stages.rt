@@ -1,10 +1,10 @@
-//! Stages of the codecs over an input of `bytes` in memory, which reads and writes: what they tell, read
-//! and write, each by the call of the traits.
+//! Stages of the codecs over an input of `bytes` in memory, which reads and writes: what they
+//! report, read and write, each by the call of the traits.
 
 use crate::array_to_array::calls::has_bytes;
 use crate::array_to_array::checks::{Asked, answers, indexer, is};
 use crate::array_to_array::examples::{Example, Step};
-use crate::array_to_array::forms::{ChunkForm, chunk_form, lent};
+use crate::array_to_array::forms::{ChunkForm, chunk_form, lend};
 use std::alloc::Global;
 use std::process::Abort;
 use zarrs_array_to_array::ArrayToArrayCodecPartial;
@@ -30,7 +30,7 @@ pub(crate) trait Staged: ArrayToArrayCodecTraits + Drop {
     fn writer(&self, alloc: Global, below: Input, form: &ChunkForm) -> Made<Self>;
 }
 
-/// The coder of such encoded chunks in part, the highest byte of an element first, over this value.
+/// The coder of such moved chunks in part, the highest byte of an element first, over this value.
 pub(crate) fn input(alloc: Global, form: &ChunkForm, value: &[u8]) -> Result<Input, CodecError> {
     let handle = MemoryHandle::with_value(value.to_vec(alloc)?);
     match BytesCodec::big().partial_encoder(
@@ -67,7 +67,7 @@ fn writes_at<E: ArrayPartialEncoderTraits>(
     elements: &[u8],
     wanted: &Result<(), CodecError>,
 ) -> Result<(), CodecError> {
-    let came = encoder.partial_encode(alloc, at, &lent(elements));
+    let came = encoder.partial_encode(alloc, at, &lend(elements));
     answers(rt, about, &came, wanted)
 }
 
@@ -96,7 +96,7 @@ fn erases<E: ArrayPartialEncoderTraits>(
     Ok(())
 }
 
-/// What a stage tells without reading.
+/// What a stage reports without reading.
 fn tells<E: ArrayPartialEncoderTraits>(
     rt: &impl Abort,
     stage: &mut E,

@@ -1,5 +1,5 @@
-//! Codecs of metadata, through the enum of the codecs: what is written of them, and shapes and indexers
-//! of encoded chunks, where they are of another kind than in the examples.
+//! Codecs of metadata, through the enum of the codecs: what is written of them, and shapes and
+//! indexers of moved chunks, where they are of another kind than in the examples.
 
 use crate::array_to_array::calls::maps;
 use crate::array_to_array::checks::{Asked, answers, shape};
@@ -231,7 +231,7 @@ fn codecs_are_written_and_map(rt: HostRuntime) -> Result<(), Fail> {
     Ok(())
 }
 
-/// A codec by its metadata, the sizes of a chunk, and those of the encoded chunk.
+/// A codec by its metadata, the sizes of a chunk, and those of the moved chunk.
 struct Shaped {
     codec: &'static str,
     sizes: &'static [u64],

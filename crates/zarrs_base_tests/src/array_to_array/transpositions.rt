@@ -4,7 +4,7 @@
 
 use crate::array_to_array::calls::bytes_of;
 use crate::array_to_array::checks::is;
-use crate::array_to_array::forms::{Chunk, ChunkForm, Type, chunk_form, lent};
+use crate::array_to_array::forms::{Chunk, ChunkForm, Type, chunk_form, lend};
 use crate::array_to_array::plain_moves::{
     Case, ROOM, Texts, head, plain_count, put_transposed, texts_of,
 };
@@ -123,7 +123,7 @@ fn fill_by_formula(seed: u64, bytes: &mut [u8]) {
     }
 }
 
-fn encoded<'a>(
+fn encode<'a>(
     alloc: Global,
     codec: &TransposeCodec,
     form: &ChunkForm,
@@ -132,7 +132,7 @@ fn encoded<'a>(
     codec.encode(alloc, chunk, &form.shape, &form.data_type, &form.fill_value)
 }
 
-fn decoded<'a>(
+fn decode<'a>(
     alloc: Global,
     codec: &TransposeCodec,
     form: &ChunkForm,
@@ -141,7 +141,7 @@ fn decoded<'a>(
     codec.decode(alloc, chunk, &form.shape, &form.data_type, &form.fill_value)
 }
 
-fn lent_texts(alloc: Global, texts: &Texts) -> Result<ArrayBytes<'_>, CodecError> {
+fn lend_texts(alloc: Global, texts: &Texts) -> Result<ArrayBytes<'_>, CodecError> {
     let offsets = ArrayBytesOffsets::new(texts.offsets().to_vec(alloc)?)?;
     ArrayBytes::new_vlen(CowSlice::Borrowed(texts.bytes()), offsets)
 }
@@ -207,9 +207,9 @@ fn move_bytes(
     elements: &[u8],
     moved: &[u8],
 ) -> Result<(), CodecError> {
-    let came = encoded(alloc, codec, form, lent(elements));
+    let came = encode(alloc, codec, form, lend(elements));
     has_bytes(rt, "encoded", case, came, moved)?;
-    let came = decoded(alloc, codec, form, lent(moved));
+    let came = decode(alloc, codec, form, lend(moved));
     has_bytes(rt, "decoded", case, came, elements)
 }
 
@@ -239,9 +239,9 @@ fn move_texts(
     texts: &Texts,
     moved: &Texts,
 ) -> Result<(), CodecError> {
-    let came = encoded(alloc, codec, form, lent_texts(alloc, texts)?);
+    let came = encode(alloc, codec, form, lend_texts(alloc, texts)?);
     has_texts(rt, "encoded texts", case, came, moved)?;
-    let came = decoded(alloc, codec, form, lent_texts(alloc, moved)?);
+    let came = decode(alloc, codec, form, lend_texts(alloc, moved)?);
     has_texts(rt, "decoded texts", case, came, texts)
 }
 

@@ -164,16 +164,24 @@ fn is_flush(rt: &impl Abort, name: &str, made: &ArrayBytes<'static>) -> Result<(
     Ok(())
 }
 
-fn flush(alloc: Global, bytes: ArrayBytesRaw<'static>) -> Elements {
+fn make_flush(alloc: Global, bytes: ArrayBytesRaw<'static>) -> Elements {
     ArrayBytes::new_flush(bytes, offsets(alloc, &[1, 2, 4])?)
 }
 
 #[test]
 fn begins_at_the_first_text(rt: HostRuntime) -> Result<(), CodecError> {
     let texts = b"xabc".as_slice();
-    is_flush(&rt, "lent", &flush(rt.alloc(), CowSlice::Borrowed(texts))?)?;
+    is_flush(
+        &rt,
+        "lent",
+        &make_flush(rt.alloc(), CowSlice::Borrowed(texts))?,
+    )?;
     let owned = texts.to_vec(rt.alloc())?;
-    is_flush(&rt, "owned", &flush(rt.alloc(), CowSlice::Owned(owned))?)
+    is_flush(
+        &rt,
+        "owned",
+        &make_flush(rt.alloc(), CowSlice::Owned(owned))?,
+    )
 }
 
 /// Three bytes are so many elements, and no more.

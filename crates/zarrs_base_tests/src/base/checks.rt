@@ -17,7 +17,7 @@ pub(crate) fn are<T: PartialEq + Debug>(rt: &impl Abort, name: &str, came: &[T],
     is(rt, name, &came, &wanted);
 }
 
-/// This is answered. A refusal is an error of the test.
+/// This is answered. An error of the call is an error of the test.
 pub(crate) fn gives<T: PartialEq + Debug + Drop, E: Drop>(
     rt: &impl Abort,
     name: &str,
@@ -33,7 +33,7 @@ pub(crate) fn gives<T: PartialEq + Debug + Drop, E: Drop>(
     }
 }
 
-/// These items are answered. A refusal is an error of the test.
+/// These items are answered. An error of the call is an error of the test.
 pub(crate) fn lists<T: PartialEq + Debug + Drop>(
     rt: &impl Abort,
     name: &str,
@@ -54,8 +54,8 @@ pub(crate) fn shape(alloc: Global, sizes: &[u64]) -> Result<ChunkShape, CodecErr
     ChunkShape::new(sizes.to_vec(alloc)?).ok_or(CodecError::OutOfBounds)
 }
 
-/// Which elements are meant, as plain data: those in a range for each axis, or those of a list of
-/// tuples.
+/// Which elements are selected, as plain data: those in a range for each axis, or those of a list
+/// of tuples.
 pub(crate) enum Asked {
     Ranges(&'static [Range<u64>]),
     Tuples(&'static [&'static [u64]]),

@@ -103,7 +103,7 @@ const SUBSETS: &'static [Subset] = &[
 ];
 
 /// The subset by its start and shape.
-fn starting(alloc: Global, row: &Subset) -> Result<ArraySubset, CodecError> {
+fn make_subset(alloc: Global, row: &Subset) -> Result<ArraySubset, CodecError> {
     ArraySubset::new_with_start_shape(row.start.to_vec(alloc)?, row.shape.to_vec(alloc)?)
 }
 
@@ -134,7 +134,7 @@ fn have_subsets_by_ranges_or_by_start_and_shape(rt: HostRuntime) -> Result<(), C
             row,
             ArraySubset::new_with_ranges(rt.alloc(), row.ranges),
         )?;
-        is_subset(&rt, row, starting(rt.alloc(), row))?;
+        is_subset(&rt, row, make_subset(rt.alloc(), row))?;
     }
     Ok(())
 }

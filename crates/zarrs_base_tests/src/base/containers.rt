@@ -47,7 +47,7 @@ pub(crate) fn offsets(alloc: Global, told: &[usize]) -> Result<ArrayBytesOffsets
     ArrayBytesOffsets::new(told.to_vec(alloc)?)
 }
 
-fn unmasked(alloc: Global, held: &Held) -> Elements {
+fn lend_unmasked(alloc: Global, held: &Held) -> Elements {
     let bytes = CowSlice::Borrowed(held.bytes);
     match held.offsets {
         None => Ok(ArrayBytes::new_flen(bytes)),
@@ -57,7 +57,7 @@ fn unmasked(alloc: Global, held: &Held) -> Elements {
 
 /// The container, over bytes that are lent to it.
 pub(crate) fn container(alloc: Global, held: &Held) -> Elements {
-    let mut array = unmasked(alloc, held)?;
+    let mut array = lend_unmasked(alloc, held)?;
     for mask in held.masks {
         array = array.with_optional_mask(alloc, CowSlice::Borrowed(*mask))?;
     }

@@ -82,11 +82,11 @@ fn is_word(rt: &impl Abort, word: &FillValue) -> Result<(), CodecError> {
 }
 
 /// The bytes of an element that is absent inside.
-fn absent_inside(alloc: Global) -> Result<FillValue, CodecError> {
+fn make_absent_inside(alloc: Global) -> Result<FillValue, CodecError> {
     FillValue::new_optional_null(alloc)?.into_optional()
 }
 
 #[test]
 fn have_fill_values(rt: HostRuntime) -> Result<(), CodecError> {
-    is_word(&rt, &absent_inside(rt.alloc())?)
+    is_word(&rt, &make_absent_inside(rt.alloc())?)
 }

@@ -1,4 +1,4 @@
-//! Which elements are meant: their places, and the runs of these.
+//! Which elements are selected: their places, and the runs of these.
 
 use crate::base::checks::{Asked, gives, indexer, is, lists, shape};
 use crate::base::chunks::is_unravelled;
@@ -7,9 +7,9 @@ use std::alloc::Global;
 use std::process::Abort;
 use zarrs_chunk::{ArraySubset, ChunkShape, CodecError, Indexer, count_places, ravel_indices};
 
-/// What an indexer means in a chunk of these sizes: its places, and its runs, each a start and a
-/// length. A run covers one row of the last axis that a box doesn't cover whole, with all axes behind
-/// it, and of a list one tuple.
+/// What an indexer selects in a chunk of these sizes: its places, and its runs, each a start and a
+/// length. A run covers one row of the last axis that a box doesn't cover whole, with all axes
+/// behind it, and of a list one tuple.
 struct Row {
     name: &'static str,
     sizes: &'static [u64],
@@ -84,7 +84,7 @@ fn means(
     lists(rt, row.name, asked.runs(alloc, chunk), row.runs)
 }
 
-/// The row's indexer has an equal copy, and means the row's places.
+/// The row's indexer has an equal copy, and selects the row's places.
 fn covers(rt: &impl Abort, alloc: Global, row: &Row, asked: &Indexer) -> Result<(), CodecError> {
     gives(rt, row.name, asked.clone(), asked)?;
     let chunk = shape(alloc, row.sizes)?;
@@ -118,13 +118,13 @@ fn ones(alloc: Global, axes: usize) -> Result<ChunkShape, CodecError> {
 }
 
 /// All elements of a chunk of these sizes.
-fn whole(alloc: Global, sizes: &[u64]) -> Result<Indexer, CodecError> {
+fn select_all(alloc: Global, sizes: &[u64]) -> Result<Indexer, CodecError> {
     let subset = ArraySubset::new_with_shape(alloc, sizes.to_vec(alloc)?)?;
     Ok(Indexer::Subset(subset))
 }
 
 fn is_one_element(rt: &impl Abort, alloc: Global, chunk: &ChunkShape) -> Result<(), CodecError> {
-    let all = whole(alloc, chunk.as_slice())?;
+    let all = select_all(alloc, chunk.as_slice())?;
     means(rt, alloc, &ONE_ELEMENT, chunk, &all)
 }
 

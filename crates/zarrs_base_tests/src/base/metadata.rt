@@ -1,5 +1,6 @@
-//! Metadata and configurations of codecs: what is read and written again, compared as JSON text, and
-//! what is made by hand. What the line tool refuses of a header's codecs stands in its transcripts.
+//! Metadata and configurations of codecs: what is read and written again, compared as JSON text,
+//! and what is made by hand. What the line tool rejects of a header's codecs stands in its
+//! transcripts.
 
 use crate::base::checks::is;
 use serde_json::Value;
@@ -116,67 +117,82 @@ const ROWS: &'static [Row] = &[
     },
 ];
 
-fn metadata(alloc: Global, tree: &Value) -> Result<Value, PluginCreateError> {
+fn rewrite_metadata(alloc: Global, tree: &Value) -> Result<Value, PluginCreateError> {
     MetadataV3::from_value(alloc, tree)?.to_value(alloc)
 }
 
-fn transpose(alloc: Global, read: &Configuration) -> Result<Configuration, PluginCreateError> {
+fn rewrite_transpose(
+    alloc: Global,
+    read: &Configuration,
+) -> Result<Configuration, PluginCreateError> {
     let read = TransposeCodecConfiguration::from_configuration(alloc, read)?;
     read.to_configuration(alloc)
 }
 
-fn reshape(alloc: Global, read: &Configuration) -> Result<Configuration, PluginCreateError> {
+fn rewrite_reshape(
+    alloc: Global,
+    read: &Configuration,
+) -> Result<Configuration, PluginCreateError> {
     let read = ReshapeCodecConfiguration::from_configuration(alloc, read)?;
     read.to_configuration(alloc)
 }
 
-fn squeeze(alloc: Global, read: &Configuration) -> Result<Configuration, PluginCreateError> {
+fn rewrite_squeeze(
+    alloc: Global,
+    read: &Configuration,
+) -> Result<Configuration, PluginCreateError> {
     let read = SqueezeCodecConfiguration::from_configuration(read)?;
     Ok(read.to_configuration(alloc))
 }
 
-fn bytes(alloc: Global, read: &Configuration) -> Result<Configuration, PluginCreateError> {
+fn rewrite_bytes(alloc: Global, read: &Configuration) -> Result<Configuration, PluginCreateError> {
     let read = BytesCodecConfiguration::from_configuration(read)?;
     read.to_configuration(alloc)
 }
 
-fn packbits(alloc: Global, read: &Configuration) -> Result<Configuration, PluginCreateError> {
+fn rewrite_packbits(
+    alloc: Global,
+    read: &Configuration,
+) -> Result<Configuration, PluginCreateError> {
     let read = PackBitsCodecConfiguration::from_configuration(read)?;
     read.to_configuration(alloc)
 }
 
-fn vlen(alloc: Global, read: &Configuration) -> Result<Configuration, PluginCreateError> {
+fn rewrite_vlen(alloc: Global, read: &Configuration) -> Result<Configuration, PluginCreateError> {
     let read = VlenCodecConfiguration::from_configuration(alloc, read)?;
     read.to_configuration(alloc)
 }
 
-fn optional(alloc: Global, read: &Configuration) -> Result<Configuration, PluginCreateError> {
+fn rewrite_optional(
+    alloc: Global,
+    read: &Configuration,
+) -> Result<Configuration, PluginCreateError> {
     let read = OptionalCodecConfiguration::from_configuration(alloc, read)?;
     read.to_configuration(alloc)
 }
 
 /// What is written of a configuration that is read.
-fn configured(
+fn rewrite_configuration(
     alloc: Global,
     kind: Kind,
     read: &Configuration,
 ) -> Result<Configuration, PluginCreateError> {
     match kind {
-        Kind::Transpose => transpose(alloc, read),
-        Kind::Reshape => reshape(alloc, read),
-        Kind::Bytes => bytes(alloc, read),
-        Kind::PackBits => packbits(alloc, read),
-        Kind::Vlen => vlen(alloc, read),
-        Kind::Optional => optional(alloc, read),
-        _ => squeeze(alloc, read),
+        Kind::Transpose => rewrite_transpose(alloc, read),
+        Kind::Reshape => rewrite_reshape(alloc, read),
+        Kind::Bytes => rewrite_bytes(alloc, read),
+        Kind::PackBits => rewrite_packbits(alloc, read),
+        Kind::Vlen => rewrite_vlen(alloc, read),
+        Kind::Optional => rewrite_optional(alloc, read),
+        _ => rewrite_squeeze(alloc, read),
     }
 }
 
 /// What is written of a tree that is read.
-fn written(alloc: Global, kind: Kind, tree: &Value) -> Result<Value, PluginCreateError> {
+fn rewrite(alloc: Global, kind: Kind, tree: &Value) -> Result<Value, PluginCreateError> {
     match kind {
-        Kind::Metadata => metadata(alloc, tree),
-        _ => Ok(Value::Object(configured(alloc, kind, members(tree)?)?)),
+        Kind::Metadata => rewrite_metadata(alloc, tree),
+        _ => Ok(Value::Object(rewrite_configuration(alloc, kind, members(tree)?)?)),
     }
 }
 
@@ -207,7 +223,7 @@ fn comes_as(
 
 fn is_again(rt: &impl Abort, alloc: Global, row: &Row) -> Result<(), PluginCreateError> {
     let tree = tree(alloc, row.read)?;
-    comes_as(rt, alloc, written(alloc, row.kind, &tree), row.again)
+    comes_as(rt, alloc, rewrite(alloc, row.kind, &tree), row.again)
 }
 
 #[test]
@@ -240,7 +256,7 @@ const PACKBITS: Shown = Shown {
     text: r#"{"configuration":{"first_bit":2,"last_bit":null,"padding_encoding":"last_byte"},"must_understand":false,"name":"packbits"}"#,
 };
 
-fn packed(alloc: Global) -> Result<Configuration, PluginCreateError> {
+fn configure_packbits(alloc: Global) -> Result<Configuration, PluginCreateError> {
     let fields = PackBitsCodecConfiguration::V1(PackBitsCodecConfigurationV1 {
         padding_encoding: Some(PackBitsPaddingEncoding::LastByte),
         first_bit: Some(2),
@@ -249,8 +265,12 @@ fn packed(alloc: Global) -> Result<Configuration, PluginCreateError> {
     fields.to_configuration(alloc)
 }
 
-fn made_packbits(alloc: Global) -> Result<MetadataV3, PluginCreateError> {
-    let metadata = MetadataV3::new_with_configuration(alloc, "packbits", packed(alloc)?)?;
+fn make_packbits(alloc: Global) -> Result<MetadataV3, PluginCreateError> {
+    let metadata = MetadataV3::new_with_configuration(
+        alloc,
+        "packbits",
+        configure_packbits(alloc)?,
+    )?;
     Ok(metadata.with_must_understand(false))
 }
 
@@ -285,5 +305,5 @@ fn is_made_of_a_name(rt: HostRuntime) -> Result<(), PluginCreateError> {
 
 #[test]
 fn is_made_of_a_name_and_a_configuration(rt: HostRuntime) -> Result<(), PluginCreateError> {
-    shows(&rt, rt.alloc(), &made_packbits(rt.alloc())?, &PACKBITS)
+    shows(&rt, rt.alloc(), &make_packbits(rt.alloc())?, &PACKBITS)
 }

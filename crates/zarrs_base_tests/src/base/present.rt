@@ -69,7 +69,7 @@ const ROWS: &'static [Row] = &[
     },
 ];
 
-fn taken_out(alloc: Global, row: &Row, data_type: &DataType) -> Elements {
+fn take_out(alloc: Global, row: &Row, data_type: &DataType) -> Elements {
     match container(alloc, &row.elements) {
         Ok(elements) => elements.extract_present(alloc, row.mask, data_type),
         Err(cause) => Err(cause),
@@ -94,7 +94,7 @@ fn go_and_come(
         rt,
         alloc,
         row.name,
-        taken_out(alloc, row, data_type),
+        take_out(alloc, row, data_type),
         &row.present,
     )?;
     answers(

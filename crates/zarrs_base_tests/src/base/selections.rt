@@ -11,8 +11,8 @@ use zarrs_chunk::{ChunkShape, CodecError, Indexer};
 use zarrs_data_type::DataType;
 
 /// A chunk and its sizes, what is asked for, and what is selected of it; new elements for the same
-/// places, and the chunk afterwards. What is absent stands over its own element. Of a tuple that comes
-/// twice the last new element stands.
+/// places, and the chunk afterwards. Under a mask, an absent element has its own bytes too. Of a
+/// tuple that comes twice the last new element stands.
 struct Row {
     name: &'static str,
     data_type: Type,
@@ -131,67 +131,84 @@ const ROWS: &'static [Row] = &[
     },
 ];
 
-/// What is told of a chunk, and which of its elements are meant.
+/// The type and the shape of a chunk, and which of its elements are selected.
 #[derive(Drop)]
-struct Meant {
+struct Selection {
     data_type: DataType,
     shape: ChunkShape,
     at: Indexer,
 }
 
-fn meant_by(alloc: Global, row: &Row) -> Result<Meant, CodecError> {
-    Ok(Meant {
+fn make_selection(alloc: Global, row: &Row) -> Result<Selection, CodecError> {
+    Ok(Selection {
         data_type: data_type(alloc, &row.data_type)?,
         shape: shape(alloc, row.sizes)?,
         at: indexer(alloc, &row.at)?,
     })
 }
 
-fn selected(alloc: Global, row: &Row, meant: &Meant) -> Elements {
+fn select(alloc: Global, row: &Row, selection: &Selection) -> Elements {
     match container(alloc, &row.chunk) {
         Ok(chunk) => {
-            chunk.extract_array_subset(alloc, &meant.at, &meant.shape, &meant.data_type)
+            chunk.extract_array_subset(alloc, &selection.at, &selection.shape, &selection.data_type)
         }
         Err(cause) => Err(cause),
     }
 }
 
-fn updated_by(alloc: Global, row: &Row, meant: &Meant, new: &ArrayBytes<'static>) -> Elements {
+fn update_by(
+    alloc: Global,
+    row: &Row,
+    selection: &Selection,
+    new: &ArrayBytes<'static>,
+) -> Elements {
     match container(alloc, &row.chunk) {
         Ok(chunk) => {
-            update_array_bytes(alloc, chunk, &meant.shape, &meant.at, new, &meant.data_type)
+            update_array_bytes(
+                alloc,
+                chunk,
+                &selection.shape,
+                &selection.at,
+                new,
+                &selection.data_type,
+            )
         }
         Err(cause) => Err(cause),
     }
 }
 
-fn updated(alloc: Global, row: &Row, meant: &Meant) -> Elements {
+fn update(alloc: Global, row: &Row, selection: &Selection) -> Elements {
     match container(alloc, &row.new) {
-        Ok(new) => updated_by(alloc, row, meant, &new),
+        Ok(new) => update_by(alloc, row, selection, &new),
         Err(cause) => Err(cause),
     }
 }
 
-fn are_both(rt: &impl Abort, alloc: Global, row: &Row, meant: &Meant) -> Result<(), CodecError> {
+fn are_both(
+    rt: &impl Abort,
+    alloc: Global,
+    row: &Row,
+    selection: &Selection,
+) -> Result<(), CodecError> {
     answers(
         rt,
         alloc,
         row.name,
-        selected(alloc, row, meant),
+        select(alloc, row, selection),
         &row.selected,
     )?;
     answers(
         rt,
         alloc,
         row.name,
-        updated(alloc, row, meant),
+        update(alloc, row, selection),
         &row.updated,
     )
 }
 
 fn select_and_update(rt: &impl Abort, alloc: Global, row: &Row) -> Result<(), CodecError> {
-    let meant = meant_by(alloc, row)?;
-    are_both(rt, alloc, row, &meant)
+    let selection = make_selection(alloc, row)?;
+    are_both(rt, alloc, row, &selection)
 }
 
 #[test]
@@ -229,23 +246,23 @@ const UPDATED: Held = Held {
     offsets: None,
 };
 
-fn selected_in_runs(alloc: Global, word: &DataType) -> Elements {
+fn select_in_runs(alloc: Global, word: &DataType) -> Elements {
     match container(alloc, &WORDS) {
         Ok(chunk) => chunk.extract_runs(alloc, &[(3, 2), (0, 2), (0, 1)], 5, word),
         Err(cause) => Err(cause),
     }
 }
 
-fn updated_in_runs_by(alloc: Global, word: &DataType, new: &ArrayBytes<'static>) -> Elements {
+fn update_in_runs_by(alloc: Global, word: &DataType, new: &ArrayBytes<'static>) -> Elements {
     match container(alloc, &WORDS) {
         Ok(chunk) => update_runs(alloc, chunk, 5, &[(3, 2), (0, 1), (3, 1)], new, word),
         Err(cause) => Err(cause),
     }
 }
 
-fn updated_in_runs(alloc: Global, word: &DataType) -> Elements {
+fn update_in_runs(alloc: Global, word: &DataType) -> Elements {
     match container(alloc, &NEW) {
-        Ok(new) => updated_in_runs_by(alloc, word, &new),
+        Ok(new) => update_in_runs_by(alloc, word, &new),
         Err(cause) => Err(cause),
     }
 }
@@ -255,10 +272,10 @@ fn are_both_in_runs(rt: &impl Abort, alloc: Global, word: &DataType) -> Result<(
         rt,
         alloc,
         "selected",
-        selected_in_runs(alloc, word),
+        select_in_runs(alloc, word),
         &SELECTED,
     )?;
-    answers(rt, alloc, "updated", updated_in_runs(alloc, word), &UPDATED)
+    answers(rt, alloc, "updated", update_in_runs(alloc, word), &UPDATED)
 }
 
 #[test]

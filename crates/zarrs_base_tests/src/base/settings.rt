@@ -1,5 +1,5 @@
-//! Settings of codecs: orders of axes, sizes of a reshaped chunk, and where the offsets of `vlen` stand.
-//! What is read as one, and what is refused, is played in the transcripts of the tool.
+//! Settings of codecs: orders of axes, sizes of a reshaped chunk, and where the offsets of `vlen`
+//! stand. What is read as one, and what is rejected, is played in the transcripts of the tool.
 
 use crate::base::checks::{are, gives, is};
 use std::alloc::Global;
@@ -21,7 +21,7 @@ fn an_order_names_each_axis_once(rt: HostRuntime) -> Result<(), PluginCreateErro
 }
 
 /// The product of two input axes, the automatic size, and the size 10.
-fn reshaped(alloc: Global) -> Result<ReshapeShape, PluginCreateError> {
+fn make_sizes(alloc: Global) -> Result<ReshapeShape, PluginCreateError> {
     let mut dims = Vec::new(alloc);
     dims.push(ReshapeDim::InputDims([0, 1].to_vec(alloc)?))?;
     dims.push(ReshapeDim::Auto)?;
@@ -46,7 +46,7 @@ fn is_reshaped(rt: &impl Abort, made: &ReshapeShape) -> Result<(), PluginCreateE
 
 #[test]
 fn a_reshaped_chunk_has_its_sizes(rt: HostRuntime) -> Result<(), PluginCreateError> {
-    is_reshaped(&rt, &reshaped(rt.alloc())?)
+    is_reshaped(&rt, &make_sizes(rt.alloc())?)
 }
 
 #[test]

@@ -8,20 +8,19 @@ use Rattle.zarrs_data_type.specs.ElementType.{ElementType}
 use Rattle.zarrs_codec.specs.ArrayReader.{ArrayReader}
 use Rattle.zarrs_codec.specs.BytesToBytesCodec.{BytesCodecs}
 use Rattle.zarrs_codec.specs.StorageState.{are_sure, StorageState}
-use Rattle.zarrs_chain_laws.specs.Chain.{codec_reads}
-use Rattle.zarrs_chain_whole.specs.ChainView.{plain_vlen}
-use Rattle.zarrs_codec_chain.specs.ChunkRead.{codec_read, codec_rests_on}
-use Rattle.zarrs_chain_laws.specs.PlainChain.{PlainCodec}
+use Rattle.zarrs_chain_meaning.specs.Chain.{codec_reads}
+use Rattle.zarrs_chain.specs.ChainView.{plain_vlen}
+use Rattle.zarrs_codec_chain.specs.CodecPart.{codec_read, codec_rests_on}
+use Rattle.zarrs_chain_meaning.specs.PlainChain.{PlainCodec}
 use Rattle.zarrs_codec_chain.specs.declared.vlen.vlen_partial_decoder.VlenPartialDecoder.{VlenPartialDecoder}
 use Rattle.zarrs_array_bytes.specs.Elements.{select}
 use Rattle.zarrs_array_bytes.specs.Held.{Held}
 use Rattle.zarrs_array_bytes.specs.Validity.{Holds}
-use Rattle.zarrs_chain_laws.specs.Representation.{codec_representation}
-use Rattle.zarrs_chain_laws.specs.Stands.{CodecStands}
+use Rattle.zarrs_chain_meaning.specs.CodecMeaning.{codec_representation, CodecStands}
 use Rattle.zarrs_codec.specs.CodersOverHandles.{OnlyReads}
 use Rattle.zarrs_codec.specs.Refused.{outcome}
 use Rattle.zarrs_codec.specs.declared.refused.Refused.{Refused}
-use Rattle.zarrs_chain_whole.specs.declared.vlen.vlen_codec.VlenCodec.{VlenCodec}
+use Rattle.zarrs_chain.specs.declared.vlen.vlen_codec.VlenCodec.{VlenCodec}
 
 -- the chunk that is read: through which array-to-bytes codec, its sizes, its type and its fill value
 pub record CodecForm (B : Type 0) : Type 0 where

@@ -12,16 +12,17 @@ use Rattle.zarrs_array_bytes.specs.Held.{Held}
 use Rattle.zarrs_array_bytes.specs.Validity.{Holds}
 use Rattle.zarrs_codec.specs.BytesToBytesCodec.{BytesCodecs}
 use Rattle.zarrs_codec.specs.StorageState.{StorageState, are_sure}
-use Rattle.zarrs_chain_laws.specs.CallAnswers.{codec_represented}
-use Rattle.zarrs_chain_laws.specs.Chain.{codec_reads}
-use Rattle.zarrs_chain_laws.specs.Decode.{codec_chunk}
-use Rattle.zarrs_chain_laws.specs.vlen.PlainVlen.{plain_form}
-use Rattle.zarrs_chain_laws.specs.declared.vlen.plain_vlen.PlainVlen.{PlainVlen}
-use Rattle.zarrs_chain_whole.specs.ChainView.{plain_vlen}
-use Rattle.zarrs_chain_whole.specs.declared.vlen.vlen_codec.VlenCodec.{VlenCodec}
+use Rattle.zarrs_chain_meaning.specs.CallAnswers.{codec_represented}
+use Rattle.zarrs_chain_meaning.specs.Chain.{codec_reads}
+use Rattle.zarrs_chain_meaning.specs.CodecMeaning.{codec_chunk}
+use Rattle.zarrs_chain_meaning.specs.vlen.PlainVlen.{plain_form}
+use Rattle.zarrs_chain_meaning.specs.declared.vlen.plain_vlen.PlainVlen.{PlainVlen}
+use Rattle.zarrs_chain.specs.ChainView.{plain_vlen}
+use Rattle.zarrs_chain.specs.declared.vlen.vlen_codec.VlenCodec.{VlenCodec}
 use Rattle.zarrs_plain_vlen.specs.PlainRead.{plain_read}
 use Rattle.zarrs_plain_vlen.specs.VlenRead.{stored_rests_on}
-use Rattle.zarrs_codec_chain.specs.ChunkRead.{ReadsRuns, SureRuns, TakenBy, whole_read}
+use Rattle.zarrs_codec_chain.specs.ChunkRead.{ReadsRuns, SureRuns, TakenBy}
+use Rattle.zarrs_codec_chain.specs.PartRead.{whole_read}
 
 -- ---- which chunks the codec takes
 

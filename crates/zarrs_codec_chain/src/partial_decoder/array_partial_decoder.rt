@@ -3,14 +3,14 @@ ghost use Rattle.std.specs.Prelude.{◌≡◌, ◌&&◌, Ok, IfOk, is_some, true
 ghost use Rattle.std.proofs.Props.{props};
 ghost use Rattle.zarrs_array_bytes.specs.Tight.{IsTight};
 ghost use Rattle.zarrs_codec.specs.HandleCalls.{NeverFailsIf, Tells};
-ghost use Rattle.zarrs_chain_laws.specs.Chain.{chain_reads};
+ghost use Rattle.zarrs_chain_meaning.specs.Chain.{chain_reads};
 ghost use Rattle.zarrs_codec_chain.specs.ChunkSource.{source_made};
 ghost use Rattle.zarrs_codec_chain.specs.ElementCode.{Chunk-set};
 
 use crate::chunk_coder::ChunkCoder;
 use std::alloc::Global;
 use zarrs_array_bytes::ArrayBytes;
-use zarrs_chain_whole::CodecChain;
+use zarrs_chain::CodecChain;
 use zarrs_chunk::{ChunkShape, CodecError, Indexer};
 use zarrs_codec::{
     ArrayPartialDecoderTraits, ByteRange, BytesPartialDecoderTraits, BytesToBytesCodecTraits,

@@ -3,14 +3,14 @@ ghost use Rattle.std.specs.Prelude.{◌≡◌, ◌<◌, All, IfOk, IfSome, optio
 ghost use Rattle.zarrs_chunk.specs.Answer.{Gives};
 ghost use Rattle.zarrs_chunk.specs.Runs.{AreApart, places_in};
 ghost use Rattle.zarrs_chunk.specs.Tuples.{is_box_inside};
-ghost use Rattle.zarrs_chain_whole.specs.ChainView.{plain_chain};
+ghost use Rattle.zarrs_chain.specs.ChainView.{plain_chain};
 ghost use Rattle.zarrs_codec_chain.specs.ChunkRead.{chain_reads_places};
 
 use crate::chunk_coder::ChunkCoder;
 use crate::partial_decoder::codec_read::{codec_in_place, planned_runs, plans_reads};
 use std::alloc::Global;
 use zarrs_array_regions::region_runs;
-use zarrs_chain_whole::CodecChain;
+use zarrs_chain::CodecChain;
 use zarrs_chunk::{ArraySubset, CodecError, Indexer};
 use zarrs_codec::{ByteRange, BytesToBytesCodecTraits};
 

@@ -5,25 +5,26 @@ ghost use Rattle.zarrs_chunk.specs.ChunkShape.{product};
 ghost use Rattle.zarrs_chunk.specs.Runs.{joined_runs, AreApart};
 ghost use Rattle.zarrs_array_bytes.specs.Tight.{IsTight};
 ghost use Rattle.zarrs_codec.specs.StorageState.{after_reading};
-ghost use Rattle.zarrs_chain_laws.specs.Chain.{codec_reads as codec_reads_of};
-ghost use Rattle.zarrs_chain_whole.specs.ChainView.{plain_chain, plain_codec};
-ghost use Rattle.zarrs_codec_chain.specs.ChunkRead.{codec_plans, ReadsRuns, GivesRuns, chain_in_place};
+ghost use Rattle.zarrs_chain_meaning.specs.Chain.{codec_reads as codec_reads_of};
+ghost use Rattle.zarrs_chain.specs.ChainView.{plain_chain, plain_codec};
+ghost use Rattle.zarrs_codec_chain.specs.ChunkRead.{ReadsRuns, GivesRuns, chain_in_place};
+ghost use Rattle.zarrs_codec_chain.specs.CodecPart.{codec_plans};
 ghost use Rattle.zarrs_codec_chain.specs.CodecRead.{Takes, PlansRuns, codec_order, SureRead};
 
 use crate::vlen::vlen_runs::vlen_runs;
 use std::alloc::Global;
 use zarrs_array_bytes::ArrayBytes;
 use zarrs_bytes::BytesCodec;
-use zarrs_chain_whole::{ArrayToBytesCodec, CodecChain};
+use zarrs_chain::{ArrayToBytesCodec, CodecChain};
 use zarrs_chunk::{ChunkShape, CodecError};
 use zarrs_codec::{ByteRange, BytesPartialDecoderTraits, BytesToBytesCodecTraits};
 use zarrs_data_type::{DataType, FillValue};
-use zarrs_pieces::LentHandle;
+use zarrs_lent_handles::LentHandle;
 
 /// The elements at the places of these runs of a chunk that the codec takes, over a handle that
 /// keeps its bytes: the fill value at each place where nothing is stored. Errors: the codec's own;
 /// `OutOfMemory` and `Storage`, which may come before.
-#[tactic(auto, unfolding(zarrs_chain_whole::specs::ChainView::plain_codec), using(zarrs_chain_whole::specs::ChainView::plain_vlen_at, zarrs_chain_whole::specs::ChainView::plain_optional_at))]
+#[tactic(auto, unfolding(zarrs_chain::specs::ChainView::plain_codec), using(zarrs_chain::specs::ChainView::plain_vlen_at, zarrs_chain::specs::ChainView::plain_optional_at))]
 pub(crate) fn read_runs<H: BytesPartialDecoderTraits, B: BytesToBytesCodecTraits>(
     alloc: Global,
     codec: &ArrayToBytesCodec<B>,
@@ -85,7 +86,7 @@ pub(crate) fn read_runs_of_bytes<B: BytesToBytesCodecTraits>(
 
 /// Whether the bytes of a place are known before anything is read: they are over `bytes` and
 /// `packbits`.
-#[tactic(auto, unfolding(zarrs_chain_whole::specs::ChainView::plain_codec), using(zarrs_chain_whole::specs::ChainView::plain_vlen_at, zarrs_chain_whole::specs::ChainView::plain_optional_at))]
+#[tactic(auto, unfolding(zarrs_chain::specs::ChainView::plain_codec), using(zarrs_chain::specs::ChainView::plain_vlen_at, zarrs_chain::specs::ChainView::plain_optional_at))]
 pub(crate) fn plans_reads<B>(codec: &ArrayToBytesCodec<B>) -> bool
     ensures value { result ≡ codec_plans (plain_codec codec.now) }
 {
@@ -96,7 +97,7 @@ pub(crate) fn plans_reads<B>(codec: &ArrayToBytesCodec<B>) -> bool
 }
 
 /// The codec `bytes`, where this is one.
-#[tactic(auto, unfolding(zarrs_chain_whole::specs::ChainView::plain_codec), using(zarrs_chain_whole::specs::ChainView::plain_vlen_at, zarrs_chain_whole::specs::ChainView::plain_optional_at))]
+#[tactic(auto, unfolding(zarrs_chain::specs::ChainView::plain_codec), using(zarrs_chain::specs::ChainView::plain_vlen_at, zarrs_chain::specs::ChainView::plain_optional_at))]
 fn as_bytes<B>(codec: &ArrayToBytesCodec<B>) -> Option<&BytesCodec>
     ensures value { option_map (λ v. v.now) result ≡ codec_order codec.now }
 {
@@ -119,7 +120,7 @@ pub(crate) fn codec_in_place<B>(chain: &CodecChain<B>) -> Option<&BytesCodec>
 }
 
 /// The ranges of bytes that a read of these runs asks for. Errors: `OutOfMemory`.
-#[tactic(auto, unfolding(zarrs_chain_whole::specs::ChainView::plain_codec), using(zarrs_chain_whole::specs::ChainView::plain_vlen_at, zarrs_chain_whole::specs::ChainView::plain_optional_at))]
+#[tactic(auto, unfolding(zarrs_chain::specs::ChainView::plain_codec), using(zarrs_chain::specs::ChainView::plain_vlen_at, zarrs_chain::specs::ChainView::plain_optional_at))]
 pub(crate) fn planned_runs<B: BytesToBytesCodecTraits>(
     alloc: Global,
     codec: &ArrayToBytesCodec<B>,

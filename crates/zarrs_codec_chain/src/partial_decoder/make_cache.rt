@@ -5,8 +5,8 @@ ghost use Rattle.zarrs_chunk.specs.Answer.{is_fault, GivesItems};
 ghost use Rattle.zarrs_array_bytes.specs.Held.{items_of};
 ghost use Rattle.zarrs_array_bytes.specs.Tight.{IsTight};
 ghost use Rattle.zarrs_codec.specs.StorageState.{after_reading};
-ghost use Rattle.zarrs_chain_laws.specs.Chain.{codec_reads as codec_reads_of};
-ghost use Rattle.zarrs_chain_whole.specs.ChainView.{plain_chain};
+ghost use Rattle.zarrs_chain_meaning.specs.Chain.{codec_reads as codec_reads_of};
+ghost use Rattle.zarrs_chain.specs.ChainView.{plain_chain};
 ghost use Rattle.zarrs_codec_chain.specs.ChunkSource.{bytes_left, cache_stage as cache_stage_of, has_cache, is_kept, kept_stage, stage_by, is_stage_of, OpensChunk, FillsByReads, FillsCache, GivesCacheOf, OpensBytes};
 ghost use Rattle.zarrs_codec_chain.specs.CacheTight.{CacheIsTight};
 ghost use Rattle.zarrs_codec_chain.specs.CodecRead.{CodecTakes};
@@ -15,8 +15,8 @@ use crate::partial_decoder::cache::{Cache, CacheStage};
 use std::alloc::Global;
 use std::borrow::CowSlice;
 use zarrs_array_bytes::{ArrayBytes, ArrayBytesRaw};
-use zarrs_chain_whole::CodecChain;
-use zarrs_chain_whole::stages::{codec_decode, decode_bytes, outer_representation};
+use zarrs_chain::CodecChain;
+use zarrs_chain::stages::{codec_decode, decode_bytes, outer_representation};
 use zarrs_chunk::{ChunkShape, CodecError};
 use zarrs_codec::{
     BytesPartialDecoderTraits, BytesRepresentation, BytesToBytesCodecTraits, CodecTraits,

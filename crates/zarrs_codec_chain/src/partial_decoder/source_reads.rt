@@ -6,7 +6,7 @@ ghost use Rattle.zarrs_array_bytes.specs.Held.{items_of};
 ghost use Rattle.zarrs_codec.specs.Calls.{MakesReads};
 ghost use Rattle.zarrs_codec.specs.HandleCalls.{NeverFailsIf};
 ghost use Rattle.zarrs_codec.specs.StorageState.{after_reading};
-ghost use Rattle.zarrs_chain_whole.specs.ChainView.{plain_chain};
+ghost use Rattle.zarrs_chain.specs.ChainView.{plain_chain};
 ghost use Rattle.zarrs_codec_chain.specs.ChunkSource.{is_kept};
 ghost use Rattle.zarrs_codec_chain.specs.ChunkRead.{value_items};
 
@@ -18,7 +18,7 @@ use crate::partial_decoder::make_cache::{chunk_below as chunk_of_value, codec_re
 use std::alloc::Global;
 use std::borrow::CowSlice;
 use zarrs_array_bytes::{ArrayBytes, ArrayBytesRaw};
-use zarrs_chain_whole::stages::decode_bytes;
+use zarrs_chain::stages::decode_bytes;
 use zarrs_chunk::CodecError;
 use zarrs_codec::{BytesPartialDecoderTraits, BytesToBytesCodecTraits};
 

@@ -4,15 +4,15 @@ ghost use Rattle.zarrs_chunk.specs.Answer.{Answers, fault};
 ghost use Rattle.zarrs_array_bytes.specs.Tight.{IsTight};
 ghost use Rattle.zarrs_codec.specs.BytesToBytesCodec.{AreBytes};
 ghost use Rattle.zarrs_codec.specs.HandleCalls.{NeverFailsIf, Tells};
-ghost use Rattle.zarrs_chain_laws.specs.Chain.{chain_reads, chain_writes};
-ghost use Rattle.zarrs_chain_laws.specs.Laws.{IsChainOfMappings};
+ghost use Rattle.zarrs_chain_meaning.specs.Chain.{chain_reads, chain_writes};
+ghost use Rattle.zarrs_chain_meaning.specs.Laws.{IsChainOfMappings};
 
 use crate::chunk_coder::ChunkCoder;
 use crate::partial_decoder::array_partial_decoder::ArrayPartialDecoder;
 use std::alloc::Global;
 use zarrs_array_bytes::ArrayBytes;
-use zarrs_chain_laws::machine_bytes::bytes_are;
-use zarrs_chain_whole::CodecChain;
+use zarrs_chain::CodecChain;
+use zarrs_chain_meaning::machine_bytes::bytes_are;
 use zarrs_chunk::{ChunkShape, CodecError, Indexer};
 use zarrs_codec::{
     ArrayPartialDecoderTraits, ArrayPartialEncoderTraits, ByteRange, BytesPartialEncoderTraits,

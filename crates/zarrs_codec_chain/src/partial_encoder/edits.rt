@@ -6,7 +6,7 @@ ghost use Rattle.zarrs_codec_chain.specs.PartialEncoder.{EncoderEdits, EncoderKe
 use crate::partial_encoder::array_partial_encoder::ArrayPartialEncoder;
 use std::alloc::Global;
 use zarrs_array_bytes::ArrayBytes;
-use zarrs_chain_laws::machine_bytes::elements_are_bytes;
+use zarrs_chain_meaning::machine_bytes::elements_are_bytes;
 use zarrs_chunk::{CodecError, Indexer};
 use zarrs_codec::{BytesPartialEncoderTraits, BytesToBytesCodecTraits};
 

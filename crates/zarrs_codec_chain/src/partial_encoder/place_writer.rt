@@ -9,7 +9,7 @@ ghost use Rattle.zarrs_chunk.specs.Tuples.{is_box_inside};
 ghost use Rattle.zarrs_codec.specs.CodersOverHandles.{HandleWrites};
 ghost use Rattle.zarrs_codec_chain.specs.ChunkWrite.{FitsPlacesIn, FitsRuns, LendsData};
 ghost use Rattle.zarrs_bytes.specs.PartialWrite.{FailsByWriting};
-ghost use Rattle.zarrs_chain_whole.specs.ChainView.{plain_chain};
+ghost use Rattle.zarrs_chain.specs.ChainView.{plain_chain};
 ghost use Rattle.zarrs_codec_chain.specs.ChunkCalls.{ReplacesPlaces, ReplacesSelected};
 ghost use Rattle.zarrs_codec_chain.specs.ChunkRead.{form_in_place, standing_places};
 

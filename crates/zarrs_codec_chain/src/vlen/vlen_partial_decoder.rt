@@ -5,15 +5,15 @@ ghost use Rattle.zarrs_chunk.specs.Indexer.{selection_of};
 ghost use Rattle.zarrs_data_type.specs.FillValue.{fill_fits};
 ghost use Rattle.zarrs_array_bytes.specs.Tight.{IsTight};
 ghost use Rattle.zarrs_codec.specs.HandleCalls.{NeverFailsIf, Tells};
-ghost use Rattle.zarrs_chain_laws.specs.Chain.{codec_reads};
-ghost use Rattle.zarrs_chain_whole.specs.ChainView.{plain_vlen};
-ghost use Rattle.zarrs_chain_laws.specs.Representation.{codec_representation};
+ghost use Rattle.zarrs_chain_meaning.specs.Chain.{codec_reads};
+ghost use Rattle.zarrs_chain.specs.ChainView.{plain_vlen};
+ghost use Rattle.zarrs_chain_meaning.specs.CodecMeaning.{codec_representation};
 
 use crate::vlen::vlen_runs::vlen_runs;
 use std::alloc::Global;
 use zarrs_array_bytes::ArrayBytes;
-use zarrs_chain_whole::VlenCodec;
-use zarrs_chain_whole::stages::vlen_is_sound;
+use zarrs_chain::VlenCodec;
+use zarrs_chain::stages::vlen_is_sound;
 use zarrs_chunk::{ChunkShape, CodecError, Indexer};
 use zarrs_codec::{
     ArrayPartialDecoderTraits, BytesPartialDecoderTraits, BytesToBytesCodecTraits, CodecTraits,

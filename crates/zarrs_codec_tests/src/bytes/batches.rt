@@ -3,7 +3,7 @@
 use crate::bytes::checks::Answer;
 use crate::bytes::forms::{Asked, Form, WORDS, decoder};
 use crate::bytes::parts::reads_part;
-use crate::bytes::widths::numbered;
+use crate::bytes::widths::number_bytes;
 use Asked::Numbers;
 use std::alloc::Global;
 use std::process::Abort;
@@ -86,14 +86,11 @@ fn words(alloc: Global, places: &[u64]) -> Result<Vec<u8>, CodecError> {
 }
 
 /// A decoder over a value of so many bytes, 0, 1, 2 and so on.
-fn numbered_decoder(
-    alloc: Global,
-    bytes: u64,
-) -> Result<BytesCodecPartial<MemoryHandle>, CodecError> {
+fn make_decoder(alloc: Global, bytes: u64) -> Result<BytesCodecPartial<MemoryHandle>, CodecError> {
     decoder(
         alloc,
         &FORM,
-        MemoryHandle::with_value(numbered(alloc, 1, bytes)?),
+        MemoryHandle::with_value(number_bytes(alloc, 1, bytes)?),
     )
 }
 
@@ -106,7 +103,7 @@ fn reads_over(
     bytes: u64,
     wanted: Answer<'_>,
 ) -> Result<(), CodecError> {
-    let mut decoder = numbered_decoder(alloc, bytes)?;
+    let mut decoder = make_decoder(alloc, bytes)?;
     reads_part(rt, row.name, alloc, &mut decoder, Numbers(places), wanted)
 }
 

@@ -10,10 +10,10 @@ pub(crate) fn is<T: PartialEq + Debug>(rt: &impl Abort, name: &str, came: &T, wa
     assert_eq!(rt; *came, *wanted, "{name}");
 }
 
-/// Bytes, or a refusal.
+/// Bytes, or an error.
 pub(crate) type Answer<'a> = Result<&'a [u8], CodecError>;
 
-/// These bytes are answered, or this refusal. A want of memory is an error of the test.
+/// The answer is these bytes, or this error. A lack of memory is an error of the test.
 pub(crate) fn answers(
     rt: &impl Abort,
     name: &str,
@@ -27,7 +27,7 @@ pub(crate) fn answers(
     Ok(())
 }
 
-/// A call is refused for this cause, or for none. A want of memory is an error of the test.
+/// A call fails with this error, or succeeds. A lack of memory is an error of the test.
 pub(crate) fn refuses(
     rt: &impl Abort,
     name: &str,

@@ -1,4 +1,4 @@
-//! The codec by itself: its byte orders, what it tells of itself, and how long its values are.
+//! The codec by itself: its byte orders, what it reports of itself, and how long its values are.
 
 use crate::bytes::checks::is;
 use crate::bytes::forms::{BIG, ChunkForm, Form, LITTLE, PAIR, WORDS, chunk_form};
@@ -24,7 +24,7 @@ const WRITES_IN_PART: PartialEncoderCapability = PartialEncoderCapability {
     partial_encode: true,
 };
 
-/// What a codec that reads and writes in part tells of itself.
+/// What a codec that reads and writes in part reports of itself.
 fn tells<C: ArrayCodecTraits>(rt: &impl Abort, codec: &C) {
     is(rt, "name", &codec.name_v3(), &Some("bytes"));
     let reading = codec.partial_decoder_capability();
@@ -111,8 +111,8 @@ fn is_not_shorter(
     is(rt, row.name, &came.err(), &row.bytes.err());
 }
 
-/// How many bytes the value has, that no value is made shorter, and that a chunk is best decoded whole, as
-/// any codec of chunks tells.
+/// How many bytes the value has, that no value is made shorter, and that a chunk is best decoded
+/// whole, as any codec of chunks reports it.
 fn tells_of<C: ArrayCodecTraits + ArrayToBytesCodecTraits>(
     rt: &impl Abort,
     alloc: Global,

@@ -1,7 +1,7 @@
 //! Reads over a handle that fails in the middle.
 
 use crate::bytes::checks::is;
-use crate::bytes::forms::{Asked, Form, PAIR, THREE, decoder, repeated};
+use crate::bytes::forms::{Asked, Form, PAIR, THREE, decoder, repeat};
 use crate::bytes::parts::{plans, reads_part};
 use Asked::Ranges;
 use std::alloc::Global;
@@ -12,7 +12,7 @@ use zarrs_chunk::{CodecError, StorageError};
 use zarrs_codec::testing::FailingHandle;
 
 /// What the call of this number answers, where it is the one that fails.
-fn failed(call: u32) -> CodecError {
+fn make_error(call: u32) -> CodecError {
     CodecError::Storage(StorageError { code: call })
 }
 
@@ -87,10 +87,10 @@ const ROWS: &'static [Row] = &[
 type Decoder = BytesCodecPartial<FailingHandle>;
 
 /// A decoder over a handle of which one call fails.
-fn failing(alloc: Global, row: &Row) -> Result<Decoder, CodecError> {
+fn make_decoder(alloc: Global, row: &Row) -> Result<Decoder, CodecError> {
     let value = match row.parts {
         0 => None,
-        parts => Some(repeated(alloc, row.part, parts)?),
+        parts => Some(repeat(alloc, row.part, parts)?),
     };
     let handle = FailingHandle::new(value, row.call);
     decoder(alloc, &row.form, handle)
@@ -105,9 +105,9 @@ fn reads_twice(
     elements: &[u8],
 ) -> Result<(), CodecError> {
     let (first, second) = if row.fails_first {
-        (Err(failed(row.call)), Ok(elements))
+        (Err(make_error(row.call)), Ok(elements))
     } else {
-        (Ok(elements), Err(failed(row.call)))
+        (Ok(elements), Err(make_error(row.call)))
     };
     reads_part(rt, row.name, alloc, decoder, Ranges(row.ranges), first)?;
     reads_part(rt, row.name, alloc, decoder, Ranges(row.ranges), second)
@@ -119,12 +119,12 @@ fn reads(
     decoder: &mut Decoder,
     row: &Row,
 ) -> Result<(), CodecError> {
-    let elements = repeated(alloc, row.element, row.elements)?;
+    let elements = repeat(alloc, row.element, row.elements)?;
     reads_twice(rt, alloc, decoder, row, elements.as_slice())
 }
 
 fn fails_once(rt: &impl Abort, alloc: Global, row: &Row) -> Result<(), CodecError> {
-    let mut decoder = failing(alloc, row)?;
+    let mut decoder = make_decoder(alloc, row)?;
     reads(rt, alloc, &mut decoder, row)?;
     is(rt, row.name, &decoder.into_handle().faults(), &1);
     Ok(())
@@ -156,13 +156,13 @@ fn is_not_asked_in_vain(
         Ranges(&[0..1]),
         Ok(&[(0, 2)]),
     )?;
-    is(rt, "there", &decoder.exists(), &Err(failed(1)));
+    is(rt, "there", &decoder.exists(), &Err(make_error(1)));
     is(rt, "there again", &decoder.exists(), &Ok(true));
     Ok(())
 }
 
 #[test]
 fn an_indexer_is_refused_before_the_handle_is_asked(rt: HostRuntime) -> Result<(), CodecError> {
-    let mut decoder = failing(rt.alloc(), &ROWS[0])?;
+    let mut decoder = make_decoder(rt.alloc(), &ROWS[0])?;
     is_not_asked_in_vain(&rt, rt.alloc(), &mut decoder)
 }

@@ -57,7 +57,7 @@ pub(crate) const FOUR_WORDS: Form<'static> = Form {
     ..WORDS
 };
 
-/// What a codec is told of a chunk.
+/// What a codec needs to know of a chunk.
 #[derive(Drop)]
 pub(crate) struct ChunkForm {
     pub(crate) shape: ChunkShape,
@@ -76,7 +76,7 @@ pub(crate) fn chunk_form(alloc: Global, form: &Form<'_>) -> Result<ChunkForm, Co
     })
 }
 
-fn made_decoder<H: BytesPartialDecoderTraits>(
+fn make_decoder<H: BytesPartialDecoderTraits>(
     alloc: Global,
     form: &ChunkForm,
     handle: H,
@@ -85,7 +85,7 @@ fn made_decoder<H: BytesPartialDecoderTraits>(
     BytesCodec::big().partial_decoder(alloc, handle, shape, data_type, fill_value)
 }
 
-fn made_encoder<H: BytesPartialEncoderTraits>(
+fn make_encoder<H: BytesPartialEncoderTraits>(
     alloc: Global,
     form: &ChunkForm,
     handle: H,
@@ -102,7 +102,7 @@ pub(crate) fn decoder<H: BytesPartialDecoderTraits + Drop>(
     handle: H,
 ) -> Result<BytesCodecPartial<H>, CodecError> {
     let form = chunk_form(alloc, form)?;
-    match made_decoder(alloc, &form, handle) {
+    match make_decoder(alloc, &form, handle) {
         Ok(decoder) => Ok(decoder),
         Err(refused) => Err(refused.error),
     }
@@ -115,13 +115,14 @@ pub(crate) fn encoder<H: BytesPartialEncoderTraits + Drop>(
     handle: H,
 ) -> Result<BytesCodecPartial<H>, CodecError> {
     let form = chunk_form(alloc, form)?;
-    match made_encoder(alloc, &form, handle) {
+    match make_encoder(alloc, &form, handle) {
         Ok(encoder) => Ok(encoder),
         Err(refused) => Err(refused.error),
     }
 }
 
-/// Which elements are meant: those of ranges, those of tuples, or those with numbers on the only axis.
+/// Which elements are selected: those of ranges, those of tuples, or those with numbers on the only
+/// axis.
 #[derive(Clone, Copy)]
 pub(crate) enum Asked<'a> {
     Ranges(&'a [Range<u64>]),
@@ -129,7 +130,7 @@ pub(crate) enum Asked<'a> {
     Numbers(&'a [u64]),
 }
 
-fn listed(alloc: Global, tuples: &[&[u64]]) -> Result<Indexer, CodecError> {
+fn list_tuples(alloc: Global, tuples: &[&[u64]]) -> Result<Indexer, CodecError> {
     let mut indices = Vec::new(alloc);
     for tuple in tuples {
         indices.push(tuple.to_vec(alloc)?)?;
@@ -137,7 +138,7 @@ fn listed(alloc: Global, tuples: &[&[u64]]) -> Result<Indexer, CodecError> {
     Ok(Indexer::Indices(indices))
 }
 
-fn numbered(alloc: Global, numbers: &[u64]) -> Result<Indexer, CodecError> {
+fn list_numbers(alloc: Global, numbers: &[u64]) -> Result<Indexer, CodecError> {
     let mut indices = Vec::new(alloc);
     for number in numbers {
         indices.push(vec![in alloc; *number]?)?;
@@ -148,13 +149,13 @@ fn numbered(alloc: Global, numbers: &[u64]) -> Result<Indexer, CodecError> {
 pub(crate) fn indexer(alloc: Global, asked: Asked<'_>) -> Result<Indexer, CodecError> {
     match asked {
         Asked::Ranges(ranges) => Ok(Indexer::Subset(ArraySubset::new_with_ranges(alloc, ranges)?)),
-        Asked::Tuples(tuples) => listed(alloc, tuples),
-        Asked::Numbers(numbers) => numbered(alloc, numbers),
+        Asked::Tuples(tuples) => list_tuples(alloc, tuples),
+        Asked::Numbers(numbers) => list_numbers(alloc, numbers),
     }
 }
 
 /// A handle in memory over this value, or over none.
-pub(crate) fn stored(alloc: Global, value: Option<&[u8]>) -> Result<MemoryHandle, CodecError> {
+pub(crate) fn store(alloc: Global, value: Option<&[u8]>) -> Result<MemoryHandle, CodecError> {
     match value {
         None => Ok(MemoryHandle::new()),
         Some(value) => Ok(MemoryHandle::with_value(value.to_vec(alloc)?)),
@@ -162,7 +163,7 @@ pub(crate) fn stored(alloc: Global, value: Option<&[u8]>) -> Result<MemoryHandle
 }
 
 /// The bytes so many times, one after another.
-pub(crate) fn repeated(alloc: Global, part: &[u8], count: u64) -> Result<Vec<u8>, CodecError> {
+pub(crate) fn repeat(alloc: Global, part: &[u8], count: u64) -> Result<Vec<u8>, CodecError> {
     let mut bytes = Vec::new(alloc);
     for _copy in 0..count {
         bytes.extend_from_slice(part)?;

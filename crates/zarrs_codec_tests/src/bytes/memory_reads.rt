@@ -1,7 +1,7 @@
 //! The handle in memory, and one that is lent, in reading.
 
 use crate::bytes::checks::{is, refuses};
-use crate::bytes::forms::{byte_ranges, stored};
+use crate::bytes::forms::{byte_ranges, store};
 use std::alloc::Global;
 use std::process::Abort;
 use zarrs_chunk::CodecError;
@@ -9,10 +9,10 @@ use zarrs_codec::{ByteRange, BytesPartialDecoderTraits};
 
 const LAST: u64 = 18446744073709551615;
 
-/// Bytes, or none, or a refusal.
+/// Bytes, or none, or an error.
 type Answer<'a> = Result<Option<&'a [u8]>, CodecError>;
 
-/// This is answered. A want of memory is an error of the test.
+/// This is answered. A lack of memory is an error of the test.
 pub(crate) fn answers_value(
     rt: &impl Abort,
     name: &str,
@@ -82,7 +82,7 @@ const ROWS: &'static [Row] = &[
     },
 ];
 
-/// What a handle over the row's value tells.
+/// What a handle over the row's value reports.
 fn tells<H: BytesPartialDecoderTraits>(rt: &impl Abort, handle: &mut H, row: &Row) {
     let size = row.value.map(|value| value.len() as u64);
     let held = row.value.unwrap_or(&[]).len();
@@ -117,7 +117,7 @@ fn reads(
     ranges: &[ByteRange],
     row: &Row,
 ) -> Result<(), CodecError> {
-    let mut handle = stored(alloc, row.value)?;
+    let mut handle = store(alloc, row.value)?;
     asks(rt, alloc, &mut &mut handle, ranges, row)?;
     answers_value(rt, row.name, Ok(handle.into_value()), Ok(row.value))
 }

@@ -1,7 +1,7 @@
 //! The handle in memory, and one that is lent, in writing.
 
 use crate::bytes::checks::{Answer, is, refuses};
-use crate::bytes::forms::stored;
+use crate::bytes::forms::store;
 use crate::bytes::memory_reads::answers_value;
 use CodecError::{InvalidBytesLength, Overflow};
 use std::alloc::Global;
@@ -87,7 +87,7 @@ const ROWS: &'static [Row] = &[
     },
 ];
 
-/// A write of the row's pieces: why it is refused, where it is.
+/// A write of the row's pieces: the error it fails with, if any.
 fn write<H: BytesPartialEncoderTraits>(
     alloc: Global,
     handle: &mut H,
@@ -97,7 +97,7 @@ fn write<H: BytesPartialEncoderTraits>(
     answer.err()
 }
 
-/// What a call leaves. It counts. Where it is refused, for want of memory too, the old value is there.
+/// What a call leaves. It counts. Where it fails, out of memory too, the old value is there.
 fn leaves(
     rt: &impl Abort,
     handle: &MemoryHandle,
@@ -115,7 +115,7 @@ fn leaves(
 
 /// The handle is lent to the call.
 fn writes(rt: &impl Abort, alloc: Global, row: &Row) -> Result<(), CodecError> {
-    let mut handle = stored(alloc, row.value)?;
+    let mut handle = store(alloc, row.value)?;
     let refusal = write(alloc, &mut &mut handle, row);
     leaves(rt, &handle, refusal, row)
 }
@@ -143,7 +143,7 @@ fn replaces<H: BytesPartialEncoderTraits>(
     answers_value(rt, "shorter", handle.decode(alloc), Ok(Some(&[4])))
 }
 
-/// What a handle tells of its writing. Its value is erased, and nothing is erased.
+/// What a handle reports of its writing. Its value is erased, and nothing is erased.
 fn erases<H: BytesPartialEncoderTraits>(rt: &impl Abort, handle: &mut H) {
     is(rt, "in part", &handle.supports_partial_encode(), &true);
     is(rt, "atomic", &handle.is_atomic(), &true);
@@ -164,6 +164,6 @@ fn counts(rt: &impl Abort, alloc: Global, handle: &mut MemoryHandle) -> Result<(
 
 #[test]
 fn each_writing_call_counts(rt: HostRuntime) -> Result<(), CodecError> {
-    let mut handle = stored(rt.alloc(), Some(&[9, 9]))?;
+    let mut handle = store(rt.alloc(), Some(&[9, 9]))?;
     counts(&rt, rt.alloc(), &mut handle)
 }

@@ -1,9 +1,9 @@
-//! Chunks that are read in part: the ranges of bytes that a read plans, fill values, and what a decoder
-//! tells of its handle.
+//! Chunks that are read in part: the ranges of bytes that a read plans, fill values, and what a
+//! decoder reports of its handle.
 
 use crate::bytes::checks::{Answer, answers, is, refuses};
 use crate::bytes::forms::{
-    Asked, FOUR, FOUR_WORDS, Form, PAIR, THREE, WORDS, decoder, indexer, repeated, stored,
+    Asked, FOUR, FOUR_WORDS, Form, PAIR, THREE, WORDS, decoder, indexer, repeat, store,
 };
 use Asked::{Ranges, Tuples};
 use CodecError::{IncompatibleDimensionality, OutOfBounds};
@@ -40,7 +40,7 @@ fn part<H: BytesPartialDecoderTraits>(
     }
 }
 
-/// A read by a decoder is answered with these bytes, or is refused.
+/// A read by a decoder is answered with these bytes, or fails with this error.
 pub(crate) fn reads_part<H: BytesPartialDecoderTraits>(
     rt: &impl Abort,
     name: &str,
@@ -53,7 +53,7 @@ pub(crate) fn reads_part<H: BytesPartialDecoderTraits>(
 }
 
 /// The ranges of bytes that such a read asks for.
-fn planned<H: BytesPartialDecoderTraits>(
+fn plan_ranges<H: BytesPartialDecoderTraits>(
     alloc: Global,
     decoder: &BytesCodecPartial<H>,
     asked: Asked<'_>,
@@ -168,7 +168,7 @@ pub(crate) fn plans<H: BytesPartialDecoderTraits>(
     asked: Asked<'_>,
     wanted: Result<&[(u64, u64)], CodecError>,
 ) -> Result<(), CodecError> {
-    match planned(alloc, decoder, asked) {
+    match plan_ranges(alloc, decoder, asked) {
         Ok(ranges) => {
             have_ends(rt, name, ranges.as_slice(), wanted.unwrap_or(&[]));
             refuses(rt, name, None, wanted.err())
@@ -225,7 +225,7 @@ fn reads_fill_of(
     row: &Fill,
     count: u64,
 ) -> Result<(), CodecError> {
-    let wanted = repeated(alloc, row.fill, count.saturating_mul(3))?;
+    let wanted = repeat(alloc, row.fill, count.saturating_mul(3))?;
     let asked = Ranges(&[0..3, 0..count]);
     reads_part(rt, row.name, alloc, decoder, asked, Ok(wanted.as_slice()))
 }
@@ -261,8 +261,8 @@ fn reads_the_fill_value_of_each_width(rt: HostRuntime) -> Result<(), CodecError>
     Ok(())
 }
 
-/// What a decoder of three words tells: it keeps what its handle keeps, and no more. The last two are
-/// read.
+/// What a decoder of three words reports: it keeps what its handle keeps, and no more. The last two
+/// are read.
 fn answers_all<H: BytesPartialDecoderTraits>(
     rt: &impl Abort,
     alloc: Global,
@@ -294,7 +294,7 @@ fn reads_over<H: BytesPartialDecoderTraits + Drop>(
 
 #[test]
 fn borrows_or_owns_its_handle(rt: HostRuntime) -> Result<(), CodecError> {
-    let mut handle = stored(rt.alloc(), Some(&[1, 2, 3, 4, 5, 6]))?;
+    let mut handle = store(rt.alloc(), Some(&[1, 2, 3, 4, 5, 6]))?;
     reads_over(&rt, rt.alloc(), &mut handle)?;
     reads_over(&rt, rt.alloc(), handle)
 }

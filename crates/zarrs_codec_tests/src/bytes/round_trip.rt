@@ -17,7 +17,7 @@ use zarrs_data_type::{DataType, FillValue};
 
 /// The elements, encoded and decoded again. Both hold one chunk: the value that is written for it
 /// stands for it.
-fn there_and_back(
+fn encode_and_decode(
     alloc: Global,
     codec: BytesCodec,
     elements: ArrayBytes<'static>,
@@ -33,13 +33,13 @@ fn there_and_back(
 }
 
 /// The same of a chunk, by the codec that writes the highest byte first.
-fn back(
+fn encode_and_decode_big(
     alloc: Global,
     elements: ArrayBytes<'static>,
     form: &ChunkForm,
 ) -> Result<ArrayBytes<'static>, CodecError> {
     let codec = BytesCodec::big();
-    there_and_back(
+    encode_and_decode(
         alloc,
         codec,
         elements,
@@ -52,7 +52,7 @@ fn back(
 fn comes_back(rt: &impl Abort, alloc: Global, form: &ChunkForm) -> Result<(), CodecError> {
     let memory: &'static [u8] = &[1, 2, 3, 4, 5, 6, 7, 8];
     let elements = ArrayBytes::new_flen(CowSlice::Borrowed(memory));
-    match back(alloc, elements, form) {
+    match encode_and_decode_big(alloc, elements, form) {
         Ok(elements) => answers(rt, "back", elements.as_fixed(), Ok(memory)),
         Err(cause) => Err(cause),
     }

@@ -1,7 +1,7 @@
-//! The sample codecs of bytes, called as any codec of bytes is.
+//! The sample bytes-to-bytes codecs, called as any such codec is.
 
 use crate::bytes::checks::is;
-use crate::bytes::whole::{is_coded, raw};
+use crate::bytes::whole::{is_coded, make_raw};
 use BytesRepresentation::{BoundedSize, FixedSize, UnboundedSize};
 use SampleBytesCodec::{Length, Reverse};
 use std::alloc::Global;
@@ -51,7 +51,7 @@ fn codes<C: BytesToBytesCodecTraits>(
 
 /// Encoded bytes that are owned.
 fn decodes_owned(rt: &impl Abort, alloc: Global, row: &Coded) -> Result<(), CodecError> {
-    let owned = raw(alloc, row.encoded, true)?;
+    let owned = make_raw(alloc, row.encoded, true)?;
     let decoded = BytesToBytesCodecTraits::decode(&row.codec, alloc, owned, &UnboundedSize);
     is_coded(rt, row.name, decoded, Ok(row.bytes))
 }
@@ -121,7 +121,7 @@ const WRITES_WHOLE: PartialEncoderCapability = PartialEncoderCapability {
     partial_encode: false,
 };
 
-/// What a codec tells without any bytes.
+/// What a codec reports without any bytes.
 fn tells<C: BytesToBytesCodecTraits>(rt: &impl Abort, codec: &C, row: &Represented) {
     let encoded = codec.encoded_representation(&row.bytes);
     is(rt, row.name, &encoded, &row.encoded);

@@ -57,7 +57,7 @@ fn decodes_into<C: ArrayToBytesCodecTraits>(
     answer.err()
 }
 
-/// What the elements' view has afterwards. Where the call is refused, it has zeros as before.
+/// What the elements' view has afterwards. Where the call fails, it has zeros as before.
 fn leaves(
     rt: &impl Abort,
     view: &ArrayBytesFixedView<'_>,

@@ -13,7 +13,7 @@ use zarrs_codec::{
 
 const FIVE: &'static [u8] = &[1, 2, 3, 4, 5];
 
-/// Why the call of this number is refused, where it is: four calls that read, then three that write.
+/// The error of the call of this number, if it fails: four calls that read, then three that write.
 fn refusal<H: BytesPartialEncoderTraits>(
     alloc: Global,
     handle: &mut H,
@@ -158,7 +158,7 @@ fn a_torn_handle_leaves_half_of_a_value(rt: HostRuntime) -> Result<(), CodecErro
     Ok(())
 }
 
-/// No call is refused.
+/// No call fails.
 fn passes<H: BytesPartialEncoderTraits>(
     rt: &impl Abort,
     alloc: Global,
@@ -266,7 +266,7 @@ fn reads_inside(
     Ok(())
 }
 
-fn fenced(alloc: Global, value: &[u8], ranges: &[(u64, u64)]) -> Result<FencedHandle, CodecError> {
+fn fence(alloc: Global, value: &[u8], ranges: &[(u64, u64)]) -> Result<FencedHandle, CodecError> {
     Ok(FencedHandle::new(value.to_vec(alloc)?, byte_ranges(alloc, ranges)?))
 }
 
@@ -274,7 +274,7 @@ fn fenced(alloc: Global, value: &[u8], ranges: &[(u64, u64)]) -> Result<FencedHa
 fn a_fenced_handle_reads_inside_its_ranges(rt: HostRuntime) -> Result<(), CodecError> {
     for row in READS.iter() {
         let ranges = byte_ranges(rt.alloc(), row.ranges)?;
-        let mut handle = fenced(rt.alloc(), FIVE, &[(3, 5), (8, 10), (1, 3)])?;
+        let mut handle = fence(rt.alloc(), FIVE, &[(3, 5), (8, 10), (1, 3)])?;
         reads_inside(&rt, rt.alloc(), &mut handle, ranges.as_slice(), row)?;
     }
     Ok(())
@@ -282,9 +282,9 @@ fn a_fenced_handle_reads_inside_its_ranges(rt: HostRuntime) -> Result<(), CodecE
 
 #[test]
 fn a_fenced_handle_reads_a_whole_value_inside(rt: HostRuntime) -> Result<(), CodecError> {
-    let mut handle = fenced(rt.alloc(), FIVE, &[(2, 9), (0, 2)])?;
+    let mut handle = fence(rt.alloc(), FIVE, &[(2, 9), (0, 2)])?;
     answers_value(&rt, "inside", handle.decode(rt.alloc()), Ok(Some(FIVE)))?;
-    let mut handle = fenced(rt.alloc(), FIVE, &[(0, 4)])?;
+    let mut handle = fence(rt.alloc(), FIVE, &[(0, 4)])?;
     let failed = Err(CodecError::Storage(StorageError { code: 1 }));
     answers_value(&rt, "outside", handle.decode(rt.alloc()), failed)
 }
@@ -292,7 +292,7 @@ fn a_fenced_handle_reads_a_whole_value_inside(rt: HostRuntime) -> Result<(), Cod
 // The middle word of three is read where its bytes alone can be.
 #[test]
 fn a_read_in_part_asks_for_the_bytes_of_its_places(rt: HostRuntime) -> Result<(), CodecError> {
-    let handle = fenced(rt.alloc(), &[1, 2, 3, 4, 5, 6], &[(2, 4)])?;
+    let handle = fence(rt.alloc(), &[1, 2, 3, 4, 5, 6], &[(2, 4)])?;
     let mut decoder = decoder(rt.alloc(), &THREE, handle)?;
     let asked = Asked::Ranges(&[1..2]);
     reads_part(

@@ -1,4 +1,4 @@
-//! Whole chunks, by the calls that all codecs of chunks to bytes have.
+//! Whole chunks, by the calls that all array-to-bytes codecs have.
 
 use crate::bytes::checks::{Answer, answers, is};
 use crate::bytes::forms::{BIG, ChunkForm, FOUR, Form, LITTLE, PAIR, WORDS, chunk_form};
@@ -12,7 +12,7 @@ use zarrs_chunk::CodecError;
 use zarrs_codec::ArrayToBytesCodecTraits;
 use zarrs_data_type::Endianness;
 
-/// These bytes came, or this refusal.
+/// These bytes came, or this error.
 pub(crate) fn is_coded(
     rt: &impl Abort,
     name: &str,
@@ -26,7 +26,7 @@ pub(crate) fn is_coded(
 }
 
 /// Bytes that are lent, or owned ones.
-pub(crate) fn raw<'a>(
+pub(crate) fn make_raw<'a>(
     alloc: Global,
     bytes: &'a [u8],
     is_owned: bool,
@@ -89,7 +89,7 @@ fn memory_of<'a, C: ArrayToBytesCodecTraits>(
     }
 }
 
-/// Elements have this value, or are refused.
+/// Elements have this value, or are rejected.
 fn encodes<C: ArrayToBytesCodecTraits>(
     rt: &impl Abort,
     alloc: Global,
@@ -97,7 +97,7 @@ fn encodes<C: ArrayToBytesCodecTraits>(
     form: &ChunkForm,
     pair: &Pair<'_>,
 ) -> Result<(), CodecError> {
-    let elements = ArrayBytes::new_flen(raw(alloc, pair.memory, pair.is_owned)?);
+    let elements = ArrayBytes::new_flen(make_raw(alloc, pair.memory, pair.is_owned)?);
     comes(rt, pair, value_of(alloc, codec, form, elements), pair.value)
 }
 
@@ -113,7 +113,7 @@ fn decodes<C: ArrayToBytesCodecTraits>(
         Ok(value) => (value, Ok(pair.memory)),
         Err(cause) => (pair.memory, Err(cause)),
     };
-    let value = raw(alloc, value, pair.is_owned)?;
+    let value = make_raw(alloc, value, pair.is_owned)?;
     comes(rt, pair, memory_of(alloc, codec, form, value), wanted)
 }
 
@@ -287,16 +287,16 @@ fn texts(alloc: Global) -> Result<ArrayBytes<'static>, CodecError> {
 }
 
 /// Two bytes that may be absent.
-fn masked(alloc: Global) -> Result<ArrayBytes<'static>, CodecError> {
+fn make_masked(alloc: Global) -> Result<ArrayBytes<'static>, CodecError> {
     let inner = ArrayBytes::new_flen(CowSlice::Borrowed(&[1, 2]));
     inner.with_optional_mask(alloc, CowSlice::Borrowed(&[1, 1]))
 }
 
-fn of_kind(alloc: Global, row: &OtherKind) -> Result<ArrayBytes<'static>, CodecError> {
+fn make_kind(alloc: Global, row: &OtherKind) -> Result<ArrayBytes<'static>, CodecError> {
     if row.are_texts {
         texts(alloc)
     } else {
-        masked(alloc)
+        make_masked(alloc)
     }
 }
 
@@ -307,7 +307,7 @@ fn refuses_kind(
     row: &OtherKind,
 ) -> Result<(), CodecError> {
     let codec = BytesCodec::new(row.order);
-    let came = value_of(alloc, &codec, form, of_kind(alloc, row)?);
+    let came = value_of(alloc, &codec, form, make_kind(alloc, row)?);
     is_coded(rt, row.name, came, Err(row.cause))
 }
 

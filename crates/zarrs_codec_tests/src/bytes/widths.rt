@@ -80,7 +80,7 @@ const WIDTHS: &'static [Width] = &[
 
 /// The bytes 0, 1, 2 and so on, each `size` of them the other way round: no two components of a chunk
 /// are alike.
-pub(crate) fn numbered(alloc: Global, size: u64, count: u64) -> Result<Vec<u8>, CodecError> {
+pub(crate) fn number_bytes(alloc: Global, size: u64, count: u64) -> Result<Vec<u8>, CodecError> {
     let mut bytes = Vec::new(alloc);
     for place in 0..count {
         let behind = place % size.max(1);
@@ -145,8 +145,8 @@ fn turns(
     turned: u64,
 ) -> Result<(), CodecError> {
     let bytes = row.size.saturating_mul(count);
-    let memory = numbered(alloc, 1, bytes)?;
-    let value = numbered(alloc, turned, bytes)?;
+    let memory = number_bytes(alloc, 1, bytes)?;
+    let value = number_bytes(alloc, turned, bytes)?;
     codes_both(
         rt,
         alloc,

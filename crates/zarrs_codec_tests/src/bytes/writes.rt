@@ -1,7 +1,7 @@
 //! Chunks that are written in part: what is left, by how many writing calls of the handle.
 
 use crate::bytes::checks::{Answer, is, refuses};
-use crate::bytes::forms::{Asked, FOUR, Form, THREE, encoder, indexer, stored};
+use crate::bytes::forms::{Asked, FOUR, Form, THREE, encoder, indexer, store};
 use crate::bytes::parts::is_part;
 use Asked::{Ranges, Tuples};
 use CodecError::{DataMismatch, OutOfBounds};
@@ -78,7 +78,7 @@ const ROWS: &'static [Row] = &[
     },
 ];
 
-/// Writes elements of one size, by the coder's own call: why they are refused, where they are.
+/// Writes elements of one size, by the coder's own call: the error of the write, if it fails.
 fn write_at<H: BytesPartialEncoderTraits>(
     alloc: Global,
     encoder: &mut BytesCodecPartial<H>,
@@ -108,8 +108,8 @@ fn write_over(alloc: Global, handle: &mut MemoryHandle, row: &Row) -> Option<Cod
     }
 }
 
-/// What a write leaves: the new value by one writing call, or the old one, without any but for want of
-/// memory.
+/// What a write leaves: the new value by one writing call, or the old one by none. Where memory is
+/// lacking, calls are not counted.
 fn leaves(
     rt: &impl Abort,
     handle: &MemoryHandle,
@@ -127,7 +127,7 @@ fn leaves(
 }
 
 fn writes(rt: &impl Abort, alloc: Global, row: &Row) -> Result<(), CodecError> {
-    let mut handle = stored(alloc, row.value)?;
+    let mut handle = store(alloc, row.value)?;
     let refusal = write_over(alloc, &mut handle, row);
     leaves(rt, &handle, refusal, row)
 }
@@ -150,7 +150,7 @@ fn writes_words<E: ArrayPartialEncoderTraits>(
     encoder.partial_encode(alloc, asked, &words)
 }
 
-/// What a coder of three words tells, and that the chunk is erased.
+/// What a coder of three words reports, and that the chunk is erased.
 fn erases<E: ArrayPartialEncoderTraits>(rt: &impl Abort, encoder: &mut E) {
     is(rt, "type", encoder.data_type(), &DataType::uint16());
     is(rt, "held", &encoder.size_held(), &6);
@@ -186,7 +186,7 @@ fn edits_last<E: ArrayPartialEncoderTraits>(
 
 #[test]
 fn a_coder_is_any_coder_of_parts(rt: HostRuntime) -> Result<(), CodecError> {
-    let handle = stored(rt.alloc(), VALUE)?;
+    let handle = store(rt.alloc(), VALUE)?;
     let mut encoder = encoder(rt.alloc(), &THREE, handle)?;
     edits_last(&rt, rt.alloc(), &mut encoder)?;
     is(&rt, "calls", &encoder.into_handle().write_calls(), &2);

@@ -47,7 +47,7 @@ fn fill_by_formula(seed: u64, bytes: &mut [u8]) {
     }
 }
 
-/// What tells the bytes of a case's elements.
+/// The seed of the bytes of a case's elements.
 fn seed_of(case: &Case) -> u64 {
     case.bits
         .wrapping_mul(128)

@@ -158,7 +158,7 @@ fn is_decoded_whole<C: ArrayCodecTraits>(
     Ok(())
 }
 
-/// The codec does all to a chunk that a codec of chunks to bytes does.
+/// The codec does all to a chunk that an array-to-bytes codec does.
 fn does_all<C: ArrayToBytesCodecTraits + ArrayCodecTraits>(
     rt: &impl Abort,
     alloc: Global,

@@ -79,7 +79,7 @@ pub(crate) const WORDS: Chunk<'static> = Chunk {
     fill: &[0, 0],
 };
 
-/// What a codec is told of a chunk.
+/// What a codec needs to know of a chunk.
 #[derive(Drop)]
 pub(crate) struct ChunkForm {
     pub(crate) shape: ChunkShape,
@@ -99,7 +99,7 @@ pub(crate) fn chunk_form(alloc: Global, chunk: &Chunk<'_>) -> Result<ChunkForm, 
 }
 
 /// A codec's decoder of such a chunk in part, over a handle, or why there is none.
-fn made_decoder(
+fn make_decoder(
     alloc: Global,
     codec: PackBitsCodec,
     form: &ChunkForm,
@@ -114,14 +114,14 @@ fn made_decoder(
     )
 }
 
-/// The same decoder, or the refusal alone.
+/// The same decoder, or the error alone.
 pub(crate) fn decoder_of(
     alloc: Global,
     codec: PackBitsCodec,
     form: &ChunkForm,
     handle: MemoryHandle,
 ) -> Result<PackBitsPartialDecoder<MemoryHandle>, CodecError> {
-    match made_decoder(alloc, codec, form, handle) {
+    match make_decoder(alloc, codec, form, handle) {
         Ok(decoder) => Ok(decoder),
         Err(refused) => Err(refused.error),
     }

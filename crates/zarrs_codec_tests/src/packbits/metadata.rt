@@ -1,7 +1,7 @@
-//! The codecs `bytes` and `packbits` and the sample codecs of bytes made from metadata, and written as it
-//! again.
+//! The codecs `bytes` and `packbits` and the sample bytes-to-bytes codecs made from metadata, and
+//! written as it again.
 //!
-//! Metadata is given and compared as JSON text, written by hand. Configurations that are refused
+//! Metadata is given and compared as JSON text, written by hand. Configurations that are rejected
 //! stand in `zarrs_transcripts`.
 use crate::packbits::checks::is;
 use serde_json::Value;
@@ -137,7 +137,7 @@ fn text(alloc: Global, metadata: &MetadataV3) -> Result<String, PluginCreateErro
 }
 
 /// The text of a codec's name and configuration, as one metadata.
-fn written<C: CodecTraits>(alloc: Global, codec: &C) -> Result<String, PluginCreateError> {
+fn write<C: CodecTraits>(alloc: Global, codec: &C) -> Result<String, PluginCreateError> {
     let name = codec.name_v3().ok_or(PluginCreateError::UnknownName)?;
     let configuration = codec
         .configuration(alloc)?
@@ -147,7 +147,7 @@ fn written<C: CodecTraits>(alloc: Global, codec: &C) -> Result<String, PluginCre
 }
 
 /// The codec that a maker makes, where it knows the name.
-fn made<M: BytesCodecMaker<SampleBytesCodec>>(
+fn make<M: BytesCodecMaker<SampleBytesCodec>>(
     alloc: Global,
     maker: &M,
     metadata: &MetadataV3,
@@ -156,8 +156,8 @@ fn made<M: BytesCodecMaker<SampleBytesCodec>>(
     made.ok_or(PluginCreateError::UnknownName)
 }
 
-/// The text of a codec of bytes, as metadata.
-fn written_sample<C: BytesToBytesCodecTraits>(
+/// The text of a bytes-to-bytes codec, as metadata.
+fn write_sample<C: BytesToBytesCodecTraits>(
     alloc: Global,
     codec: &C,
 ) -> Result<String, PluginCreateError> {
@@ -165,24 +165,24 @@ fn written_sample<C: BytesToBytesCodecTraits>(
 }
 
 /// The text of the codec that the metadata makes.
-fn written_as(
+fn write_made(
     alloc: Global,
     asked: &Asked,
     metadata: &MetadataV3,
 ) -> Result<String, PluginCreateError> {
     match asked {
-        Asked::Bytes => written(alloc, &BytesCodec::create(metadata)?),
-        Asked::PackBits => written(alloc, &PackBitsCodec::create(metadata)?),
-        Asked::Sample => written_sample(alloc, &made(alloc, &SampleMaker, metadata)?),
+        Asked::Bytes => write(alloc, &BytesCodec::create(metadata)?),
+        Asked::PackBits => write(alloc, &PackBitsCodec::create(metadata)?),
+        Asked::Sample => write_sample(alloc, &make(alloc, &SampleMaker, metadata)?),
     }
 }
 
-fn written_again(alloc: Global, row: &Row) -> Result<String, PluginCreateError> {
+fn write_again(alloc: Global, row: &Row) -> Result<String, PluginCreateError> {
     let metadata = metadata(alloc, row.metadata)?;
-    written_as(alloc, &row.asked, &metadata)
+    write_made(alloc, &row.asked, &metadata)
 }
 
-/// The answer is the one of the row. A want of memory is an error of the test.
+/// The answer is the one of the row. A lack of memory is an error of the test.
 fn is_answer(
     rt: &impl Abort,
     row: &Row,
@@ -202,7 +202,7 @@ fn is_answer(
 #[test]
 fn is_written_again(rt: HostRuntime) -> Result<(), PluginCreateError> {
     for row in ROWS.iter() {
-        is_answer(&rt, row, &written_again(rt.alloc(), row))?;
+        is_answer(&rt, row, &write_again(rt.alloc(), row))?;
     }
     Ok(())
 }

@@ -2,9 +2,9 @@
 
 use zarrs_metadata::PackBitsPaddingEncoding;
 
-/// How many elements of one component a chunk has, the width of a component, the bits of it that are
-/// kept, and how they are packed. Where a case is shown, it is by its width, its first and its last bit
-/// and its turn, which tells how it is packed.
+/// How many elements of one component a chunk has, the width of a component, the bits of it that
+/// are kept, and how they are packed. Where a case is shown, it is by its width, its first and its
+/// last bit and its turn, which says how it is packed.
 #[derive(Drop)]
 pub(crate) struct Case {
     pub(crate) elements: u64,
@@ -43,7 +43,7 @@ fn set_plain_byte(bytes: &mut [u8], place: u64, value: u64) {
 }
 
 /// How many bits of all elements are kept.
-fn plain_kept(case: &Case) -> u64 {
+fn count_kept_bits(case: &Case) -> u64 {
     case.last
         .wrapping_sub(case.first)
         .wrapping_add(1)
@@ -81,10 +81,10 @@ pub(crate) fn pack_plain_bits(case: &Case, elements: &[u8], value: &mut [u8]) {
     }
 }
 
-/// Puts the padding byte, and tells how many bytes the value has.
+/// Puts the padding byte, and returns how many bytes the value has.
 pub(crate) fn put_plain_padding(case: &Case, value: &mut [u8]) -> u64 {
-    let packed = bytes_for(plain_kept(case));
-    let spare = packed.wrapping_mul(8).wrapping_sub(plain_kept(case));
+    let packed = bytes_for(count_kept_bits(case));
+    let spare = packed.wrapping_mul(8).wrapping_sub(count_kept_bits(case));
     match plain_padding(case) {
         PackBitsPaddingEncoding::None => packed,
         PackBitsPaddingEncoding::FirstByte => {

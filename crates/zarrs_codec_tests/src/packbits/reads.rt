@@ -159,7 +159,7 @@ fn plans(
     Ok(())
 }
 
-/// What a decoder tells without reading.
+/// What a decoder reports without reading.
 fn tells<D: ArrayPartialDecoderTraits>(rt: &impl Abort, decoder: &mut D, row: &Read) {
     let held = row.stored.unwrap_or(&[]).len();
     is(rt, row.name, &decoder.exists(), &Ok(row.stored.is_some()));

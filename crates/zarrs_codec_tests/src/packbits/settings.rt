@@ -39,7 +39,7 @@ const MADE: &'static [Made] = &[
 ];
 
 /// The codec whose first bit is 3, of its settings and of their configuration: the same one, or the
-/// same refusal.
+/// same error.
 fn is_made(rt: &impl Abort, row: &Made) {
     let padding = row.padding.unwrap_or(PackBitsPaddingEncoding::None);
     let made = PackBitsCodec::new(padding, Some(3), row.last_bit);

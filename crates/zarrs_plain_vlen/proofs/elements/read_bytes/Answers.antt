@@ -7,7 +7,7 @@ use Rattle.zarrs_codec.specs.ByteRanges.{range_indices, bytes_in_ranges}
 use Rattle.zarrs_codec.specs.ByteSpan.{ByteSpan}
 use Rattle.zarrs_codec.specs.StorageState.{value_or_empty}
 use Rattle.zarrs_bytes.proofs.Coding.{ok}
-use Rattle.zarrs_chain_laws.proofs.ArraySteps.{ok_is}
+use Rattle.zarrs_chain_meaning.proofs.ArraySteps.{ok_is}
 use Rattle.zarrs_plain_vlen.specs.Elements.{blank_element}
 use Rattle.zarrs_plain_vlen.specs.VlenRead.{element_numbers}
 use Rattle.zarrs_plain_vlen.proofs.ElementReads.{unread, all_there, ranges_inside, read, read_long}

@@ -1,5 +1,5 @@
 use Rattle.zarrs_array_bytes.specs.Held.{raw_of}
-use Rattle.zarrs_chain_laws.specs.vlen.PlainVlen.{plain_form}
+use Rattle.zarrs_chain_meaning.specs.vlen.PlainVlen.{plain_form}
 use Rattle.zarrs_plain_vlen.proofs.IndexOffsets.{offsets_answered}
 use Rattle.zarrs_plain_vlen.proofs.index.decode_index.Goals as goal
 

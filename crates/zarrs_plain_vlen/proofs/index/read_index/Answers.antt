@@ -1,7 +1,7 @@
 use Rattle.std.proofs.Common.{◌≡◌, ◌≤◌, ◌-◌, arith, sym}
 use Rattle.std.proofs.lemmas.Result.{err_from_is_err_and}
 use Rattle.zarrs_codec.specs.StorageState.{value_or_empty}
-use Rattle.zarrs_chain_laws.specs.vlen.PlainVlen.{plain_form}
+use Rattle.zarrs_chain_meaning.specs.vlen.PlainVlen.{plain_form}
 use Rattle.zarrs_plain_vlen.proofs.IndexOffsets.{refused_there}
 use Rattle.zarrs_plain_vlen.proofs.index.read_index.Goals as goal
 

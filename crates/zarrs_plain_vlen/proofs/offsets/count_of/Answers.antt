@@ -1,6 +1,6 @@
 use Rattle.std.proofs.Common.{ap}
-use Rattle.zarrs_chain_laws.specs.vlen.VlenSettings.{is_wide}
-use Rattle.zarrs_chain_laws.specs.vlen.VlenSteps.{offset_size}
+use Rattle.zarrs_chain_meaning.specs.vlen.VlenSettings.{is_wide}
+use Rattle.zarrs_chain_meaning.specs.vlen.VlenSteps.{offset_size}
 use Rattle.zarrs_plain_vlen.proofs.OffsetBytes.{sized_long}
 use Rattle.zarrs_plain_vlen.proofs.offsets.count_of.Goals as goal
 

@@ -1,8 +1,8 @@
 use Rattle.std.proofs.Common.{ap, sym, ◌∙◌, arith}
 use Rattle.zarrs_array_bytes.specs.Elements.{piece}
-use Rattle.zarrs_chain_laws.specs.Decode.{offset_of}
-use Rattle.zarrs_chain_laws.specs.vlen.VlenSettings.{is_wide}
-use Rattle.zarrs_chain_laws.specs.vlen.VlenSteps.{offset_size}
+use Rattle.zarrs_chain_meaning.specs.vlen.Vlen.{offset_of}
+use Rattle.zarrs_chain_meaning.specs.vlen.VlenSettings.{is_wide}
+use Rattle.zarrs_chain_meaning.specs.vlen.VlenSteps.{offset_size}
 use Rattle.zarrs_plain_vlen.proofs.OffsetBytes.{few_numbers, number_known, read_at}
 use Rattle.zarrs_plain_vlen.proofs.offsets.offset_at.Goals as goal
 

@@ -5,7 +5,7 @@ use Rattle.zarrs_array_bytes.specs.Validity.{Holds}
 use Rattle.zarrs_array_to_array.specs.Mapping.{mapping_of}
 use Rattle.zarrs_array_regions.specs.Windows.{TakesRegion, TakeType, window_of, window_elements, encoded_elements}
 use Rattle.zarrs_bytes.proofs.Coding.{ok}
-use Rattle.zarrs_chain_laws.proofs.ArraySteps.{ok_is}
+use Rattle.zarrs_chain_meaning.proofs.ArraySteps.{ok_is}
 use Rattle.zarrs_codec_chain.specs.ChunkCoder.{coder_form}
 use Rattle.zarrs_codec_chain.proofs.PartialReads.{is_readable}
 use Rattle.zarrs_codec_chain.proofs.RegionReads.{takes_region, takes_type, runs_at}

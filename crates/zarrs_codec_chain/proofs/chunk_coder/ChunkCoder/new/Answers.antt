@@ -1,7 +1,7 @@
 use Rattle.std.proofs.lemmas.Result.{err_from_is_err_and}
-use Rattle.zarrs_chain_laws.specs.Chain.{taken_form}
-use Rattle.zarrs_chain_whole.specs.ChainView.{plain_chain}
-use Rattle.zarrs_chain_laws.proofs.ArraySteps.{ok_is}
+use Rattle.zarrs_chain_meaning.specs.Chain.{taken_form}
+use Rattle.zarrs_chain.specs.ChainView.{plain_chain}
+use Rattle.zarrs_chain_meaning.proofs.ArraySteps.{ok_is}
 use Rattle.zarrs_codec_chain.proofs.Making.{passed_first, refused_first, wanting_first}
 use Rattle.zarrs_codec_chain.proofs.PartialCalls.{kept_of}
 use Rattle.zarrs_codec_chain.proofs.WholeReads.{filled_from}

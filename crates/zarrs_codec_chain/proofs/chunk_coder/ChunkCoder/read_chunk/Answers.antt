@@ -5,7 +5,7 @@ use Rattle.zarrs_array_bytes.specs.Validity.{Holds}
 use Rattle.zarrs_codec_chain.specs.ChunkRead.{stored_read}
 use Rattle.zarrs_codec_chain.specs.ChunkCoder.{coder_form, reader_source}
 use Rattle.zarrs_codec_chain.specs.ChunkSource.{kept_stage}
-use Rattle.zarrs_chain_laws.proofs.NestedDecode.{chain_chunk_only}
+use Rattle.zarrs_chain_meaning.proofs.CodecLaws.{chain_chunk_only}
 use Rattle.zarrs_codec_chain.proofs.PartialReads.{source_is_stored, stored_selects, unstored_read}
 use Rattle.zarrs_codec_chain.proofs.chunk_coder.ChunkCoder.read_chunk.Goals as goal
 

@@ -1,5 +1,5 @@
 use Rattle.zarrs_chunk.specs.Runs.{joined_runs}
-use Rattle.zarrs_chain_whole.specs.ChainView.{plain_chain}
+use Rattle.zarrs_chain.specs.ChainView.{plain_chain}
 use Rattle.zarrs_codec_chain.proofs.PartialCalls.{same_stored}
 use Rattle.zarrs_codec_chain.proofs.WholeReads.{whole_answer}
 use Rattle.zarrs_codec_chain.proofs.chunk_coder.ChunkCoder.read_whole.Goals as goal

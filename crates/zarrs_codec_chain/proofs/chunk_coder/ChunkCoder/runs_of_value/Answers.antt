@@ -1,8 +1,8 @@
 use Rattle.std.proofs.Common.{rules}
 use Rattle.zarrs_chunk.specs.ChunkShape.{product}
 use Rattle.zarrs_chunk.specs.Runs.{joined_runs}
-use Rattle.zarrs_chain_laws.specs.BytesStages.{outer_bytes}
-use Rattle.zarrs_chain_whole.specs.ChainView.{plain_chain}
+use Rattle.zarrs_chain_meaning.specs.BytesStages.{outer_bytes}
+use Rattle.zarrs_chain.specs.ChainView.{plain_chain}
 use Rattle.zarrs_codec_chain.proofs.PartialCalls.{held_after}
 use Rattle.zarrs_codec_chain.proofs.WholeReads.{chunk_at_runs, count_so}
 use Rattle.zarrs_codec_chain.proofs.chunk_coder.ChunkCoder.runs_of_value.Goals as goal

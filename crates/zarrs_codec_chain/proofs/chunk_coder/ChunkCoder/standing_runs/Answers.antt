@@ -1,9 +1,8 @@
-use Rattle.std.proofs.Common.{◌+◌, ◌≤◌, sym, subst, map}
+use Rattle.std.proofs.Common.{◌+◌, ◌≤◌, sym, subst}
 use Rattle.std.specs.Prelude.{IfOk}
 use Rattle.std.specs.List.{All}
 use Rattle.zarrs_chunk.specs.Answer.{Gives}
 use Rattle.zarrs_chunk.specs.Runs.{joined_runs}
-use Rattle.zarrs_array_to_array.specs.Mapping.{mapping_of}
 use Rattle.zarrs_array_regions.specs.Windows.{TakesRegion, window_of, window_places, last_window}
 use Rattle.zarrs_bytes.proofs.Coding.{ok}
 use Rattle.zarrs_codec_chain.specs.ChunkCoder.{coder_form}

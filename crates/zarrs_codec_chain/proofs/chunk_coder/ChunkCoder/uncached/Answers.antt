@@ -1,5 +1,5 @@
 use Rattle.std.proofs.Common.{refl}
-use Rattle.zarrs_chain_whole.specs.ChainView.{plain_chain}
+use Rattle.zarrs_chain.specs.ChainView.{plain_chain}
 use Rattle.zarrs_codec_chain.proofs.PartialCalls.{kept_of}
 use Rattle.zarrs_codec_chain.proofs.chunk_coder.ChunkCoder.uncached.Goals as goal
 

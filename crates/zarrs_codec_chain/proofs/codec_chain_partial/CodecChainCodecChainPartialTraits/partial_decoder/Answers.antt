@@ -1,4 +1,4 @@
-use Rattle.zarrs_chain_whole.specs.ChainView.{plain_chain}
+use Rattle.zarrs_chain.specs.ChainView.{plain_chain}
 use Rattle.zarrs_codec_chain.proofs.CachePlaces.{no_place, no_stage}
 use Rattle.zarrs_codec_chain.proofs.Making.{representation_first}
 use Rattle.zarrs_codec_chain.proofs.codec_chain_partial.CodecChainCodecChainPartialTraits.partial_decoder.Goals as goal

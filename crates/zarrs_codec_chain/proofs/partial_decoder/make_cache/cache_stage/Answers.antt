@@ -1,7 +1,7 @@
 use Rattle.std.proofs.Common.{◌≡◌, map, true, ap, subst, ◌∙◌}
 use Rattle.std.proofs.lemmas.List.{length-map}
-use Rattle.zarrs_chain_laws.specs.Chain.{codec_reads}
-use Rattle.zarrs_chain_whole.specs.ChainView.{plain_chain}
+use Rattle.zarrs_chain_meaning.specs.Chain.{codec_reads}
+use Rattle.zarrs_chain.specs.ChainView.{plain_chain}
 use Rattle.zarrs_codec_chain.specs.ChunkSource.{bytes_left, stage_by, stage_fits}
 use Rattle.zarrs_codec_chain.proofs.CachePlaces.{stage_is, stage_by_fits}
 use Rattle.zarrs_codec_chain.proofs.partial_decoder.make_cache.cache_stage.Goals as goal

@@ -1,6 +1,6 @@
 use Rattle.std.proofs.Common.{refl, sym}
-use Rattle.zarrs_chain_laws.specs.BytesStages.{outer_bytes}
-use Rattle.zarrs_chain_whole.specs.ChainView.{plain_chain}
+use Rattle.zarrs_chain_meaning.specs.BytesStages.{outer_bytes}
+use Rattle.zarrs_chain.specs.ChainView.{plain_chain}
 use Rattle.zarrs_codec.proofs.CallLemmas.{after_reads-none}
 use Rattle.zarrs_codec_chain.proofs.PartialCalls.{held_after, is_valid, same_stored}
 use Rattle.zarrs_codec_chain.proofs.partial_decoder.make_cache.make_cache.Goals as goal

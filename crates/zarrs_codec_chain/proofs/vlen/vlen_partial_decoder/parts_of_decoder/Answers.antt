@@ -1,8 +1,8 @@
 use Rattle.std.proofs.Common.{◌≡◌, ◌<◌, ◌^◌, true, subst}
 use Rattle.zarrs_chunk.specs.ChunkShape.{product}
 use Rattle.zarrs_data_type.specs.FillValue.{fill_fits}
-use Rattle.zarrs_chain_laws.proofs.ArraySteps.{ok_is}
-use Rattle.zarrs_codec_chain.proofs.PartialReads.{is_ok_of}
+use Rattle.zarrs_chain_meaning.proofs.ArraySteps.{ok_is}
+use Rattle.zarrs_chain_meaning.proofs.ChainSteps.{is_ok_of}
 use Rattle.zarrs_codec_chain.proofs.VlenReads.{vlen_taken}
 use Rattle.zarrs_codec_chain.proofs.vlen.vlen_partial_decoder.parts_of_decoder.Goals as goal
 

@@ -1,6 +1,6 @@
 use Rattle.std.proofs.lemmas.Result.{err_from_is_err_and}
 use Rattle.zarrs_chunk.specs.Runs.{joined_runs}
-use Rattle.zarrs_chain_laws.specs.vlen.PlainVlen.{plain_form}
+use Rattle.zarrs_chain_meaning.specs.vlen.PlainVlen.{plain_form}
 use Rattle.zarrs_plain_vlen.proofs.StoredReads.{refused_stored}
 use Rattle.zarrs_codec_chain.proofs.vlen.vlen_runs.read_or_fill.Goals as goal
 

@@ -4,9 +4,10 @@ use Rattle.zarrs_chunk.specs.Answer.{AnswersBy, is_fault, memory_or_fault}
 use Rattle.zarrs_chunk.specs.Runs.{joined_runs}
 use Rattle.zarrs_array_bytes.specs.Validity.{Holds}
 use Rattle.zarrs_codec.specs.StorageState.{are_sure}
-use Rattle.zarrs_chain_laws.specs.vlen.PlainVlen.{plain_form}
-use Rattle.zarrs_chain_whole.specs.ChainView.{plain_vlen}
-use Rattle.zarrs_codec_chain.proofs.VlenReads.{read_plainly, read_wholly, reads_no_part, rests_plainly, vlen_taken}
+use Rattle.zarrs_chain_meaning.specs.vlen.PlainVlen.{plain_form}
+use Rattle.zarrs_chain.specs.ChainView.{plain_vlen}
+use Rattle.zarrs_codec_chain.proofs.VlenReads.{read_wholly, reads_no_part, vlen_taken}
+use Rattle.zarrs_codec_chain.proofs.LawfulPart.{part_laws}
 use Rattle.zarrs_codec_chain.proofs.vlen.vlen_runs.vlen_runs.Goals as goal
 
 pub plain_runs-requires : goal.plain_runs-requires
@@ -26,7 +27,7 @@ returns-in-Some-clause-answer g c =
     let form = sym c.plain_form.ensures.form ∙ ap (option_map plain_form) c.in-Some.is in
     let stored = (g.H.BytesPartialDecoderTraits.state c.args.handle.now).value in
     subst (λ expected. AnswersBy memory_or_fault (Holds type) c.plain_runs.result expected)
-    (sym (read_plainly g.B.BytesToBytesCodecTraits.functions codec (plain_form c.in-Some.plain) c.args.shape.now type c.args.fill.now stored (joined_runs c.args.runs.now) form))
+    (sym ((part_laws codec).plainly g.B.BytesToBytesCodecTraits.functions (plain_form c.in-Some.plain) c.args.shape.now type c.args.fill.now stored (joined_runs c.args.runs.now) form))
     c.plain_runs.ensures.answer
 
 pub returns-in-Some-clause-sure : goal.returns-in-Some-clause-sure
@@ -35,7 +36,7 @@ returns-in-Some-clause-sure g c reads =
     let form = sym c.plain_form.ensures.form ∙ ap (option_map plain_form) c.in-Some.is in
     let state = g.H.BytesPartialDecoderTraits.state c.args.handle.now in
     subst (λ rests. IfOk rests (λ numbers. are_sure state.sure numbers ≡ true → is_fault c.plain_runs.result ≡ false))
-    (sym (rests_plainly codec (plain_form c.in-Some.plain) c.args.shape.now c.args.kind.now c.args.fill.now state.value (joined_runs c.args.runs.now) form))
+    (sym ((part_laws codec).rests_plainly (plain_form c.in-Some.plain) c.args.shape.now c.args.kind.now c.args.fill.now state.value (joined_runs c.args.runs.now) form))
     c.plain_runs.ensures.sure
 
 pub returns-in-None-clause-answer : goal.returns-in-None-clause-answer

@@ -1,7 +1,7 @@
 use Rattle.std.proofs.Common.{length, sym, subst}
 use Rattle.zarrs_chunk.specs.ChunkShape.{product}
-use Rattle.zarrs_chain_laws.specs.Chain.{codec_reads}
-use Rattle.zarrs_chain_whole.specs.ChainView.{plain_chain}
+use Rattle.zarrs_chain_meaning.specs.Chain.{codec_reads}
+use Rattle.zarrs_chain.specs.ChainView.{plain_chain}
 use Rattle.zarrs_codec_chain.specs.ChunkCoder.{reader_source}
 use Rattle.zarrs_codec_chain.specs.ChunkSource.{IsSizeOf}
 use Rattle.zarrs_codec_chain.proofs.CachePlaces.{answered, size_kept}

@@ -1,6 +1,6 @@
 use Rattle.std.proofs.Common.{◌&&◌}
 use Rattle.zarrs_codec.proofs.WriteLemmas.{keeps_sure}
-use Rattle.zarrs_chain_laws.specs.Chain.{chain_reads}
+use Rattle.zarrs_chain_meaning.specs.Chain.{chain_reads}
 use Rattle.zarrs_codec_chain.specs.PartialEncoder.{encoder_form, encoder_handle}
 use Rattle.zarrs_codec_chain.proofs.SameWriters.{writer_same}
 use Rattle.zarrs_codec_chain.proofs.partial_encoder.array_partial_encoder.ArrayPartialEncoderArrayPartialEncoderTraits.partial_encode.Goals as goal

@@ -1,0 +1,17 @@
+pub mod AnswerLemmas
+pub mod CodeLemmas
+pub mod CrossedLemmas
+pub mod EnoughLemmas
+pub mod FetchedDue
+pub mod FetchedLemmas
+pub mod GivenPieces
+pub mod EditLemmas
+pub mod HeaderLemmas
+pub mod JoinedLemmas
+pub mod LackingLemmas
+pub mod ListLemmas
+pub mod ManyLemmas
+pub mod PlanLemmas
+pub mod SelectionLemmas
+pub mod TellLemmas
+pub mod WrittenLemmas

@@ -1,0 +1,40 @@
+-- What calls return, by what the inner ones answer.
+use Rattle.std.proofs.Common.{◌≡◌, ℕ, List, Result, Ok, Err, IsOkAnd, inl, inr, refl}
+use Rattle.zarrs_chunk.specs.Answer.{Excused}
+use Rattle.zarrs_array_bytes.specs.Held.{Held}
+use Rattle.zarrs_c_calls.specs.Buffers.{Buffers, crossed}
+use Rattle.zarrs_c_calls.specs.Codes.{cause_code, cause_memory}
+use Rattle.zarrs_codec.specs.declared.bytes_representation.BytesRepresentation.{BytesRepresentation}
+use Rattle.zarrs_c_calls.specs.Told.{Elements, HoldsThese, ToldBytes, ToldParts, TellsBytes, TellsElements, TellsRepresentation, kind_of, size_of}
+use Rattle.zarrs_c_calls.specs.declared.cause.Cause.{Cause}
+use Rattle.zarrs_c_calls.specs.declared.sizes.Sizes.{Sizes}
+use Rattle.zarrs_c_calls.proofs.CodeLemmas.{refused}
+
+-- bytes that are due are returned
+pub bytes_told : (bytes : List ℕ) (expected : Result (List ℕ) Cause) (code : ℕ) (old new : List ℕ) (needed_old needed_new : ℕ) → expected ≡ Ok bytes → ToldBytes bytes code old new needed_new → TellsBytes expected code old new needed_old needed_new
+bytes_told bytes expected code old new needed_old needed_new is told = inl (bytes, is, told)
+
+-- an error is returned in place of them
+pub bytes_refused : (cause : Cause) (expected : Result (List ℕ) Cause) (code : ℕ) (old : List ℕ) (needed : ℕ) → Excused (cause_memory cause) (expected ≡ Err cause) → code ≡ cause_code cause → TellsBytes expected code old old needed needed
+bytes_refused cause expected code old needed gives is = inr (rw is (refused cause expected gives), refl, refl)
+
+-- elements that are due are returned
+pub elements_told : (held : Held) (expected : Result Elements Cause) (code : ℕ) (old new : Buffers) (needed_old needed_new : Sizes) → IsOkAnd expected (HoldsThese held) → ToldParts (crossed held) code old new needed_new
+    → TellsElements expected code (record { parts = old; needed = needed_old }) (record { parts = new; needed = needed_new })
+elements_told held (Ok elements) code old new needed_old needed_new holds told = inl (elements, held, refl, holds, told)
+elements_told held (Err cause) code old new needed_old needed_new holds told = absurd holds
+
+-- an error is returned in place of them
+pub elements_refused : (cause : Cause) (expected : Result Elements Cause) (code : ℕ) (old : Buffers) (needed : Sizes) → Excused (cause_memory cause) (expected ≡ Err cause) → code ≡ cause_code cause → TellsElements expected code (record { parts = old; needed = needed }) (record { parts = old; needed = needed })
+elements_refused cause expected code old needed gives is = inr (rw is (refused cause expected gives), refl, refl)
+
+-- a representation that is due is returned
+pub representation_told : (r : BytesRepresentation) (expected : Result BytesRepresentation Cause) (code kind_old kind_new size_old size_new : ℕ) → expected ≡ Ok r → code ≡ 0 → kind_new ≡ kind_of r → size_new ≡ size_of r
+    → TellsRepresentation expected code kind_old kind_new size_old size_new
+representation_told r expected code kind_old kind_new size_old size_new is done kind size = inl (r, is, done, kind, size)
+
+-- an error is returned in place of it
+pub representation_refused : (cause : Cause) (expected : Result BytesRepresentation Cause) (code kind size : ℕ) → Excused (cause_memory cause) (expected ≡ Err cause) → code ≡ cause_code cause → TellsRepresentation expected code kind kind size size
+representation_refused cause expected code kind size gives is = inr (rw is (refused cause expected gives), refl, refl)
+
+-- ---- parts that have room, or not

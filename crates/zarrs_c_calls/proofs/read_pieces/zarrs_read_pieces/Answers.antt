@@ -1,0 +1,36 @@
+use Rattle.std.proofs.Common.{Some}
+use Rattle.zarrs_c_calls.specs.Buffers.{buffers}
+use Rattle.zarrs_c_calls.specs.Fetched.{Lacks, pieces_read}
+use Rattle.zarrs_c_calls.specs.Reads.{part_read}
+use Rattle.zarrs_c_calls.proofs.FetchedDue.{pieces_told, pieces_refused}
+use Rattle.zarrs_c_calls.proofs.TellLemmas.{elements_told, elements_refused}
+use Rattle.zarrs_c_calls.proofs.read_pieces.zarrs_read_pieces.Goals as goal
+
+pub returns-in-Ok : goal.returns-in-Ok
+returns-in-Ok c =
+    let due = pieces_read c.args.text.now c.args.len c.args.ranges.now c.args.fetched.now c.args.tuples c.args.numbers.now in
+    let lacking = Lacks c.args.text.now c.args.len c.args.ranges.now c.args.fetched.now c.args.tuples c.args.numbers.now in
+    let old = buffers c.args.masks.now c.args.offsets.now c.args.bytes.now in
+    let new = buffers c.tell.new.masks c.tell.new.offsets c.tell.new.bytes in
+    record {
+      told = record {
+        told = pieces_told c.in-Ok.elements due lacking c.tell.result old new c.args.needed.now c.tell.new.needed c.in-Ok.ensures.answer c.tell.ensures.told;
+        alike = λ value has.
+            let read = part_read c.args.text.now (Some value) c.args.tuples c.args.numbers.now in
+            elements_told c.in-Ok.elements read c.tell.result old new c.args.needed.now c.tell.new.needed (c.in-Ok.ensures.alike value has) c.tell.ensures.told;
+      };
+    }
+
+pub returns-in-Err : goal.returns-in-Err
+returns-in-Err c =
+    let due = pieces_read c.args.text.now c.args.len c.args.ranges.now c.args.fetched.now c.args.tuples c.args.numbers.now in
+    let lacking = Lacks c.args.text.now c.args.len c.args.ranges.now c.args.fetched.now c.args.tuples c.args.numbers.now in
+    let old = buffers c.args.masks.now c.args.offsets.now c.args.bytes.now in
+    record {
+      told = record {
+        told = pieces_refused c.in-Err.cause due lacking c.cause_code.result old c.args.needed.now c.in-Err.ensures.answer c.in-Err.ensures.lacking c.cause_code.ensures.value;
+        alike = λ value has.
+            let read = part_read c.args.text.now (Some value) c.args.tuples c.args.numbers.now in
+            elements_refused c.in-Err.cause read c.cause_code.result old c.args.needed.now (c.in-Err.ensures.alike value has) c.cause_code.ensures.value;
+      };
+    }

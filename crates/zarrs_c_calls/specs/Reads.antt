@@ -1,0 +1,62 @@
+-- What is due to a call that reads a chunk in part.
+use Rattle.std.specs.Prelude.{ℕ, Bool, if◌then◌else◌, List, length, Option, Some, None, Result, Ok}
+use Rattle.std.specs.Option.{option_map}
+use Rattle.std.proofs.Common.{Bor}
+use Rattle.zarrs_chunk.specs.Answer.{◌>>=◌, AnswersBy, memory}
+use Rattle.zarrs_chunk.specs.Indexer.{selection_of}
+use Rattle.zarrs_chunk.specs.Selection.{Selection}
+use Rattle.zarrs_chunk.specs.declared.codec_error.CodecError.{CodecError}
+use Rattle.zarrs_chunk.specs.declared.indexer.Indexer.{Indexer}
+use Rattle.zarrs_data_type.specs.Element.{Chunk}
+use Rattle.zarrs_array_bytes.specs.Held.{Held}
+use Rattle.zarrs_array_bytes.specs.Validity.{Holds}
+use Rattle.zarrs_json.specs.KnownBytesCodec.{known_codecs, known_reads}
+use Rattle.zarrs_codec_chain.specs.MadeCoder.{made_read}
+use Rattle.zarrs_lent_handles.specs.LentHandle.{lent_value}
+use Rattle.zarrs_lent_handles.specs.declared.lent_handle.LentHandle.{LentHandle}
+use Rattle.zarrs_json.specs.Header.{Form, Header, form_of}
+use Rattle.zarrs_json.specs.HeaderRead.{header_seen}
+use Rattle.zarrs_json.specs.declared.header.ChunkHeader.{ChunkHeader}
+use Rattle.zarrs_c_calls.specs.Calls.{header_given}
+use Rattle.zarrs_c_calls.specs.Codes.{cause_memory, codec_answer}
+use Rattle.zarrs_c_calls.specs.Selections.{selection_given}
+use Rattle.zarrs_c_calls.specs.Told.{Elements, HoldsThese}
+use Rattle.zarrs_c_calls.specs.declared.cause.Cause.{Cause}
+
+-- what is stored: these bytes, or nothing
+abbrev pub stored_value : Bool → List ℕ → Option (List ℕ)
+stored_value is_stored value = if is_stored then Some value else None
+
+-- the value that is lent, or none
+abbrev pub stored_bytes : Option (Bor (List ℕ)) → Option (List ℕ)
+stored_bytes stored = option_map (λ value. value.now) stored
+
+-- the form of the chunks of a header that was read
+abbrev pub form_seen : ChunkHeader → Form
+form_seen form = form_of (header_seen form)
+
+-- the elements that a selection selects of what is stored, by a decoder that is made for it
+abbrev pub form_read : Form → Option (List ℕ) → Selection → Result Chunk CodecError
+form_read form stored selection = made_read known_codecs known_reads form stored selection
+
+-- those of the chunk of a header that was read
+abbrev pub header_read : Header → Option (List ℕ) → ℕ → List ℕ → Result Elements Cause
+header_read header stored tuples numbers = do
+  selection ← selection_given (length header.sizes) tuples numbers
+  chunk ← codec_answer (form_read (form_of header) stored selection)
+  Ok (header.data_type, chunk)
+
+-- and of the chunk of a header
+abbrev pub part_read : List ℕ → Option (List ℕ) → ℕ → List ℕ → Result Elements Cause
+part_read text stored tuples numbers = do
+  header ← header_given text
+  header_read header stored tuples numbers
+
+-- a read of what is lent answers the elements that are due
+abbrev pub GivesFormRead : ChunkHeader → LentHandle → Indexer → Result Held CodecError → Type 0
+GivesFormRead form handle indexer result =
+    AnswersBy memory (Holds (header_seen form).data_type) result (form_read (form_seen form) (lent_value handle) (selection_of indexer))
+
+-- and so of the chunk of a header
+abbrev pub GivesPartRead : List ℕ → Option (List ℕ) → ℕ → List ℕ → Result Held Cause → Type 0
+GivesPartRead text stored tuples numbers result = AnswersBy cause_memory HoldsThese result (part_read text stored tuples numbers)

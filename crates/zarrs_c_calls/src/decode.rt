@@ -1,0 +1,37 @@
+//! The call `zarrs_decode`.
+ghost use Rattle.zarrs_c_calls.specs.Buffers.{room};
+ghost use Rattle.zarrs_c_calls.specs.Calls.{decoded};
+ghost use Rattle.zarrs_c_calls.specs.Told.{TellsElements};
+
+use crate::calls::decode;
+use crate::cause::cause_code;
+use crate::sizes::Sizes;
+use crate::tell::tell;
+use std::alloc::Global;
+
+/// The elements of the chunk that a value stands for.
+///
+/// They are at the front of the three buffers: offsets begin at 0 and end at the length of the
+/// bytes, mask bytes are 0 and 1, and blank elements stand under absent ones. `needed` is how many
+/// items each part has; where a buffer is too short, only `needed` is written, and 1 is returned.
+/// Errors, the first that holds, `OutOfMemory` aside: those of `zarrs_check`; those of
+/// `CodecChain::decode`.
+pub fn zarrs_decode(
+    alloc: Global,
+    text: &[u8],
+    value: &[u8],
+    masks: &mut [u8],
+    offsets: &mut [u64],
+    bytes: &mut [u8],
+    needed: &mut Sizes,
+) -> u32
+    // Wide: a caller's three buffers and their counts, before and after.
+    ensures told { TellsElements (decoded text.now value.now) result
+        (room masks.old offsets.old bytes.old needed.old)
+        (room masks.new offsets.new bytes.new needed.new) }
+{
+    match decode(alloc, text, value) {
+        Ok(elements) => tell(&elements, masks, offsets, bytes, needed),
+        Err(cause) => cause_code(&cause),
+    }
+}

@@ -1,0 +1,44 @@
+//! The call `zarrs_edit`.
+ghost use Rattle.zarrs_c_calls.specs.Edits.{TellsEdits};
+
+use crate::cause::cause_code;
+use crate::edits::{Edits, edit};
+use crate::sizes::EditSize;
+use std::alloc::Global;
+
+/// Writes new elements into the caller's own value, where the chain writes them in place: where all of its
+/// codecs write a part of a value, as array-to-array codecs and `bytes` do. The edits are made one after
+/// another, each as `zarrs_write` makes it, and the bytes of their places alone are written.
+///
+/// Each edit takes numbers and bytes, as many of each as `sizes` says, from the front of those that
+/// the edits before it left: the numbers are its selection, as in `zarrs_read`, and the bytes are
+/// its new elements. `done` is how many edits were made: where one fails, those before it stay, and
+/// it and those behind it leave the value as it is. Errors, the first that holds, `OutOfMemory`
+/// aside: those of `zarrs_check`; `Argument` where the edits don't take just all numbers and bytes;
+/// `NotInPlace` where the chain doesn't write in place, or the value has fewer bytes than the
+/// chunk's; those of each edit in turn, as of `zarrs_write`.
+pub fn zarrs_edit(
+    alloc: Global,
+    text: &[u8],
+    value: &mut [u8],
+    sizes: &[EditSize],
+    numbers: &[u64],
+    bytes: &[u8],
+    done: &mut usize,
+) -> u32
+    // Wide: the edits have three parts, and the value is named before and after.
+    ensures told { TellsEdits text.now sizes.now numbers.now bytes.now
+        value.old value.new result done.new }
+{
+    let edits = Edits {
+        sizes,
+        numbers,
+        bytes,
+    };
+    let outcome = edit(alloc, text, value, &edits);
+    *done = outcome.done;
+    match outcome.refusal {
+        None => 0,
+        Some(cause) => cause_code(&cause),
+    }
+}

@@ -1,0 +1,34 @@
+//! The call `zarrs_encode`.
+ghost use Rattle.zarrs_c_calls.specs.Buffers.{buffers};
+ghost use Rattle.zarrs_c_calls.specs.Calls.{encoded};
+ghost use Rattle.zarrs_c_calls.specs.Told.{TellsBytes};
+
+use crate::calls::encode;
+use crate::cause::cause_code;
+use crate::tell::tell_bytes;
+use std::alloc::Global;
+
+/// The value that is written for the chunk of these elements.
+///
+/// It is at the front of `out`, and `needed` is how many bytes it has; where `out` is too short,
+/// only `needed` is written, and 1 is returned. Errors, the first that holds, `OutOfMemory` aside:
+/// those of `zarrs_check`; `Argument`, `InvalidOffsets` or `MaskValue` of the elements; those of
+/// `CodecChain::encode`.
+pub fn zarrs_encode(
+    alloc: Global,
+    text: &[u8],
+    masks: &[u8],
+    offsets: &[u64],
+    bytes: &[u8],
+    out: &mut [u8],
+    needed: &mut usize,
+) -> u32
+    // Wide: a caller's three buffers, and the one that is written with its count, before and after.
+    ensures told { TellsBytes (encoded text.now (buffers masks.now offsets.now bytes.now)) result
+        out.old out.new needed.old needed.new }
+{
+    match encode(alloc, text, masks, offsets, bytes) {
+        Ok(value) => tell_bytes(value.as_slice(), out, needed),
+        Err(cause) => cause_code(&cause),
+    }
+}

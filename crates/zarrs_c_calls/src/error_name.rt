@@ -1,0 +1,16 @@
+//! The call `zarrs_error_name`.
+ghost use Rattle.zarrs_c_calls.specs.Names.{code_name as name_of};
+ghost use Rattle.zarrs_c_calls.specs.Told.{ToldName};
+
+use crate::names::code_name;
+use crate::tell::tell_name;
+
+/// The name of a code, in ASCII: the library's own for an error, `Done` for 0, `Short` for 1,
+/// `Syntax` for 2, `Argument` for 3 and `NotInPlace` for 4; no byte for a number that no call
+/// returns. Behind it stands a zero, where the buffer has room for one, which `needed` doesn't
+/// count. Returns 0, or 1 where the buffer is too short for the name.
+pub fn zarrs_error_name(code: u32, out: &mut [u8], needed: &mut usize) -> u32
+    ensures told { ToldName (name_of code) result out.old out.new needed.new }
+{
+    tell_name(code_name(code).as_bytes(), out, needed)
+}

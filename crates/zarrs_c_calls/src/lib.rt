@@ -1,0 +1,56 @@
+//! The library's calls for C: bytes, numbers and structs of numbers in and out, and a code for each
+//! error. The static library `zarrs_c` exports them.
+//!
+//! Each call begins with a header, the JSON text of a chunk's `shape`, `data_type`, `fill_value`
+//! and `codecs`. Elements cross in three buffers, masks, offsets and bytes ([`Sizes`]), and a
+//! selection of them as numbers ([`zarrs_read`]). A call returns 0 where all is done, 1 where a
+//! buffer is too short, and else the code of the first error; a call that fails leaves the caller's
+//! buffers and counts as they were.
+#![tactic(auto)]
+
+mod buffer_handle;
+mod calls;
+mod cause;
+mod check;
+mod decode;
+mod edit;
+mod edits;
+mod encode;
+mod error_name;
+mod fetched;
+mod given;
+pub mod laws;
+mod many_reads;
+mod names;
+mod part_reads;
+#[cfg(test)]
+mod part_tests;
+mod part_writes;
+mod plan;
+mod planned_ranges;
+mod read;
+mod read_many;
+mod read_pieces;
+mod reencode;
+mod representation;
+mod selection;
+mod sizes;
+mod tell;
+mod tell_many;
+#[cfg(test)]
+mod tests;
+mod write;
+
+pub use check::zarrs_check;
+pub use decode::zarrs_decode;
+pub use edit::zarrs_edit;
+pub use encode::zarrs_encode;
+pub use error_name::zarrs_error_name;
+pub use planned_ranges::zarrs_planned_ranges;
+pub use read::zarrs_read;
+pub use read_many::zarrs_read_many;
+pub use read_pieces::zarrs_read_pieces;
+pub use reencode::zarrs_reencode;
+pub use representation::zarrs_representation;
+pub use sizes::{EditSize, SelectionSize, Sizes};
+pub use write::zarrs_write;

@@ -1,0 +1,50 @@
+//! The call `zarrs_read_pieces`.
+ghost use Rattle.zarrs_c_calls.specs.Buffers.{room};
+ghost use Rattle.zarrs_c_calls.specs.Fetched.{TellsPieces};
+
+use crate::cause::cause_code;
+use crate::fetched::{Fetched, read_fetched};
+use crate::sizes::Sizes;
+use crate::tell::tell;
+use std::alloc::Global;
+
+/// The selected elements of the chunk that a value of `len` bytes stands for, of which these ranges
+/// were fetched: each is a start and an end, they come in order, between one and the next there is
+/// a byte, and `fetched` has their bytes, joined.
+///
+/// Where all bytes of the ranges that `zarrs_planned_ranges` returns are among them, the answer is
+/// that of `zarrs_read`, for every value that has these bytes there. The selection is that of
+/// `zarrs_read`, and the elements are returned as by `zarrs_decode`. Errors, the first that holds,
+/// `OutOfMemory` aside: those of `zarrs_check`; `Argument` or `Overflow` of the selection;
+/// `Argument` where the ranges aren't pairs or have other bytes than are fetched;
+/// `InvalidByteRange` where they touch, come in another order or end behind the value; `Storage`
+/// where a byte is needed that isn't among them, and so never where all bytes of the value are;
+/// those of `zarrs_read`.
+pub fn zarrs_read_pieces(
+    alloc: Global,
+    text: &[u8],
+    len: u64,
+    ranges: &[u64],
+    fetched: &[u8],
+    tuples: u64,
+    numbers: &[u64],
+    masks: &mut [u8],
+    offsets: &mut [u64],
+    bytes: &mut [u8],
+    needed: &mut Sizes,
+) -> u32
+    // Wide: a caller's three buffers and their counts, before and after.
+    ensures told { TellsPieces text.now len ranges.now fetched.now tuples numbers.now result
+        (room masks.old offsets.old bytes.old needed.old)
+        (room masks.new offsets.new bytes.new needed.new) }
+{
+    let fetched = Fetched {
+        len,
+        ranges,
+        bytes: fetched,
+    };
+    match read_fetched(alloc, text, &fetched, tuples, numbers) {
+        Ok(elements) => tell(&elements, masks, offsets, bytes, needed),
+        Err(cause) => cause_code(&cause),
+    }
+}

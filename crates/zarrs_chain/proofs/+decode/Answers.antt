@@ -1,0 +1,312 @@
+use Rattle.std.proofs.Common.{◌≡◌, subst, map, List, Ok, IfOk, rules, length, Err, ◌+◌, ◌<◌, ◌^◌, ◌∷◌, []}
+use Rattle.std.proofs.lemmas.Result.{err_from_is_err_and}
+use Rattle.zarrs_array_bytes.specs.Held.{raw_of}
+use Rattle.zarrs_array_bytes.specs.Present.{present_count}
+use Rattle.zarrs_array_bytes.specs.Validity.{Holds, sizes_fit}
+use Rattle.zarrs_array_to_array.specs.Mapping.{mapping_of}
+use Rattle.zarrs_array_to_array.specs.declared.array_to_array_codec.ArrayToArrayCodec.{ArrayToArrayCodec}
+use Rattle.zarrs_data_type.specs.Form.{form_of}
+use Rattle.zarrs_chunk.specs.Answer.{AnswersBy, GivesBy, memory, seen, checked_u64}
+use Rattle.zarrs_chunk.specs.declared.codec_error.CodecError.{CodecError}
+use Rattle.zarrs_codec.specs.CoordinateMap.{moved_chunk, inverse_map}
+use Rattle.zarrs_codec.specs.MappedChunk.{decoded_chunk}
+use Rattle.zarrs_bytes.specs.BytesCodec.{bytes_chunk}
+use Rattle.zarrs_bytes.proofs.Coding.{ok}
+use Rattle.zarrs_chain_meaning.proofs.ChainCounts.{chunk_back}
+use Rattle.zarrs_chain_meaning.proofs.ChainSteps.{refused_chunk, unopened, unread}
+use Rattle.zarrs_chain_meaning.proofs.OptionalSteps.{mask_refused, part_refused, part_expanded}
+use Rattle.zarrs_chain_meaning.proofs.PartSteps.{chunk_of_none}
+use Rattle.zarrs_chain.proofs.BytesBehind.{takes_behind, reads_behind}
+use Rattle.zarrs_chain.proofs.VlenDecode.{content_answered, content_counted, offsets_answered, vlen_answered, index_refused_by, content_refused_by}
+use Rattle.zarrs_chain_meaning.specs.ArrayStages.{arrays_map}
+use Rattle.zarrs_chain_meaning.specs.BytesStages.{outer_bytes}
+use Rattle.zarrs_chain_meaning.specs.Chain.{row_sizes}
+use Rattle.zarrs_chain.specs.ChainView.{plain_chain}
+use Rattle.zarrs_chain_meaning.specs.vlen.VlenSettings.{is_wide, is_at_end}
+use Rattle.zarrs_chain_meaning.specs.CodecMeaning.{chain_chunk}
+use Rattle.zarrs_chain_meaning.specs.Meaning.{part_chunk}
+use Rattle.zarrs_chain_meaning.specs.vlen.Vlen.{vlen_parts}
+use Rattle.zarrs_chain_meaning.specs.optional.Optional.{blank_fill, flag_type}
+use Rattle.zarrs_chain_meaning.specs.Parts.{byte_elements}
+use Rattle.zarrs_chunk.specs.ChunkShape.{product}
+use Rattle.zarrs_array_bytes.specs.Offsets.{last_of}
+use Rattle.zarrs_chain_meaning.specs.vlen.VlenSteps.{data_part, index_offsets, content_bytes}
+use Rattle.zarrs_chain.specs.declared.vlen.vlen_codec.VlenCodec.{out-VlenCodec}
+use Rattle.zarrs_chain.specs.declared.optional.optional_codec.OptionalCodec.{out-OptionalCodec}
+use Rattle.zarrs_chain.proofs.OptionalRoom.{mask_long}
+use Rattle.zarrs_chain.proofs.TakenTight.{vlen_tight}
+use Rattle.zarrs_chain.proofs.+decode.Goals as goal
+
+pub decode::chain_decode-returns : goal.decode::chain_decode-returns
+decode::chain_decode-returns g t c =
+    record {
+      exact = record {
+        is =
+            let f = g.B.BytesToBytesCodecTraits.functions in
+            let chain = plain_chain c.args.chain.now in
+            let sizes = c.args.shape.now in
+            let type = c.args.kind.now in
+            let fill = c.args.fill.now in
+            let taken = c.in_ok-taken.taken in
+            let opened = subst (λ bs. outer_bytes f bs taken.representation (raw_of c.args.value).items ≡ Ok (raw_of c.in_ok-below.below).items) c.deref.ensures.value c.in_ok-below.ensures.answer.is in
+            let found = subst (λ (cs : List ArrayToArrayCodec). IfOk (decoded_chunk (Ok tt) (arrays_map type (map mapping_of cs) sizes) type sizes c.in_ok-chunk.chunk) (λ chunk. AnswersBy memory (Holds type) c.decode_arrays.result (Ok chunk))) c.as_slice-codecs.ensures.value c.decode_arrays.ensures.moved in
+            chunk_back f chain.array_to_array chain.array_to_bytes chain.bytes_to_bytes sizes type fill (taken.shape, taken.representation) (raw_of c.args.value).items (raw_of c.in_ok-below.below).items c.in_ok-chunk.chunk c.decode_arrays.result c.in_ok-taken.ensures.map c.in_ok-taken.ensures.answer.is opened c.in_ok-chunk.ensures.answer.is found;
+        no_fault = search rules;
+      };
+      tight = c.decode_arrays.ensures.tight c.in_ok-chunk.ensures.tight;
+    }
+
+pub decode::chain_decode-bytes_decode-requires : goal.decode::chain_decode-bytes_decode-requires
+decode::chain_decode-bytes_decode-requires g t c =
+    let f = g.B.BytesToBytesCodecTraits.functions in
+    let chain = plain_chain c.args.chain.now in
+    let taken = c.in_ok-taken.taken in
+    record {
+      taken = takes_behind f chain.array_to_array c.args.chain.now.array_to_bytes c.in-Bytes.codec chain.bytes_to_bytes c.args.shape.now c.args.kind.now c.args.fill.now (taken.shape, taken.representation) c.in-Bytes.is c.in_ok-taken.ensures.map c.in_ok-taken.ensures.answer.is;
+    }
+
+pub decode::chain_decode-returns-in-Bytes-clause-exact : goal.decode::chain_decode-returns-in-Bytes-clause-exact
+decode::chain_decode-returns-in-Bytes-clause-exact g t c =
+    let f = g.B.BytesToBytesCodecTraits.functions in
+    let chain = plain_chain c.args.chain.now in
+    let sizes = c.args.shape.now in
+    let type = c.args.kind.now in
+    let fill = c.args.fill.now in
+    let taken = c.in_ok-taken.taken in
+    let order = c.in-Bytes.codec in
+    let below = (raw_of c.in_ok-below.below).items in
+    let opened = subst (λ bs. outer_bytes f bs taken.representation (raw_of c.args.value).items ≡ Ok below) c.deref.ensures.value c.in_ok-below.ensures.answer.is in
+    let found = subst (λ (cs : List ArrayToArrayCodec). IfOk (arrays_map type (map mapping_of cs) sizes) (λ m. GivesBy (Holds type) c.bytes_decode.result (seen (moved_chunk (inverse_map sizes m)) (bytes_chunk order (form_of sizes type fill) below)))) c.as_slice-codecs.ensures.value c.bytes_decode.ensures.answer in
+    reads_behind f chain.array_to_array c.args.chain.now.array_to_bytes order chain.bytes_to_bytes sizes type fill (taken.shape, taken.representation) (raw_of c.args.value).items below c.bytes_decode.result c.in-Bytes.is c.in_ok-taken.ensures.map c.in_ok-taken.ensures.answer.is opened found
+
+pub decode::chain_decode-returns-in_err-taken-clause-exact : goal.decode::chain_decode-returns-in_err-taken-clause-exact
+decode::chain_decode-returns-in_err-taken-clause-exact g t c =
+    record {
+      is =
+          let p = err_from_is_err_and c.from_residual.result c.from_residual.ensures.1 in
+          rw (p.1, p.2) (λ quiet. refused_chunk g.B.BytesToBytesCodecTraits.functions (plain_chain c.args.chain.now) c.args.shape.now c.args.kind.now c.args.fill.now (raw_of c.args.value).items c.in_err-taken.field-0.0 (c.in_err-taken.ensures.answer.is quiet));
+      no_fault = search rules;
+    }
+
+pub decode::chain_decode-returns-in_err-below-clause-exact : goal.decode::chain_decode-returns-in_err-below-clause-exact
+decode::chain_decode-returns-in_err-below-clause-exact g t c =
+    record {
+      is =
+          let f = g.B.BytesToBytesCodecTraits.functions in
+          let chain = plain_chain c.args.chain.now in
+          let taken = c.in_ok-taken.taken in
+          let value = (raw_of c.args.value).items in
+          let p = err_from_is_err_and c.from_residual-in_err-below.result c.from_residual-in_err-below.ensures.1 in
+          rw (p.1, p.2) (λ quiet.
+          let h = subst (λ bs. outer_bytes f bs taken.representation value ≡ Err c.in_err-below.field-0.0) c.deref.ensures.value (c.in_err-below.ensures.answer.is quiet) in
+          unopened f chain c.args.shape.now c.args.kind.now c.args.fill.now (taken.shape, taken.representation) value c.in_err-below.field-0.0 c.in_ok-taken.ensures.answer.is h);
+      no_fault = search rules;
+    }
+
+pub decode::chain_decode-returns-in_err-chunk : goal.decode::chain_decode-returns-in_err-chunk
+decode::chain_decode-returns-in_err-chunk g t c =
+    record {
+      exact = record {
+        is =
+            let f = g.B.BytesToBytesCodecTraits.functions in
+            let chain = plain_chain c.args.chain.now in
+            let taken = c.in_ok-taken.taken in
+            let value = (raw_of c.args.value).items in
+            let below = (raw_of c.in_ok-below.below).items in
+            let opened = subst (λ bs. outer_bytes f bs taken.representation value ≡ Ok below) c.deref.ensures.value c.in_ok-below.ensures.answer.is in
+            let p = err_from_is_err_and c.from_residual-in_err-chunk.result c.from_residual-in_err-chunk.ensures.1 in
+            rw (p.1, p.2) (λ quiet. unread f chain c.args.shape.now c.args.kind.now c.args.fill.now (taken.shape, taken.representation) value below c.in_err-chunk.field-0.0 c.in_ok-taken.ensures.answer.is opened (c.in_err-chunk.ensures.answer.is quiet));
+        no_fault = search rules;
+      };
+      tight = search rules;
+    }
+
+pub decode::part_decode-returns : goal.decode::part_decode-returns
+decode::part_decode-returns g t c =
+    record {
+      exact = record {
+        is =
+            chunk_of_none c.new_fill_value.result (chain_chunk g.B.BytesToBytesCodecTraits.functions (plain_chain c.args.chain.now)) c.args.count c.args.kind.now c.args.fill.now (raw_of c.args.part).items (subst (λ row. ok (row_sizes c.args.count) ≡ ok row) c.in-None.is c.in_ok-row.ensures.answer.is) c.requires.filling c.new_fill_value.ensures.exact.is;
+        no_fault = search rules;
+      };
+      tight = c.new_fill_value.ensures.tight;
+    }
+
+pub vlen::vlen_decode::content_decode-returns-clause-answer : goal.vlen::vlen_decode::content_decode-returns-clause-answer
+vlen::vlen_decode::content_decode-returns-clause-answer g t c =
+    record {
+      is =
+          let read = rw c.uint8.ensures.made at c.in_ok-bytes.ensures.exact.is in
+          content_answered raw_of c.into_fixed.result g.B.BytesToBytesCodecTraits.functions (plain_chain c.args.chain.now) c.args.count (raw_of c.args.part).items c.in_ok-bytes.bytes c.in_ok-fill_value.fill_value c.in_ok-fill_value.ensures.answer read c.into_fixed.ensures.answer;
+      no_fault = search rules;
+    }
+
+pub vlen::vlen_decode::content_decode-returns-clause-len : goal.vlen::vlen_decode::content_decode-returns-clause-len
+vlen::vlen_decode::content_decode-returns-clause-len g t c =
+    let read = rw c.uint8.ensures.made at c.in_ok-bytes.ensures.exact.is in
+    content_counted raw_of c.into_fixed.result g.B.BytesToBytesCodecTraits.functions (plain_chain c.args.chain.now) c.args.count (raw_of c.args.part).items c.in_ok-bytes.bytes c.in_ok-fill_value.fill_value c.in_ok-fill_value.ensures.answer read c.into_fixed.ensures.answer
+
+pub vlen::vlen_decode::index_decode-returns : goal.vlen::vlen_decode::index_decode-returns
+vlen::vlen_decode::index_decode-returns g t c =
+    record {
+      answer = record {
+        is =
+            offsets_answered c.new.result g.B.BytesToBytesCodecTraits.functions (plain_chain c.args.chain.now) (is_wide c.args.data_type) c.args.count c.args.part.now c.in_ok-rows.rows c.offset_type.result c.in_ok-fill_value.fill_value c.in_ok-as_fixed.field-0.now c.in_ok-numbers.numbers.items c.requires.some c.offset_type.ensures.value c.in_ok-fill_value.ensures.answer.is c.in_ok-rows.ensures.exact.is c.in_ok-as_fixed.ensures.answer c.in_ok-numbers.ensures.exact.is c.new.ensures.answer;
+        no_fault = search rules;
+      };
+    }
+
+pub optional::optional_codec::present_decode-returns-in_err-count : goal.optional::optional_codec::present_decode-returns-in_err-count
+optional::optional_codec::present_decode-returns-in_err-count g t c =
+    record {
+      answer = record {
+        is =
+            let decode = chain_chunk g.B.BytesToBytesCodecTraits.functions (plain_chain c.args.chain.now) in
+            let p = err_from_is_err_and c.from_residual.result c.from_residual.ensures.1 in
+            let e : present_count (raw_of c.args.mask).items ≡ Err c.in_err-count.field-0.0 = search rules in
+            rw (p.1, p.2) (λ ne. mask_refused decode c.args.data_type.now (raw_of c.args.mask).items (raw_of c.args.part).items c.in_err-count.field-0.0 e);
+        no_fault = search rules;
+      };
+      tight = search rules;
+    }
+
+pub optional::optional_codec::present_decode-returns-in_err-present : goal.optional::optional_codec::present_decode-returns-in_err-present
+optional::optional_codec::present_decode-returns-in_err-present g t c =
+    record {
+      answer = record {
+        is =
+            let decode = chain_chunk g.B.BytesToBytesCodecTraits.functions (plain_chain c.args.chain.now) in
+            let type = c.args.data_type.now in
+            let part = (raw_of c.args.part).items in
+            let p = err_from_is_err_and c.from_residual-in_err-present.result c.from_residual-in_err-present.ensures.1 in
+            let e : present_count (raw_of c.args.mask).items ≡ Ok c.in_ok-count.count = search rules in
+            rw (p.1, p.2) (λ ne.
+            let h : part_chunk decode type (blank_fill type) c.in_ok-count.count part ≡ Err c.in_err-present.field-0.0 = search rules in
+            part_refused decode type (raw_of c.args.mask).items c.in_ok-count.count part c.in_err-present.field-0.0 e h);
+        no_fault = search rules;
+      };
+      tight = search rules;
+    }
+
+pub optional::optional_codec::present_decode-returns : goal.optional::optional_codec::present_decode-returns
+optional::optional_codec::present_decode-returns g t c =
+    record {
+      answer = record {
+        is =
+            let f = g.B.BytesToBytesCodecTraits.functions in
+            let chain = plain_chain c.args.chain.now in
+            let type = c.args.data_type.now in
+            let mask = (raw_of c.args.mask).items in
+            let part = (raw_of c.args.part).items in
+            let e : present_count mask ≡ Ok c.in_ok-count.count = search rules in
+            let small : length mask + 1 < 2 ^ 64 = search rules in
+            let fits : sizes_fit type (length mask) ≡ Ok tt = c.requires.room small in
+            let read : AnswersBy {E = CodecError} memory (Holds type) (Ok c.in_ok-present.present) (part_chunk (chain_chunk f chain) type (blank_fill type) c.in_ok-count.count part) = search rules in
+            part_expanded c.expand_present.result f chain type c.in_ok-present.present mask c.in_ok-count.count part e fits read c.expand_present.ensures.answer.is;
+        no_fault = search rules;
+      };
+      tight = c.expand_present.ensures.tight c.in_ok-present.ensures.tight;
+    }
+
+pub vlen::vlen_decode::vlen_decode-returns-in_err-offsets : goal.vlen::vlen_decode::vlen_decode-returns-in_err-offsets
+vlen::vlen_decode::vlen_decode-returns-in_err-offsets g t c =
+    record {
+      answer = record {
+        is =
+            let f = g.B.BytesToBytesCodecTraits.functions in
+            let codec = c.args.codec.now in
+            let o = out-VlenCodec _ codec in
+            let index = plain_chain o.index_codecs.value in
+            let content = plain_chain o.data_codecs.value in
+            let wide = is_wide o.index_data_type in
+            let at_end = is_at_end o.index_location in
+            let sizes = c.args.shape.now in
+            let type = c.args.kind.now in
+            let fill = c.args.fill.now in
+            let value = (raw_of c.args.value).items in
+            let i = c.in_ok-index.index.now in
+            let d = c.in_ok-index.field-0-1.now in
+            let count = c.in_ok-count.count in
+            let parts : ok (i, d) ≡ vlen_parts at_end value = search rules in
+            let counted : ok count ≡ checked_u64 (product sizes + 1) = search rules in
+            let p = err_from_is_err_and c.from_residual-in_err-offsets.result c.from_residual-in_err-offsets.ensures.1 in
+            rw (p.1, p.2) (λ ne.
+            let h : index_offsets f index wide count i ≡ Err c.in_err-offsets.field-0.0 = search rules in
+            index_refused_by f codec sizes type fill value i d count c.in_err-offsets.field-0.0 parts counted h);
+        no_fault = search rules;
+      };
+      tight = search rules;
+    }
+
+pub vlen::vlen_decode::vlen_decode-returns-in_err-bytes : goal.vlen::vlen_decode::vlen_decode-returns-in_err-bytes
+vlen::vlen_decode::vlen_decode-returns-in_err-bytes g t c =
+    record {
+      answer = record {
+        is =
+            let f = g.B.BytesToBytesCodecTraits.functions in
+            let codec = c.args.codec.now in
+            let o = out-VlenCodec _ codec in
+            let index = plain_chain o.index_codecs.value in
+            let content = plain_chain o.data_codecs.value in
+            let wide = is_wide o.index_data_type in
+            let at_end = is_at_end o.index_location in
+            let sizes = c.args.shape.now in
+            let type = c.args.kind.now in
+            let fill = c.args.fill.now in
+            let value = (raw_of c.args.value).items in
+            let i = c.in_ok-index.index.now in
+            let d = c.in_ok-index.field-0-1.now in
+            let count = c.in_ok-count.count in
+            let parts : ok (i, d) ≡ vlen_parts at_end value = search rules in
+            let counted : ok count ≡ checked_u64 (product sizes + 1) = search rules in
+            let offsets = c.in_ok-offsets.offsets in
+            let p = err_from_is_err_and c.from_residual-in_err-bytes.result c.from_residual-in_err-bytes.ensures.1 in
+            let first : index_offsets f index wide count i ≡ Ok offsets = search rules in
+            rw (p.1, p.2) (λ ne.
+            let h : content_bytes f content (last_of offsets) (data_part at_end (length i) value) ≡ Err c.in_err-bytes.field-0.0 = search rules in
+            content_refused_by f codec sizes type fill value i d offsets count c.in_err-bytes.field-0.0 parts counted first h);
+        no_fault = search rules;
+      };
+      tight = search rules;
+    }
+
+pub vlen::vlen_decode::vlen_decode-returns : goal.vlen::vlen_decode::vlen_decode-returns
+vlen::vlen_decode::vlen_decode-returns g t c =
+    record {
+      answer = record {
+        is =
+            let f = g.B.BytesToBytesCodecTraits.functions in
+            let codec = c.args.codec.now in
+            let o = out-VlenCodec _ codec in
+            let index = plain_chain o.index_codecs.value in
+            let content = plain_chain o.data_codecs.value in
+            let wide = is_wide o.index_data_type in
+            let at_end = is_at_end o.index_location in
+            let sizes = c.args.shape.now in
+            let type = c.args.kind.now in
+            let fill = c.args.fill.now in
+            let value = (raw_of c.args.value).items in
+            let i = c.in_ok-index.index.now in
+            let d = c.in_ok-index.field-0-1.now in
+            let count = c.in_ok-count.count in
+            let parts : ok (i, d) ≡ vlen_parts at_end value = search rules in
+            let counted : ok count ≡ checked_u64 (product sizes + 1) = search rules in
+            let offsets = c.in_ok-offsets.offsets in
+            let raw = raw_of c.in_ok-bytes.bytes in
+            let first : index_offsets f index wide count i ≡ Ok offsets = search rules in
+            let second : content_bytes f content (last_of offsets) (data_part at_end (length i) value) ≡ Ok raw.items = search rules in
+            let long : length raw.items ≡ last_of offsets = search rules in
+            vlen_answered f codec sizes type fill value c.new_flush.result i d offsets raw count c.requires.taken parts counted first second long c.new_flush.ensures.answer c.new_flush.ensures.same;
+        no_fault = search rules;
+      };
+      tight = vlen_tight g.B.BytesToBytesCodecTraits.functions c.args.codec.now c.args.shape.now c.args.kind.now c.args.fill.now c.new_flush.result c.requires.taken c.new_flush.ensures.flush;
+    }
+
+pub optional::optional_codec::optional_decode-has_room-requires-clause-len : goal.optional::optional_codec::optional_decode-has_room-requires-clause-len
+optional::optional_codec::optional_decode-has_room-requires-clause-len g t c =
+    let f = g.B.BytesToBytesCodecTraits.functions in
+    let mask_chain = plain_chain (out-OptionalCodec _ c.args.codec.now).mask_codecs.value in
+    let part = (raw_of c.in_ok-mask_part.mask_part).items in
+    let mask = (raw_of c.in_ok-mask.mask).items in
+    let read : chain_chunk f mask_chain c.args.shape.now flag_type (0 ∷ []) part ≡ Ok (byte_elements mask) = search rules in
+    mask_long f mask_chain c.args.shape.now part mask read

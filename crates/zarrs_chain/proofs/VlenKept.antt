@@ -1,0 +1,182 @@
+-- Whether a codec `packbits` gives elements back unchanged.
+use Rattle.zarrs_data_type.specs.Form.{form_of}
+use Rattle.std.proofs.Common.{◌≡◌, ℕ, zero, suc, ◌+◌, ◌*◌, ◌<◌, ◌^◌, nat_eq, ◌&&◌, Bool, true, false, List, [], ◌∷◌, ◌++◌, length, map, take, drop, Option, Some, Result, Ok, Err, IsOk, arith, refl, ap, sym, subst, ◌∙◌}
+use Rattle.std.specs.Cmp.Lexicographic.{pointwise}
+use Rattle.std.proofs.lemmas.List.{take-append-drop, length-drop, length-take, length-map, nil_from_length}
+use Rattle.zarrs_chunk.specs.Answer.{Answers, AnswersBy, memory, seen}
+use Rattle.zarrs_chunk.specs.ChunkShape.{product}
+use Rattle.zarrs_chunk.specs.declared.codec_error.CodecError.{CodecError}
+use Rattle.zarrs_chunk.specs.declared.codec_error.CodecError.TheVariants.{InvalidBytesLength, ArrayBytesKind}
+use Rattle.zarrs_data_type.specs.declared.endianness.Endianness.{Endianness}
+use Rattle.zarrs_data_type.specs.Element.{Element, plain, Chunk}
+use Rattle.zarrs_data_type.specs.ElementType.{ElementType, fixed, text, bytes, optional, element_size}
+use Rattle.zarrs_array_bytes.specs.Elements.{elements}
+use Rattle.zarrs_array_bytes.specs.Held.{Held, Raw, flen, vlen, masked}
+use Rattle.zarrs_array_bytes.specs.Parts.{fixed_part}
+use Rattle.zarrs_array_bytes.specs.Pieces.{pieces}
+use Rattle.zarrs_array_bytes.specs.Tight.{from_first}
+use Rattle.zarrs_array_bytes.specs.Validity.{Holds}
+use Rattle.zarrs_array_bytes.proofs.Pieces.{elements-pieces, pieces-suc}
+use Rattle.zarrs_array_bytes.proofs.ValidLemmas.{both_ok, fixed_fits}
+use Rattle.zarrs_packbits.specs.NormalForm.{normal_chunk}
+use Rattle.zarrs_packbits.specs.NormalForm as packbits
+use Rattle.zarrs_packbits.specs.PackBitsCodec.{PackBitsStands, PackBitsWritten}
+use Rattle.zarrs_packbits.specs.PackBitsSettings.{PackBitsSettings, packed_layout}
+use Rattle.zarrs_packbits.proofs.CodecLaws.{written_stands}
+use Rattle.zarrs_chain_meaning.specs.vlen.Vlen.{is_same_bytes, offset_bytes, offset_elements, offset_type}
+use Rattle.zarrs_chain_meaning.specs.CodecMeaning.{meaning}
+use Rattle.zarrs_chain.specs.ChainView.{plain_codec, plain_vlen_at, plain_optional_at}
+use Rattle.zarrs_chain_meaning.specs.PlainChain.{PlainChain, bytes_codec, packbits_codec, vlen_codec_of, optional_codec_of}
+use Rattle.zarrs_chain_meaning.specs.vlen.VlenSteps.{lent_bytes, written_offsets, keeps_offsets, TakesOffsets}
+use Rattle.zarrs_chain.specs.declared.array_to_bytes_codec.ArrayToBytesCodec.{ArrayToBytesCodec}
+use Rattle.zarrs_chain.specs.declared.array_to_bytes_codec.ArrayToBytesCodec.TheVariants.{Bytes, PackBits, Vlen, Optional}
+use Rattle.zarrs_chain.specs.declared.optional.optional_codec.OptionalCodec.{OptionalCodec}
+use Rattle.zarrs_chain.specs.declared.vlen.vlen_codec.VlenCodec.{VlenCodec}
+use Rattle.zarrs_chain_meaning.specs.Chain.{row_sizes}
+use Rattle.zarrs_chain_meaning.proofs.VlenOffsets.{index_holds, elements_long}
+use Rattle.zarrs_bytes.proofs.Coding.{ok}
+use Rattle.zarrs_chain_meaning.proofs.ArraySteps.{err, ok_no_err}
+use Rattle.zarrs_chain_meaning.proofs.NestedEncode.{same_bytes}
+
+-- ---- the same bytes, element by element and joined
+
+and_nested : (a b c : Bool) → (a && b) && c ≡ a && (b && c)
+and_nested true b c = refl
+and_nested false b c = refl
+
+joined_same : (xs ys us vs : List ℕ) → length xs ≡ length us → pointwise nat_eq (xs ++ ys) (us ++ vs) ≡ pointwise nat_eq xs us && pointwise nat_eq ys vs
+joined_same [] ys [] vs e = refl
+joined_same [] ys (u ∷ us) vs e = absurd (omega (arith, e))
+joined_same (x ∷ xs) ys [] vs e = absurd (omega (arith, e))
+joined_same (x ∷ xs) ys (u ∷ us) vs e =
+    let same : length xs ≡ length us = omega (arith, e) in
+    ap (λ b. nat_eq x u && b) (joined_same xs ys us vs same) ∙ sym (and_nested (nat_eq x u) (pointwise nat_eq xs us) (pointwise nat_eq ys vs))
+
+pieces_same : (size count : ℕ) (xs ys : List ℕ) → length xs ≡ count * size → length ys ≡ count * size → is_same_bytes (map plain (pieces size count xs)) (map plain (pieces size count ys)) ≡ pointwise nat_eq xs ys
+pieces_same size zero xs ys a b =
+    let x : xs ≡ [] = nil_from_length xs (omega (arith, a)) in
+    let y : ys ≡ [] = nil_from_length ys (omega (arith, b)) in
+    λ i. pointwise nat_eq (sym x i) (sym y i)
+pieces_same size (suc count) xs ys a b =
+    let all : suc count * size ≡ size + count * size = omega arith in
+    let heads : length (take size xs) ≡ length (take size ys) = omega (arith, length-take size xs, length-take size ys, a, b) in
+    let rest = pieces_same size count (drop size xs) (drop size ys) (omega (arith, length-drop size xs, a, all)) (omega (arith, length-drop size ys, b, all)) in
+    (λ i. is_same_bytes (map plain (pieces-suc size count xs i)) (map plain (pieces-suc size count ys i)))
+    ∙ ap (λ t. pointwise nat_eq (take size xs) (take size ys) && t) rest
+    ∙ sym (joined_same (take size xs) (drop size xs) (take size ys) (drop size ys) heads)
+    ∙ (λ i. pointwise nat_eq (take-append-drop size xs i) (take-append-drop size ys i))
+
+-- containers of as many elements hold the same bytes
+pub held_same : (type : ElementType) (a b : Raw) (chunk other : Chunk) → Holds type (flen a) chunk → Holds type (flen b) other → length chunk ≡ length other → is_same_bytes chunk other ≡ pointwise nat_eq a.items b.items
+held_same (fixed width components sign) a b chunk other h k e =
+    let size = element_size width components in
+    let count = length other in
+    let first : length a.items ≡ count * size = fixed_fits InvalidBytesLength (fixed width components sign) (length chunk) a size (both_ok _ _ h.valid).1 refl ∙ ap (λ n. n * size) e in
+    let second : length b.items ≡ count * size = fixed_fits InvalidBytesLength (fixed width components sign) count b size (both_ok _ _ k.valid).1 refl in
+    let one : chunk ≡ map plain (pieces size count a.items) = sym h.elements_are ∙ ap (λ n. elements (fixed width components sign) n (flen a)) e ∙ elements-pieces width components sign count a in
+    let two : other ≡ map plain (pieces size count b.items) = sym k.elements_are ∙ elements-pieces width components sign count b in
+    (λ i. is_same_bytes (one i) (two i)) ∙ pieces_same size count a.items b.items first second
+held_same text a b chunk other h k e = absurd (ok_no_err tt ArrayBytesKind (sym (both_ok _ _ h.valid).1))
+held_same bytes a b chunk other h k e = absurd (ok_no_err tt ArrayBytesKind (sym (both_ok _ _ h.valid).1))
+held_same (optional type) a b chunk other h k e = absurd (ok_no_err tt ArrayBytesKind (sym (both_ok _ _ h.valid).1))
+
+-- ---- written and read
+
+-- the chunk of a container is one alone
+pub held_once : (type : ElementType) (held : Held) (chunk other : Chunk) → Holds type held chunk → Holds type held other → length chunk ≡ length other → chunk ≡ other
+held_once type held chunk other h k e = sym h.elements_are ∙ ap (λ n. elements type n held) e ∙ k.elements_are
+
+-- what is read of the value that was written for a chunk is its normal form
+pub kept_of : (settings : PackBitsSettings) (sizes : List ℕ) (type : ElementType) (fill : List ℕ) (held : Held) (value : List ℕ) (r : Result Held CodecError) (chunk : Chunk) → Holds type held chunk → length chunk ≡ product sizes
+    → (other : Chunk) × Holds type held other × PackBitsWritten settings (form_of sizes type fill) value other
+    → ((c : Chunk) → PackBitsStands settings (form_of sizes type fill) value c → AnswersBy memory (Holds type) r (Ok c))
+    → AnswersBy memory (Holds type) r (Ok (normal_chunk settings type chunk))
+kept_of settings sizes type fill held value r chunk holds long found only =
+    let same : found.0 ≡ chunk = held_once type held found.0 chunk found.1 holds (found.2.elements.count_is ∙ sym long) in
+    subst (λ (c : Chunk). AnswersBy memory (Holds type) r (Ok (normal_chunk settings type c))) same (only (normal_chunk settings type found.0) (written_stands settings sizes type fill value found.0 found.2))
+
+kept_equal : (items : List ℕ) (raw : Raw) (r : Result Bool CodecError) (same : Bool) → r ≡ ok (pointwise nat_eq raw.items items) → same ≡ pointwise nat_eq raw.items items → Answers memory (λ (kept : Bool). kept) r (Ok same)
+kept_equal items raw (Ok b) same e is = ap ok is ∙ sym e
+kept_equal items raw (Err error) same e is = absurd cc
+
+-- and it is the chunk just where it has the same bytes
+pub kept_answer : (settings : PackBitsSettings) (type : ElementType) (kept : Held) (items : List ℕ) (r : Result Bool CodecError) (chunk : Chunk) → r ≡ seen (λ (raw : Raw). pointwise nat_eq raw.items items) (fixed_part kept)
+    → Holds type (flen (lent_bytes items)) chunk → Holds type kept (normal_chunk settings type chunk) → Answers memory (λ (kept : Bool). kept) r (Ok (is_same_bytes (normal_chunk settings type chunk) chunk))
+kept_answer settings type (flen raw) items r chunk e h k =
+    kept_equal items raw r (is_same_bytes (normal_chunk settings type chunk) chunk) e (held_same type raw (lent_bytes items) (normal_chunk settings type chunk) chunk k h (length-map chunk (packbits.normal_element settings type)))
+kept_answer settings (fixed width components sign) (vlen raw offsets) items r chunk e h k = absurd (ok_no_err tt ArrayBytesKind (sym (both_ok _ _ k.valid).1))
+kept_answer settings (fixed width components sign) (masked inner mask) items r chunk e h k = absurd (ok_no_err tt ArrayBytesKind (sym (both_ok _ _ k.valid).1))
+kept_answer settings text (vlen raw offsets) items r chunk e h k = absurd (ok_no_err tt ArrayBytesKind (sym (both_ok _ _ h.valid).1))
+kept_answer settings text (masked inner mask) items r chunk e h k = absurd (ok_no_err tt ArrayBytesKind (sym (both_ok _ _ h.valid).1))
+kept_answer settings bytes (vlen raw offsets) items r chunk e h k = absurd (ok_no_err tt ArrayBytesKind (sym (both_ok _ _ h.valid).1))
+kept_answer settings bytes (masked inner mask) items r chunk e h k = absurd (ok_no_err tt ArrayBytesKind (sym (both_ok _ _ h.valid).1))
+kept_answer settings (optional type) (vlen raw offsets) items r chunk e h k = absurd (ok_no_err tt ArrayBytesKind (sym (both_ok _ _ h.valid).1))
+kept_answer settings (optional type) (masked inner mask) items r chunk e h k = absurd (ok_no_err tt ArrayBytesKind (sym (both_ok _ _ h.valid).1))
+
+pub no_error : (chunk : Chunk) (same : Bool) (error : CodecError) → ok chunk ≡ err error → ok same ≡ err error
+no_error chunk same error e = absurd cc
+
+-- ---- offsets
+
+map_same : (keep : Element → Element) (chunk : Chunk) → ((element : Element) → keep element ≡ element) → map keep chunk ≡ chunk
+map_same keep [] same = refl
+map_same keep (element ∷ chunk) same = λ i. same element i ∷ map_same keep chunk same i
+
+all_kept : (keep : Element → Element) (chunk : Chunk) → ((element : Element) → keep element ≡ element) → is_same_bytes (map keep chunk) chunk ≡ true
+all_kept keep chunk same = ap (λ (c : Chunk). is_same_bytes c chunk) (map_same keep chunk same) ∙ same_bytes chunk
+
+-- only `packbits` may change a number
+kept_by_bytes : (B : Type 0) (order : Option Endianness) (wide : Bool) (offsets : List ℕ) → keeps_offsets {B = B} (bytes_codec order) wide offsets ≡ true
+unfolding meaning
+kept_by_bytes B order wide offsets = all_kept (λ element. element) (offset_elements wide (from_first offsets)) (λ element. refl)
+
+kept_by_vlen : {B : Type 0} (index content : PlainChain B) (w at_end : Bool) (wide : Bool) (offsets : List ℕ) → keeps_offsets (vlen_codec_of index content w at_end) wide offsets ≡ true
+unfolding meaning
+kept_by_vlen index content w at_end wide offsets = all_kept _ (offset_elements wide (from_first offsets)) (λ element. refl)
+
+kept_by_optional : {B : Type 0} (mask content : PlainChain B) (wide : Bool) (offsets : List ℕ) → keeps_offsets (optional_codec_of mask content) wide offsets ≡ true
+unfolding meaning
+kept_by_optional mask content wide offsets = all_kept _ (offset_elements wide (from_first offsets)) (λ element. refl)
+
+pub bytes_keep : {B : Type 0} (codec : ArrayToBytesCodec B) (order : Option Endianness) (wide : Bool) (offsets : List ℕ) → codec ≡ Bytes order → keeps_offsets (plain_codec codec) wide offsets ≡ true
+unfolding plain_codec
+bytes_keep {B} codec order wide offsets e = ap (λ c. keeps_offsets (plain_codec c) wide offsets) e ∙ kept_by_bytes B order wide offsets
+
+pub vlen_keeps : {B : Type 0} (codec : ArrayToBytesCodec B) (inner : VlenCodec B) (wide : Bool) (offsets : List ℕ) → codec ≡ Vlen inner → keeps_offsets (plain_codec codec) wide offsets ≡ true
+unfolding plain_codec
+vlen_keeps codec inner wide offsets e =
+    ap (λ c. keeps_offsets (plain_codec c) wide offsets) e ∙ ap (λ p. keeps_offsets p wide offsets) (plain_vlen_at inner) ∙ kept_by_vlen _ _ _ _ wide offsets
+
+pub optional_keeps : {B : Type 0} (codec : ArrayToBytesCodec B) (inner : OptionalCodec B) (wide : Bool) (offsets : List ℕ) → codec ≡ Optional inner → keeps_offsets (plain_codec codec) wide offsets ≡ true
+unfolding plain_codec
+optional_keeps codec inner wide offsets e =
+    ap (λ c. keeps_offsets (plain_codec c) wide offsets) e ∙ ap (λ p. keeps_offsets p wide offsets) (plain_optional_at inner) ∙ kept_by_optional _ _ wide offsets
+
+pub packed_keeps : {B : Type 0} (codec : ArrayToBytesCodec B) (settings : PackBitsSettings) (wide : Bool) (offsets : List ℕ) → codec ≡ PackBits settings → keeps_offsets (plain_codec codec) wide offsets ≡ keeps_offsets {B = ℕ} (packbits_codec settings) wide offsets
+unfolding plain_codec meaning
+packed_keeps codec settings wide offsets e = ap (λ c. keeps_offsets (plain_codec c) wide offsets) e
+
+pub packed_takes : {B : Type 0} (codec : ArrayToBytesCodec B) (settings : PackBitsSettings) (wide : Bool) (count : ℕ) → codec ≡ PackBits settings → TakesOffsets (plain_codec codec) wide count → IsOk (packed_layout settings (form_of (count ∷ []) (offset_type wide) (offset_bytes wide 0)))
+unfolding plain_codec
+packed_takes codec settings wide count e h = subst (λ c. TakesOffsets (plain_codec c) wide count) e h
+
+pub packed_rows : (settings : PackBitsSettings) (wide : Bool) (offsets : List ℕ) → keeps_offsets {B = ℕ} (packbits_codec settings) wide offsets ≡ is_same_bytes (normal_chunk settings (offset_type wide) (offset_elements wide (from_first offsets))) (offset_elements wide (from_first offsets))
+unfolding meaning
+packed_rows settings wide offsets = refl
+
+row_is : (count : ℕ) (row : List ℕ) → ok (Some (suc count ∷ [])) ≡ ok (Some row) → suc count ∷ [] ≡ row
+row_is count row e = cc
+
+row_length : (count : ℕ) (row : List ℕ) → ok (row_sizes count) ≡ ok (Some row) → count ≡ product row
+row_length zero row e = absurd cc
+row_length (suc count) row e = let n : suc count ≡ product (suc count ∷ []) = omega arith in n ∙ ap product (row_is count row e)
+
+-- what is found of the elements of an index is found of its offsets
+pub packed_answer : (settings : PackBitsSettings) (wide : Bool) (offsets items row : List ℕ) (type : ElementType) (r : Result Bool CodecError) → written_offsets wide offsets ≡ Ok items → length items < 2 ^ 64 → type ≡ offset_type wide → ok (row_sizes (length offsets)) ≡ ok (Some row)
+    → ((chunk : Chunk) → Holds type (flen (lent_bytes items)) chunk → length chunk ≡ product row → Answers memory (λ (kept : Bool). kept) r (Ok (is_same_bytes (normal_chunk settings type chunk) chunk)))
+    → Answers memory (λ (kept : Bool). kept) r (Ok (keeps_offsets {B = ℕ} (packbits_codec settings) wide offsets))
+packed_answer settings wide offsets items row type r e small t row_so h =
+    let rows = offset_elements wide (from_first offsets) in
+    let holds : Holds type (flen (lent_bytes items)) rows = subst (λ (u : ElementType). Holds u (flen (lent_bytes items)) rows) (sym t) (index_holds wide offsets (lent_bytes items) e small) in
+    let found = h rows holds (elements_long wide offsets ∙ row_length (length offsets) row row_so) in
+    subst (λ (b : Bool). Answers memory (λ (kept : Bool). kept) r (Ok b)) ((λ i. is_same_bytes (normal_chunk settings (t i) rows) rows) ∙ sym (packed_rows settings wide offsets)) found

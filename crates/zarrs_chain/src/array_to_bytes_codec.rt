@@ -1,0 +1,196 @@
+ghost use Rattle.zarrs_array_bytes.specs.Tight.{IsTight};
+ghost use Rattle.std.specs.Prelude.{◌≡◌, IfOk};
+ghost use Rattle.zarrs_chain_meaning.specs.Chain.{codec_reads as codec_reads_of, codec_writes as codec_writes_of};
+ghost use Rattle.zarrs_chain.specs.ChainView.{plain_codec};
+ghost use Rattle.zarrs_chain_meaning.specs.CodecMeaning.{HasMappings};
+ghost use Rattle.zarrs_chain_meaning.specs.MadeAgain.{HasRanges};
+ghost use Rattle.zarrs_chain.specs.CodecCalls.{Takes, Counts, Writes, Reads};
+
+use crate::optional::optional_codec::{
+    OptionalCodec, optional_decode, optional_encode, optional_has_ranges, optional_is_sound,
+    optional_representation,
+};
+use crate::vlen::plain_form::vlen_reads;
+use crate::vlen::vlen_codec::{VlenCodec, vlen_has_ranges, vlen_is_sound, vlen_representation};
+use crate::vlen::vlen_decode::vlen_decode;
+use crate::vlen::vlen_encode::vlen_encode;
+use std::alloc::Global;
+use zarrs_array_bytes::{ArrayBytes, ArrayBytesRaw};
+use zarrs_bytes::BytesCodec;
+use zarrs_chunk::{ChunkShape, CodecError};
+use zarrs_codec::{
+    BytesRepresentation, BytesToBytesCodecTraits, CodecTraits, PartialDecoderCapability,
+    PartialEncoderCapability,
+};
+use zarrs_data_type::{DataType, FillValue};
+use zarrs_packbits::PackBitsCodec;
+
+/// A codec of chunks to bytes.
+#[cycle(chain)]
+#[derive(Debug, Drop)]
+pub enum ArrayToBytesCodec<B> {
+    /// The bytes of the elements (codec `bytes`).
+    Bytes(BytesCodec),
+    /// Some bits of each component (codec `packbits`).
+    PackBits(PackBitsCodec),
+    /// Elements of any length, with where each begins (codec `vlen`).
+    Vlen(VlenCodec<B>),
+    /// The present elements, and which ones are present (codec `optional`).
+    Optional(OptionalCodec<B>),
+}
+
+/// The array-to-array codecs of the chains inside hold to what their types do.
+#[cycle(sound)]
+#[tactic(auto, unfolding(crate::specs::ChainView::plain_codec, zarrs_chain_meaning::specs::CodecMeaning::meaning))]
+pub(crate) fn codec_is_sound<B>(codec: &ArrayToBytesCodec<B>)
+    ensures mappings { HasMappings (plain_codec codec.now) }
+{
+    match codec {
+        ArrayToBytesCodec::Bytes(_) => {}
+        ArrayToBytesCodec::PackBits(_) => {}
+        ArrayToBytesCodec::Vlen(codec) => vlen_is_sound(codec),
+        ArrayToBytesCodec::Optional(codec) => optional_is_sound(codec),
+    }
+}
+
+/// The bits that the codec keeps, and those that the chains inside keep, are ranges.
+#[cycle(ranges)]
+#[tactic(auto, unfolding(crate::specs::ChainView::plain_codec))]
+pub(crate) fn codec_has_ranges<B>(codec: &ArrayToBytesCodec<B>)
+    ensures ranges { HasRanges (plain_codec codec.now) }
+{
+    match codec {
+        ArrayToBytesCodec::Bytes(_) => {}
+        ArrayToBytesCodec::PackBits(codec) => codec.is_sound(),
+        ArrayToBytesCodec::Vlen(codec) => vlen_has_ranges(codec),
+        ArrayToBytesCodec::Optional(codec) => optional_has_ranges(codec),
+    }
+}
+
+/// How many bytes the value of such a chunk has. Errors: the codec's own.
+#[cycle(representation)]
+#[tactic(auto, unfolding(crate::specs::ChainView::plain_codec), using(crate::proofs::CodecSteps::bytes_measured, crate::proofs::CodecSteps::packbits_measured, crate::proofs::CodecSteps::vlen_measured, crate::proofs::CodecSteps::packbits_no_fault))]
+pub(crate) fn codec_representation<B: BytesToBytesCodecTraits>(
+    alloc: Global,
+    codec: &ArrayToBytesCodec<B>,
+    shape: &ChunkShape,
+    data_type: &DataType,
+    fill_value: &FillValue,
+) -> Result<BytesRepresentation, CodecError>
+    ensures answer { Counts B.functions codec.now shape.now data_type.now fill_value.now result }
+{
+    match codec {
+        ArrayToBytesCodec::Bytes(codec) => {
+            codec.encoded_representation(shape, data_type, fill_value)
+        }
+        ArrayToBytesCodec::PackBits(codec) => {
+            codec.encoded_representation(shape, data_type, fill_value)
+        }
+        ArrayToBytesCodec::Vlen(_) => vlen_representation(shape, data_type),
+        ArrayToBytesCodec::Optional(codec) => {
+            optional_representation(alloc, codec, shape, data_type, fill_value)
+        }
+    }
+}
+
+/// The value of the chunk that `held` holds, where the codec takes such chunks. Errors: those of
+/// the codec's `encode` behind those of its `encoded_representation`.
+#[cycle(encode)]
+#[tactic(auto, unfolding(crate::specs::ChainView::plain_codec), using(crate::proofs::CodecSteps::bytes_held_value, crate::proofs::CodecSteps::packbits_held_value))]
+pub(crate) fn codec_encode<'a, B: BytesToBytesCodecTraits>(
+    alloc: Global,
+    codec: &ArrayToBytesCodec<B>,
+    held: ArrayBytes<'a>,
+    shape: &ChunkShape,
+    kind: &DataType,
+    fill: &FillValue,
+) -> Result<ArrayBytesRaw<'a>, CodecError>
+    requires taken { Takes B.functions codec.now shape.now kind.now fill.now }
+    ensures answer { Writes B.functions codec.now shape.now kind.now fill.now held.entry result }
+{
+    match codec {
+        ArrayToBytesCodec::Bytes(codec) => { codec.encode(alloc, held, shape, kind, fill) }
+        ArrayToBytesCodec::PackBits(codec) => { codec.encode(alloc, held, shape, kind, fill) }
+        ArrayToBytesCodec::Vlen(codec) => { vlen_encode(alloc, codec, held, shape, kind, fill) }
+        ArrayToBytesCodec::Optional(codec) => {
+            optional_encode(alloc, codec, held, shape, kind, fill)
+        }
+    }
+}
+
+/// The value of the chunk that `held` holds. Errors: the codec's own.
+pub(crate) fn codec_taken_encode<'a, B: BytesToBytesCodecTraits>(
+    alloc: Global,
+    codec: &ArrayToBytesCodec<B>,
+    held: ArrayBytes<'a>,
+    shape: &ChunkShape,
+    kind: &DataType,
+    fill: &FillValue,
+) -> Result<ArrayBytesRaw<'a>, CodecError>
+    ensures answer { Writes B.functions codec.now shape.now kind.now fill.now held.entry result }
+{
+    codec_representation(alloc, codec, shape, kind, fill)?;
+    codec_encode(alloc, codec, held, shape, kind, fill)
+}
+
+/// The chunk that a value stands for, in the container that it fixes, where the codec takes such
+/// chunks. Errors: those of the codec's `decode` behind those of its `encoded_representation`.
+#[cycle(decode)]
+#[tactic(auto, unfolding(crate::specs::ChainView::plain_codec), using(crate::proofs::CodecSteps::bytes_chunk_at, crate::proofs::CodecSteps::packbits_chunk_at, crate::proofs::TakenTight::bytes_tight_at, crate::proofs::TakenTight::packbits_tight_at))]
+pub fn codec_decode<'a, B: BytesToBytesCodecTraits>(
+    alloc: Global,
+    codec: &ArrayToBytesCodec<B>,
+    value: ArrayBytesRaw<'a>,
+    shape: &ChunkShape,
+    kind: &DataType,
+    fill: &FillValue,
+) -> Result<ArrayBytes<'a>, CodecError>
+    requires taken { Takes B.functions codec.now shape.now kind.now fill.now }
+    ensures answer { Reads B.functions codec.now shape.now kind.now fill.now value.entry result }
+    ensures tight { IfOk result (IsTight kind.now) }
+{
+    match codec {
+        ArrayToBytesCodec::Bytes(codec) => codec.decode(alloc, value, shape, kind, fill),
+        ArrayToBytesCodec::PackBits(codec) => { codec.decode(alloc, value, shape, kind, fill) }
+        ArrayToBytesCodec::Vlen(codec) => { vlen_decode(alloc, codec, value, shape, kind, fill) }
+        ArrayToBytesCodec::Optional(codec) => {
+            optional_decode(alloc, codec, value, shape, kind, fill)
+        }
+    }
+}
+
+/// What the codec reads in part: `bytes`, `packbits` and a plain `vlen` all, any other with chains
+/// inside nothing.
+#[tactic(auto, unfolding(crate::specs::ChainView::plain_codec), using(crate::specs::ChainView::plain_optional_at))]
+pub(crate) fn codec_reads<B>(codec: &ArrayToBytesCodec<B>) -> PartialDecoderCapability
+    ensures value { result ≡ codec_reads_of (plain_codec codec.now) }
+{
+    match codec {
+        ArrayToBytesCodec::Bytes(_) => PartialDecoderCapability {
+            partial_read: true,
+            partial_decode: true,
+        },
+        ArrayToBytesCodec::PackBits(codec) => codec.partial_decoder_capability(),
+        ArrayToBytesCodec::Vlen(codec) => vlen_reads(codec),
+        ArrayToBytesCodec::Optional(_) => PartialDecoderCapability {
+            partial_read: false,
+            partial_decode: false,
+        },
+    }
+}
+
+/// What the codec writes in part.
+#[tactic(auto, unfolding(crate::specs::ChainView::plain_codec), using(crate::specs::ChainView::plain_vlen_at, crate::specs::ChainView::plain_optional_at))]
+pub(crate) fn codec_writes<B>(codec: &ArrayToBytesCodec<B>) -> PartialEncoderCapability
+    ensures value { result ≡ codec_writes_of (plain_codec codec.now) }
+{
+    match codec {
+        ArrayToBytesCodec::Bytes(_) => PartialEncoderCapability {
+            partial_encode: true,
+        },
+        ArrayToBytesCodec::PackBits(codec) => codec.partial_encoder_capability(),
+        ArrayToBytesCodec::Vlen(_) | ArrayToBytesCodec::Optional(_) => PartialEncoderCapability {
+            partial_encode: false,
+        },
+    }
+}

@@ -1,0 +1,38 @@
+//! The chunk that a value of the codec `bytes` stands for, behind array-to-array codecs.
+ghost use Rattle.zarrs_array_bytes.specs.Tight.{IsTight};
+ghost use Rattle.std.specs.Prelude.{IfOk};
+ghost use Rattle.zarrs_data_type.specs.Form.{form_of};
+ghost use Rattle.zarrs_bytes.specs.BytesCodec.{BytesTakes};
+ghost use Rattle.zarrs_chain.specs.CodecCalls.{ReadsBehind};
+
+use std::alloc::Global;
+use zarrs_array_bytes::{ArrayBytes, ArrayBytesRaw};
+use zarrs_array_to_array::ArrayToArrayCodec;
+use zarrs_bytes::BytesCodec;
+use zarrs_chain_meaning::array_stages::decode_arrays;
+use zarrs_chunk::{ChunkShape, CodecError};
+use zarrs_data_type::{DataType, FillValue};
+
+/// The chunk of this shape that a value of the codec stands for, as the array-to-array codecs
+/// decode it. They move the elements as they are stored, and what they made is turned round where
+/// it stands: of a borrowed value one copy is made, and not one for each of the two. Errors:
+/// `InvalidBytesLength`; `OutOfMemory`.
+pub(crate) fn bytes_decode<'a>(
+    alloc: Global,
+    codec: &BytesCodec,
+    codecs: &[ArrayToArrayCodec],
+    value: ArrayBytesRaw<'a>,
+    shape: &ChunkShape,
+    kind: &DataType,
+    fill: &FillValue,
+) -> Result<ArrayBytes<'a>, CodecError>
+    requires taken { BytesTakes codec.now (form_of shape.now kind.now fill.now) }
+    ensures answer { ReadsBehind codec.now codecs.now shape.now kind.now fill.now value.entry result }
+    ensures tight { IfOk result (IsTight kind.now) }
+{
+    shape.as_slice();
+    let stored = BytesCodec::little().decode(alloc, value, shape, kind, fill)?;
+    let moved = decode_arrays(alloc, codecs, stored, shape, kind, fill)?;
+    let raw = moved.into_fixed()?;
+    codec.decode(alloc, raw, shape, kind, fill)
+}

@@ -1,0 +1,70 @@
+//! The chunk that a value stands for, through a chain.
+ghost use Rattle.zarrs_array_bytes.specs.Tight.{IsTight};
+ghost use Rattle.std.specs.Prelude.{◌≡◌, IfOk, true};
+ghost use Rattle.zarrs_data_type.specs.FillValue.{fill_fits};
+ghost use Rattle.zarrs_chain.specs.ChainCalls.{Reads, ReadsRow};
+
+use crate::array_to_bytes_codec::{ArrayToBytesCodec, codec_decode};
+use crate::bytes_decode::bytes_decode;
+use crate::codec_chain::CodecChain;
+use crate::encode::row_of;
+use crate::representation::taken_form;
+use std::alloc::Global;
+use zarrs_array_bytes::{ArrayBytes, ArrayBytesRaw};
+use zarrs_chain_meaning::array_stages::decode_arrays;
+use zarrs_chain_meaning::bytes_stages::decode_bytes;
+use zarrs_chunk::{ChunkShape, CodecError};
+use zarrs_codec::BytesToBytesCodecTraits;
+use zarrs_data_type::{DataType, FillValue};
+
+/// The chunk that a value stands for through the chain, in the container that it fixes. Errors:
+/// those of `CodecChain::decode`.
+#[cycle(decode)]
+pub(crate) fn chain_decode<'a, B: BytesToBytesCodecTraits>(
+    alloc: Global,
+    chain: &CodecChain<B>,
+    value: ArrayBytesRaw<'a>,
+    shape: &ChunkShape,
+    kind: &DataType,
+    fill: &FillValue,
+) -> Result<ArrayBytes<'a>, CodecError>
+    ensures exact { Reads B.functions chain.now shape.now kind.now fill.now value.entry result }
+    ensures tight { IfOk result (IsTight kind.now) }
+{
+    let taken = taken_form(alloc, chain, shape, kind, fill)?;
+    let below = decode_bytes(alloc, &chain.bytes_to_bytes, &taken.representation, value)?;
+    let codecs = chain.array_to_array.as_slice();
+    if let ArrayToBytesCodec::Bytes(codec) = &chain.array_to_bytes {
+        return bytes_decode(alloc, codec, codecs, below, shape, kind, fill);
+    }
+    let chunk = codec_decode(
+        alloc,
+        &chain.array_to_bytes,
+        below,
+        &taken.shape,
+        kind,
+        fill,
+    )?;
+    decode_arrays(alloc, codecs, chunk, shape, kind, fill)
+}
+
+/// The row of so many elements that a part stands for through the chain; of none, whatever the part
+/// is. Errors: those of `chain_decode`.
+#[cycle(decode)]
+pub(crate) fn part_decode<'a, B: BytesToBytesCodecTraits>(
+    alloc: Global,
+    chain: &CodecChain<B>,
+    part: ArrayBytesRaw<'a>,
+    count: u64,
+    kind: &DataType,
+    fill: &FillValue,
+) -> Result<ArrayBytes<'a>, CodecError>
+    requires filling { fill_fits kind.now fill.now ≡ true }
+    ensures exact { ReadsRow B.functions chain.now count kind.now fill.now part.entry result }
+    ensures tight { IfOk result (IsTight kind.now) }
+{
+    match row_of(alloc, count)? {
+        Some(row) => chain_decode(alloc, chain, part, &row, kind, fill),
+        None => ArrayBytes::new_fill_value(alloc, kind, 0, fill),
+    }
+}

@@ -1,0 +1,90 @@
+//! The value of a chunk, through a chain.
+ghost use Rattle.zarrs_chunk.specs.Answer.{Gives, is_fault, checked_u64};
+ghost use Rattle.std.specs.Prelude.{◌≡◌, Ok, false};
+ghost use Rattle.zarrs_chunk.specs.ChunkShape.{product};
+ghost use Rattle.zarrs_array_bytes.specs.Validity.{validity};
+ghost use Rattle.zarrs_chain_meaning.specs.Chain.{row_sizes};
+ghost use Rattle.zarrs_chain.specs.ChainCalls.{Writes, WritesRow};
+
+use crate::array_to_bytes_codec::codec_encode;
+use crate::codec_chain::CodecChain;
+use crate::representation::taken_form;
+use std::alloc::Global;
+use std::borrow::CowSlice;
+use zarrs_array_bytes::{ArrayBytes, ArrayBytesRaw};
+use zarrs_chain_meaning::array_stages::encode_arrays;
+use zarrs_chain_meaning::bytes_stages::encode_bytes;
+use zarrs_chunk::{ChunkShape, CodecError};
+use zarrs_codec::BytesToBytesCodecTraits;
+use zarrs_data_type::{DataType, FillValue};
+
+/// That the container holds a chunk of this shape and type. Errors: those of
+/// `ArrayBytes::validate`.
+pub(crate) fn check_elements(
+    elements: &ArrayBytes<'_>,
+    shape: &ChunkShape,
+    data_type: &DataType,
+) -> Result<(), CodecError>
+    requires counted { checked_u64 (product shape.now) ≡ Ok (product shape.now) }
+    ensures answer { result ≡ validity data_type.now (product shape.now) elements.now }
+    ensures no_fault { is_fault result ≡ false }
+{
+    let count = shape.num_elements()?;
+    elements.validate(count, data_type)
+}
+
+/// The value that the chain writes of the chunk that `held` holds. Errors: those of
+/// `CodecChain::encode`.
+#[cycle(encode)]
+pub(crate) fn chain_encode<'a, B: BytesToBytesCodecTraits>(
+    alloc: Global,
+    chain: &CodecChain<B>,
+    held: ArrayBytes<'a>,
+    shape: &ChunkShape,
+    kind: &DataType,
+    fill: &FillValue,
+) -> Result<ArrayBytesRaw<'a>, CodecError>
+    ensures exact { Writes B.functions chain.now shape.now kind.now fill.now held.entry result }
+{
+    let taken = taken_form(alloc, chain, shape, kind, fill)?;
+    check_elements(&held, shape, kind)?;
+    let chunk = encode_arrays(alloc, &chain.array_to_array, held, shape, kind, fill)?;
+    let below = codec_encode(
+        alloc,
+        &chain.array_to_bytes,
+        chunk,
+        &taken.shape,
+        kind,
+        fill,
+    )?;
+    encode_bytes(alloc, &chain.bytes_to_bytes, below)
+}
+
+/// What the chain writes of a row of so many elements: nothing of none. Errors: those of
+/// `chain_encode`.
+#[cycle(encode)]
+pub(crate) fn part_encode<'a, B: BytesToBytesCodecTraits>(
+    alloc: Global,
+    chain: &CodecChain<B>,
+    held: ArrayBytes<'a>,
+    count: u64,
+    kind: &DataType,
+    fill: &FillValue,
+) -> Result<ArrayBytesRaw<'a>, CodecError>
+    ensures exact { WritesRow B.functions chain.now count kind.now fill.now held.entry result }
+{
+    match row_of(alloc, count)? {
+        Some(row) => chain_encode(alloc, chain, held, &row, kind, fill),
+        None => Ok(CowSlice::Owned(Vec::new(alloc))),
+    }
+}
+
+/// The shape of a row of so many elements, if there are any.
+#[tactic(auto, using(zarrs_chain_meaning::proofs::PartSteps::row_shape))]
+pub(crate) fn row_of(alloc: Global, count: u64) -> Result<Option<ChunkShape>, CodecError>
+    ensures answer { Gives (λ row. row) result (Ok (row_sizes count)) }
+{
+    let mut sizes = Vec::with_capacity(alloc, 1)?;
+    sizes.push(count)?;
+    Ok(ChunkShape::new(sizes))
+}

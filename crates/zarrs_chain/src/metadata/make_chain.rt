@@ -1,0 +1,221 @@
+//! Chains made from lists of metadata. A chain is made codec by codec, and some codecs have chains
+//! inside, whose metadata stand in their configurations: the functions call each other, each time
+//! for metadata that are less deep.
+ghost use Rattle.std.specs.Prelude.{◌≡◌, Ok};
+ghost use Rattle.zarrs_metadata.specs.PluginCreateError.{plugin_memory, Makes};
+ghost use Rattle.zarrs_chain.specs.ChainView.{plain_vlen, plain_optional, vlen_of, optional_of};
+ghost use Rattle.zarrs_chain.specs.Making.{MakesChainOf, MakesVlen, MakesOptional, CreatesVlen, CreatesOptional, AsksMaker, MakesCodec, JoinsCodec, passed_over};
+
+use crate::array_to_bytes_codec::ArrayToBytesCodec;
+use crate::codec_chain::CodecChain;
+use crate::metadata::chain_parts::{ChainParts, MadeCodec};
+use crate::optional::optional_codec::OptionalCodec;
+use crate::vlen::vlen_codec::VlenCodec;
+use std::alloc::Global;
+use zarrs_array_to_array::ArrayToArrayCodec;
+use zarrs_bytes::BytesCodec;
+use zarrs_chain_meaning::codec_name::{KnownCodec, codec_named};
+use zarrs_chain_meaning::optional::configuration::{
+    mask_codecs, optional_configuration, present_codecs,
+};
+use zarrs_chain_meaning::vlen::configuration::{
+    data_codecs, index_codecs, index_data_type, index_location, vlen_configuration,
+};
+use zarrs_codec::BytesCodecMaker;
+use zarrs_metadata::{
+    MetadataV3, OptionalCodecConfiguration, PluginCreateError, VlenCodecConfiguration,
+    VlenIndexDataType, VlenIndexLocation,
+};
+use zarrs_packbits::PackBitsCodec;
+
+/// The codec `vlen` with these chains in boxes. Errors: `OutOfMemory`.
+fn boxed_vlen<B: Drop>(
+    alloc: Global,
+    index: CodecChain<B>,
+    content: CodecChain<B>,
+    index_data_type: VlenIndexDataType,
+    location: VlenIndexLocation,
+) -> Result<VlenCodec<B>, PluginCreateError>
+    ensures made { Makes plain_vlen result
+        (Ok (vlen_of index content index_data_type location)) }
+{
+    let index = Box::new(alloc, index)?;
+    let content = Box::new(alloc, content)?;
+    Ok(VlenCodec::new(index, content, index_data_type, location))
+}
+
+/// The codec `optional` with these chains in boxes. Errors: `OutOfMemory`.
+fn boxed_optional<B: Drop>(
+    alloc: Global,
+    mask: CodecChain<B>,
+    content: CodecChain<B>,
+) -> Result<OptionalCodec<B>, PluginCreateError>
+    ensures made { Makes plain_optional result (Ok (optional_of mask content)) }
+{
+    let mask = Box::new(alloc, mask)?;
+    let content = Box::new(alloc, content)?;
+    Ok(OptionalCodec::new(mask, content))
+}
+
+/// The codec `vlen` of a configuration. Errors, the first that holds, `OutOfMemory` aside: those of
+/// the index chain, those of the data chain.
+#[cycle(make)]
+pub(crate) fn vlen_from<B: Drop, M: BytesCodecMaker<B>>(
+    alloc: Global,
+    configuration: &VlenCodecConfiguration,
+    maker: &M,
+) -> Result<VlenCodec<B>, PluginCreateError>
+    ensures answer { MakesVlen (M.makes maker.now) configuration.now result }
+{
+    let index = chain_from(alloc, index_codecs(configuration), maker)?;
+    let content = chain_from(alloc, data_codecs(configuration), maker)?;
+    boxed_vlen(
+        alloc,
+        index,
+        content,
+        index_data_type(configuration),
+        index_location(configuration),
+    )
+}
+
+/// The codec `optional` of a configuration. Errors, the first that holds, `OutOfMemory` aside:
+/// those of the mask chain, those of the data chain.
+#[cycle(make)]
+pub(crate) fn optional_from<B: Drop, M: BytesCodecMaker<B>>(
+    alloc: Global,
+    configuration: &OptionalCodecConfiguration,
+    maker: &M,
+) -> Result<OptionalCodec<B>, PluginCreateError>
+    ensures answer { MakesOptional (M.makes maker.now) configuration.now result }
+{
+    let mask = chain_from(alloc, mask_codecs(configuration), maker)?;
+    let content = chain_from(alloc, present_codecs(configuration), maker)?;
+    boxed_optional(alloc, mask, content)
+}
+
+/// The codec `vlen` of a metadata. Errors: those of `VlenCodec::create`.
+#[cycle(make)]
+pub(crate) fn vlen_create<B: Drop, M: BytesCodecMaker<B>>(
+    alloc: Global,
+    metadata: &MetadataV3,
+    maker: &M,
+) -> Result<VlenCodec<B>, PluginCreateError>
+    ensures answer { CreatesVlen (M.makes maker.now) metadata.now result }
+{
+    let configuration = vlen_configuration(alloc, metadata)?;
+    vlen_from(alloc, &configuration, maker)
+}
+
+/// The codec `optional` of a metadata. Errors: those of `OptionalCodec::create`.
+#[cycle(make)]
+pub(crate) fn optional_create<B: Drop, M: BytesCodecMaker<B>>(
+    alloc: Global,
+    metadata: &MetadataV3,
+    maker: &M,
+) -> Result<OptionalCodec<B>, PluginCreateError>
+    ensures answer { CreatesOptional (M.makes maker.now) metadata.now result }
+{
+    let configuration = optional_configuration(alloc, metadata)?;
+    optional_from(alloc, &configuration, maker)
+}
+
+/// What the maker makes of a metadata. Errors: `UnknownName` where it makes nothing; its own.
+fn asked<B: Drop, M: BytesCodecMaker<B>>(
+    alloc: Global,
+    metadata: &MetadataV3,
+    maker: &M,
+) -> Result<MadeCodec<B>, PluginCreateError>
+    ensures answer { AsksMaker (M.makes maker.now) metadata.now result }
+{
+    match maker.make(alloc, metadata) {
+        Ok(Some(codec)) => Ok(MadeCodec::Outer(codec)),
+        Ok(None) => Err(PluginCreateError::UnknownName),
+        Err(refusal) => Err(refusal),
+    }
+}
+
+/// The codec of a metadata. Errors, the first that holds, `OutOfMemory` aside: `UnknownName` where
+/// neither the table of names nor the maker knows its name; those of the codec's construction.
+#[cycle(make)]
+#[tactic(auto, unfolding(crate::specs::ChainView::plain_codec))]
+fn codec_from<B: Drop, M: BytesCodecMaker<B>>(
+    alloc: Global,
+    metadata: &MetadataV3,
+    maker: &M,
+) -> Result<MadeCodec<B>, PluginCreateError>
+    ensures answer { MakesCodec (M.makes maker.now) metadata.now result }
+{
+    match codec_named(metadata.name()) {
+        Some(KnownCodec::Transpose | KnownCodec::Reshape | KnownCodec::Squeeze) => {
+            Ok(MadeCodec::Array(ArrayToArrayCodec::create(alloc, metadata)?))
+        }
+        Some(KnownCodec::Bytes) => {
+            let codec = BytesCodec::create(metadata)?;
+            Ok(MadeCodec::ToBytes(ArrayToBytesCodec::Bytes(codec)))
+        }
+        Some(KnownCodec::PackBits) => {
+            let codec = PackBitsCodec::create(metadata)?;
+            Ok(MadeCodec::ToBytes(ArrayToBytesCodec::PackBits(codec)))
+        }
+        Some(KnownCodec::Vlen) => {
+            let codec = vlen_create(alloc, metadata, maker)?;
+            Ok(MadeCodec::ToBytes(ArrayToBytesCodec::Vlen(codec)))
+        }
+        Some(KnownCodec::Optional) => {
+            let codec = optional_create(alloc, metadata, maker)?;
+            Ok(MadeCodec::ToBytes(ArrayToBytesCodec::Optional(codec)))
+        }
+        None => asked(alloc, metadata, maker),
+    }
+}
+
+fn is_want_of_memory(refusal: PluginCreateError) -> bool
+    ensures value { result ≡ plugin_memory refusal }
+{
+    matches!(refusal, PluginCreateError::OutOfMemory)
+}
+
+/// Where a codec can't be made, its metadata is passed over if it need not be understood. Lack of
+/// memory says nothing of the metadata, so it is never passed over. Errors: this one.
+fn pass_over(refusal: PluginCreateError, must_understand: bool) -> Result<(), PluginCreateError>
+    ensures value { result ≡ passed_over refusal must_understand }
+{
+    if must_understand || is_want_of_memory(refusal) {
+        return Err(refusal);
+    }
+    Ok(())
+}
+
+/// The codec of a metadata joins those of the list. Where none can be made, the metadata is passed
+/// over if it need not be understood, for whatever cause but lack of memory. Errors, the first that
+/// holds, `OutOfMemory` aside: those of the codec's construction; `MultipleArrayToBytes`.
+#[cycle(make)]
+fn join<B: Drop, M: BytesCodecMaker<B>>(
+    alloc: Global,
+    metadata: &MetadataV3,
+    maker: &M,
+    parts: &mut ChainParts<B>,
+) -> Result<(), PluginCreateError>
+    ensures answer { JoinsCodec (M.makes maker.now) metadata.now parts.old parts.new result }
+{
+    match codec_from(alloc, metadata, maker) {
+        Ok(codec) => parts.add(codec),
+        Err(refusal) => pass_over(refusal, metadata.must_understand()),
+    }
+}
+
+/// The chain of a list of metadata. Errors: those of `CodecChain::from_metadata`.
+#[cycle(make)]
+pub(crate) fn chain_from<B: Drop, M: BytesCodecMaker<B>>(
+    alloc: Global,
+    metadatas: &[MetadataV3],
+    maker: &M,
+) -> Result<CodecChain<B>, PluginCreateError>
+    ensures answer { MakesChainOf (M.makes maker.now) metadatas.now result }
+{
+    let mut parts = ChainParts::new(alloc);
+    for metadata in metadatas {
+        join(alloc, metadata, maker, &mut parts)?;
+    }
+    parts.into_chain()
+}

@@ -1,0 +1,377 @@
+ghost use Rattle.zarrs_chunk.specs.Answer.{checked_u64};
+ghost use Rattle.zarrs_array_bytes.specs.Tight.{IsTight};
+ghost use Rattle.zarrs_array_bytes.specs.Held.{items_of};
+ghost use Rattle.std.specs.Prelude.{◌≡◌, length, Ok, IfOk};
+ghost use Rattle.zarrs_chunk.specs.ChunkShape.{product};
+ghost use Rattle.zarrs_data_type.specs.ElementType.{optional};
+ghost use Rattle.zarrs_array_bytes.specs.Validity.{validity};
+ghost use Rattle.zarrs_metadata.specs.MetadataV3.{Writes as IsWritten};
+ghost use Rattle.zarrs_data_type.specs.Form.{form_of};
+ghost use Rattle.zarrs_codec.specs.Grammar.{Encodes, Decodes};
+ghost use Rattle.zarrs_chain.specs.ChainGrammar.{codec_grammar};
+ghost use Rattle.zarrs_chain.specs.ChainView.{plain_optional, optional_of};
+ghost use Rattle.zarrs_chain_meaning.specs.CodecMeaning.{HasMappings};
+ghost use Rattle.zarrs_chain_meaning.specs.MadeAgain.{HasRanges};
+ghost use Rattle.zarrs_chain_meaning.specs.optional.OptionalParts.{optional_inner};
+ghost use Rattle.zarrs_chain_meaning.specs.WrittenMetadata.{codec_configuration};
+ghost use Rattle.zarrs_chain.specs.optional.OptionalCalls.{Takes, Counts, Writes, Reads, ReadsAny, WritesContent, WritesMask, WritesPresent, ReadsMask, ReadsPresent, HasRoom};
+
+use crate::codec_chain::{CodecChain, chain_has_ranges, chain_is_sound};
+use crate::decode::{chain_decode, part_decode};
+use crate::encode::{chain_encode, check_elements, part_encode};
+use crate::metadata::write_chain::chain_written;
+use crate::representation::chain_representation;
+use std::alloc::Global;
+use zarrs_array_bytes::{ArrayBytes, ArrayBytesRaw, count_present};
+use zarrs_chain_meaning::optional::configuration::optional_members;
+use zarrs_chain_meaning::optional::optional_parts::{
+    blank_fill, both_representations, inner_type, join_parts, lent, masked_parts, split_value,
+};
+use zarrs_chunk::{ChunkShape, CodecError};
+use zarrs_codec::{BytesRepresentation, BytesToBytesCodecTraits};
+use zarrs_data_type::{DataType, FillValue};
+use zarrs_metadata::{Configuration, PluginCreateError};
+
+/// Optional elements: which ones are present, through one chain, and those that are, through another
+/// (codec.zarrs.dev codec `zarrs.optional`).
+///
+/// The value has four parts: the lengths of the mask part and of the data part as 8 bytes each, the
+/// lowest first; the mask part; the data part. The mask is a chunk of flags of the full shape, 1 for
+/// present; the data are a row of the present elements, in order.
+#[cycle(chain)]
+#[derive(Debug, Drop)]
+pub struct OptionalCodec<B> {
+    mask_codecs: Box<CodecChain<B>>,
+    data_codecs: Box<CodecChain<B>>,
+}
+
+impl<B> OptionalCodec<B> {
+    /// The codec with these chains for the mask and for the present elements.
+    #[tactic(auto, using(crate::specs::ChainView::plain_optional_made))]
+    pub fn new(mask_codecs: Box<CodecChain<B>>, data_codecs: Box<CodecChain<B>>) -> OptionalCodec<B>
+        ensures made { plain_optional result ≡ optional_of mask_codecs.value data_codecs.value }
+    {
+        OptionalCodec {
+            mask_codecs,
+            data_codecs,
+        }
+    }
+}
+
+/// The array-to-array codecs of the chains inside hold to what their types do.
+#[cycle(sound)]
+#[tactic(auto, unfolding(zarrs_chain_meaning::specs::CodecMeaning::meaning), using(crate::specs::ChainView::plain_optional_at))]
+pub(crate) fn optional_is_sound<B>(codec: &OptionalCodec<B>)
+    ensures mappings { HasMappings (plain_optional codec.now) }
+{
+    chain_is_sound(&codec.mask_codecs);
+    chain_is_sound(&codec.data_codecs);
+}
+
+/// The bits that the chains inside keep are ranges.
+#[cycle(ranges)]
+#[tactic(auto, using(crate::specs::ChainView::plain_optional_at))]
+pub(crate) fn optional_has_ranges<B>(codec: &OptionalCodec<B>)
+    ensures ranges { HasRanges (plain_optional codec.now) }
+{
+    chain_has_ranges(&codec.mask_codecs);
+    chain_has_ranges(&codec.data_codecs);
+}
+
+/// The configuration that is written of the codec. Errors: `OutOfMemory`.
+#[cycle(written)]
+#[tactic(auto, using(crate::specs::ChainView::plain_optional_at))]
+pub(crate) fn optional_written<B: BytesToBytesCodecTraits>(
+    alloc: Global,
+    codec: &OptionalCodec<B>,
+) -> Result<Configuration, PluginCreateError>
+    ensures answer { IsWritten result (codec_configuration B.described (plain_optional codec.now)) }
+{
+    let mask_codecs = chain_written(alloc, &codec.mask_codecs)?;
+    let data_codecs = chain_written(alloc, &codec.data_codecs)?;
+    optional_members(alloc, mask_codecs, data_codecs)
+}
+
+/// The length of such a chunk's value. Errors: those of `OptionalCodec::encoded_representation`.
+#[cycle(representation)]
+#[tactic(auto, using(crate::proofs::OptionalAt::representation_at))]
+pub(crate) fn optional_representation<B: BytesToBytesCodecTraits>(
+    alloc: Global,
+    codec: &OptionalCodec<B>,
+    shape: &ChunkShape,
+    data_type: &DataType,
+    fill_value: &FillValue,
+) -> Result<BytesRepresentation, CodecError>
+    ensures answer { Counts B.functions codec.now shape.now data_type.now fill_value.now result }
+{
+    let inner = inner_type(data_type)?;
+    if !fill_value.fits(data_type) {
+        return Err(CodecError::InvalidFillValue);
+    }
+    shape.num_elements()?;
+    let flag = DataType::bool();
+    let zero = blank_fill(alloc, &flag)?;
+    let mask = chain_representation(alloc, &codec.mask_codecs, shape, &flag, &zero)?;
+    let blank = blank_fill(alloc, inner)?;
+    let content = chain_representation(alloc, &codec.data_codecs, shape, inner, &blank)?;
+    Ok(both_representations(&mask, &content))
+}
+
+/// What the chain writes of these mask bytes as a chunk of flags. Errors: those of `chain_encode`.
+#[cycle(encode)]
+#[tactic(auto, using(zarrs_chain_meaning::proofs::OptionalSteps::mask_answers))]
+fn mask_encode<'a, B: BytesToBytesCodecTraits>(
+    alloc: Global,
+    chain: &CodecChain<B>,
+    mask: ArrayBytesRaw<'a>,
+    shape: &ChunkShape,
+) -> Result<ArrayBytesRaw<'a>, CodecError>
+    requires len { length (items_of mask) ≡ product shape.now }
+    requires counted { checked_u64 (product shape.now) ≡ Ok (product shape.now) }
+    ensures answer { WritesMask B.functions chain.now shape.now mask.entry result }
+{
+    let flag = DataType::bool();
+    let zero = blank_fill(alloc, &flag)?;
+    chain_encode(
+        alloc,
+        chain,
+        ArrayBytes::new_flen(mask),
+        shape,
+        &flag,
+        &zero,
+    )
+}
+
+/// What the chain writes of a row of so many present elements. Errors: those of `chain_encode`.
+#[cycle(encode)]
+fn present_encode<'a, B: BytesToBytesCodecTraits>(
+    alloc: Global,
+    chain: &CodecChain<B>,
+    present: ArrayBytes<'a>,
+    count: u64,
+    data_type: &DataType,
+) -> Result<ArrayBytesRaw<'a>, CodecError>
+    ensures exact { WritesPresent B.functions chain.now count data_type.now present.entry result }
+{
+    let blank = blank_fill(alloc, data_type)?;
+    part_encode(alloc, chain, present, count, data_type, &blank)
+}
+
+/// The value of a container of optional elements of this inner type, as many as the shape has.
+/// Errors: those of the chains.
+#[cycle(encode)]
+#[tactic(auto, using(zarrs_chain_meaning::proofs::OptionalSteps::mask_long, zarrs_chain_meaning::proofs::OptionalSteps::never_unmasked, zarrs_chain_meaning::proofs::OptionalSteps::present_taken, crate::proofs::OptionalAt::content_at, crate::proofs::OptionalAt::written_at))]
+fn content_encode<'a, B: BytesToBytesCodecTraits>(
+    alloc: Global,
+    codec: &OptionalCodec<B>,
+    elements: ArrayBytes<'a>,
+    shape: &ChunkShape,
+    inner: &DataType,
+) -> Result<ArrayBytesRaw<'a>, CodecError>
+    requires valid { validity (optional inner.now) (product shape.now) elements ≡ Ok tt }
+    requires counted { checked_u64 (product shape.now) ≡ Ok (product shape.now) }
+    ensures answer { WritesContent B.functions codec.now shape.now inner.now elements.entry result }
+{
+    let (inside, mask, count) = masked_parts(elements)?;
+    let present = inside.extract_present(alloc, lent(&mask), inner)?;
+    let mask_part = mask_encode(alloc, &codec.mask_codecs, mask, shape)?;
+    let data_part = present_encode(alloc, &codec.data_codecs, present, count, inner)?;
+    join_parts(alloc, lent(&mask_part), lent(&data_part))
+}
+
+/// The value of the chunk that `held` holds, where the codec takes such chunks. Errors: those of
+/// `OptionalCodec::encode` behind those of `encoded_representation`.
+#[cycle(encode)]
+#[tactic(auto, using(crate::proofs::OptionalAt::counted_at, crate::proofs::OptionalAt::inner_refused_at, crate::proofs::OptionalAt::inner_valid, crate::proofs::OptionalAt::value_at))]
+pub(crate) fn optional_encode<'a, B: BytesToBytesCodecTraits>(
+    alloc: Global,
+    codec: &OptionalCodec<B>,
+    held: ArrayBytes<'a>,
+    shape: &ChunkShape,
+    kind: &DataType,
+    fill: &FillValue,
+) -> Result<ArrayBytesRaw<'a>, CodecError>
+    requires taken { Takes B.functions codec.now shape.now kind.now fill.now }
+    ensures answer { Writes B.functions codec.now shape.now kind.now fill.now held.entry result }
+{
+    let inner = inner_type(kind)?;
+    check_elements(&held, shape, kind)?;
+    content_encode(alloc, codec, held, shape, inner)
+}
+
+/// The value of the chunk that `held` holds. Errors: those of `OptionalCodec::encode`.
+fn optional_taken_encode<'a, B: BytesToBytesCodecTraits>(
+    alloc: Global,
+    codec: &OptionalCodec<B>,
+    held: ArrayBytes<'a>,
+    shape: &ChunkShape,
+    kind: &DataType,
+    fill: &FillValue,
+) -> Result<ArrayBytesRaw<'a>, CodecError>
+    ensures answer { Writes B.functions codec.now shape.now kind.now fill.now held.entry result }
+{
+    optional_representation(alloc, codec, shape, kind, fill)?;
+    optional_encode(alloc, codec, held, shape, kind, fill)
+}
+
+/// The mask bytes of the chunk of flags that a part stands for. Errors: those of `chain_decode`.
+#[cycle(decode)]
+#[tactic(auto, using(zarrs_chain_meaning::proofs::OptionalFlags::flags_in_bytes, zarrs_chain_meaning::proofs::OptionalFlags::flags_are_fixed))]
+fn mask_decode<'a, B: BytesToBytesCodecTraits>(
+    alloc: Global,
+    chain: &CodecChain<B>,
+    part: ArrayBytesRaw<'a>,
+    shape: &ChunkShape,
+) -> Result<ArrayBytesRaw<'a>, CodecError>
+    ensures answer { ReadsMask B.functions chain.now shape.now part.entry result }
+{
+    let flag = DataType::bool();
+    let zero = blank_fill(alloc, &flag)?;
+    chain_decode(alloc, chain, part, shape, &flag, &zero)?.into_fixed()
+}
+
+/// The elements of this inner type that a part stands for, put back under the mask, with blank ones
+/// under those that are absent. Errors, the first that holds, `OutOfMemory` aside: `MaskValue`
+/// where a mask byte isn't 0 or 1; those of the chain.
+#[cycle(decode)]
+#[tactic(auto, using(zarrs_chain_meaning::proofs::OptionalSteps::mask_refused, zarrs_chain_meaning::proofs::OptionalSteps::present_opened, zarrs_chain_meaning::proofs::OptionalSteps::part_expanded))]
+fn present_decode<'a, B: BytesToBytesCodecTraits>(
+    alloc: Global,
+    chain: &CodecChain<B>,
+    mask: ArrayBytesRaw<'a>,
+    part: ArrayBytesRaw<'a>,
+    data_type: &DataType,
+) -> Result<ArrayBytes<'a>, CodecError>
+    requires room { HasRoom data_type.now mask }
+    ensures answer { ReadsPresent B.functions chain.now data_type.now mask.entry part.entry result }
+    ensures tight { IfOk result (IsTight (optional data_type.now)) }
+{
+    let count = count_present(lent(&mask))?;
+    let blank = blank_fill(alloc, data_type)?;
+    let present = part_decode(alloc, chain, part, count, data_type, &blank)?;
+    present.expand_present(alloc, mask, data_type)
+}
+
+/// A codec that takes a chunk has room for its elements under the mask. The call does nothing; its
+/// contract is for proofs.
+fn has_room<B: BytesToBytesCodecTraits>(
+    codec: &OptionalCodec<B>,
+    shape: &ChunkShape,
+    data_type: &DataType,
+    fill_value: &FillValue,
+    inner: &DataType,
+    mask: &ArrayBytesRaw<'_>,
+)
+    requires taken { Takes B.functions codec.now shape.now data_type.now fill_value.now }
+    requires inner { optional_inner data_type.now ≡ Ok inner.now }
+    requires len { length (items_of mask.now) ≡ product shape.now }
+    ensures room { HasRoom inner.now mask.now }
+{
+    optional_is_sound(codec);
+    shape.as_slice();
+}
+
+/// The chunk that a value stands for, where the codec takes such chunks. Errors: those of
+/// `OptionalCodec::decode` behind those of `encoded_representation`.
+#[cycle(decode)]
+#[tactic(auto, using(crate::proofs::OptionalAt::chunk_opened_at, crate::proofs::OptionalAt::chunk_at, crate::proofs::OptionalAt::tight_at))]
+pub(crate) fn optional_decode<'a, B: BytesToBytesCodecTraits>(
+    alloc: Global,
+    codec: &OptionalCodec<B>,
+    value: ArrayBytesRaw<'a>,
+    shape: &ChunkShape,
+    kind: &DataType,
+    fill: &FillValue,
+) -> Result<ArrayBytes<'a>, CodecError>
+    requires taken { Takes B.functions codec.now shape.now kind.now fill.now }
+    ensures answer { Reads B.functions codec.now shape.now kind.now fill.now value.entry result }
+    ensures tight { IfOk result (IsTight kind.now) }
+{
+    let inner = inner_type(kind)?;
+    let (mask_part, data_part) = split_value(alloc, value)?;
+    let mask = mask_decode(alloc, &codec.mask_codecs, mask_part, shape)?;
+    has_room(codec, shape, kind, fill, inner, &mask);
+    present_decode(alloc, &codec.data_codecs, mask, data_part, inner)
+}
+
+/// The chunk that a value stands for, where the codec takes such chunks. Errors: those of
+/// `OptionalCodec::decode`.
+fn optional_taken_decode<'a, B: BytesToBytesCodecTraits>(
+    alloc: Global,
+    codec: &OptionalCodec<B>,
+    value: ArrayBytesRaw<'a>,
+    shape: &ChunkShape,
+    kind: &DataType,
+    fill: &FillValue,
+) -> Result<ArrayBytes<'a>, CodecError>
+    ensures exact { ReadsAny B.functions codec.now shape.now kind.now fill.now value.entry result }
+    ensures tight { IfOk result (IsTight kind.now) }
+{
+    optional_representation(alloc, codec, shape, kind, fill)?;
+    optional_decode(alloc, codec, value, shape, kind, fill)
+}
+
+impl<B: BytesToBytesCodecTraits> OptionalCodec<B> {
+    /// How many bytes the value of such a chunk has: the two lengths, and what the mask chain and
+    /// the data chain make, each of a chunk of the full shape. Errors, the first that holds,
+    /// `OutOfMemory` aside: `UnsupportedDataType` where the type isn't optional;
+    /// `InvalidFillValue`; `Overflow` where 64 bits don't count the elements; those of the mask
+    /// chain; those of the data chain.
+    pub fn encoded_representation(
+        &self,
+        alloc: Global,
+        shape: &ChunkShape,
+        data_type: &DataType,
+        fill_value: &FillValue,
+    ) -> Result<BytesRepresentation, CodecError>
+        ensures answer { Counts B.functions self.now shape.now data_type.now fill_value.now result }
+    {
+        optional_representation(alloc, self, shape, data_type, fill_value)
+    }
+
+    /// The value that is written for the chunk that `elements` hold. Errors, the first that holds,
+    /// `OutOfMemory` aside: those of `encoded_representation`; those of `ArrayBytes::validate`;
+    /// those of the mask chain; those of the data chain at the row of present elements.
+    pub fn encode<'a>(
+        &self,
+        alloc: Global,
+        elements: ArrayBytes<'a>,
+        shape: &ChunkShape,
+        data_type: &DataType,
+        fill_value: &FillValue,
+    ) -> Result<ArrayBytesRaw<'a>, CodecError>
+        // Wide: the form of a chunk is three parameters, as in the Rust crate.
+        ensures encodes { Encodes (codec_grammar B.functions (plain_optional self.now))
+            (form_of shape.now data_type.now fill_value.now) elements.entry result }
+    {
+        optional_is_sound(self);
+        shape.as_slice();
+        optional_taken_encode(alloc, self, elements, shape, data_type, fill_value)
+    }
+
+    /// The chunk that a value stands for. Errors, the first that holds, `OutOfMemory` aside: those
+    /// of `encoded_representation`; `InvalidBytesLength` where there are fewer than 16 bytes;
+    /// `HeaderOverflow` where 64 bits don't count what the two lengths say; `InvalidBytesLength`
+    /// where there are more bytes, or fewer; those of the mask chain; `MaskValue` where a mask byte
+    /// isn't 0 or 1; those of the data chain at the row of present elements.
+    ///
+    /// At every depth, absent elements stand over blank ones, mask bytes are 0 or 1, and offsets
+    /// begin at 0.
+    pub fn decode<'a>(
+        &self,
+        alloc: Global,
+        value: ArrayBytesRaw<'a>,
+        shape: &ChunkShape,
+        data_type: &DataType,
+        fill_value: &FillValue,
+    ) -> Result<ArrayBytes<'a>, CodecError>
+        // Wide: the form of a chunk is three parameters, as in the Rust crate.
+        ensures decodes { Decodes (codec_grammar B.functions (plain_optional self.now))
+            (form_of shape.now data_type.now fill_value.now) (items_of value.entry) result }
+        ensures tight { IfOk result (IsTight data_type.now) }
+    {
+        optional_is_sound(self);
+        shape.as_slice();
+        optional_taken_decode(alloc, self, value, shape, data_type, fill_value)
+    }
+}

@@ -1,0 +1,36 @@
+//! The steps of which a chain is made: what its array-to-bytes codec gets, what the bytes-to-bytes
+//! codecs and the array-to-bytes codec make of a value, and what holds of the codecs. A reader of a
+//! part of a chunk takes some of them and leaves others.
+ghost use Rattle.zarrs_chunk.specs.Answer.{checked_u64};
+ghost use Rattle.std.specs.Prelude.{◌≡◌, IfOk, Ok};
+ghost use Rattle.zarrs_chunk.specs.ChunkShape.{product};
+ghost use Rattle.zarrs_chain.specs.ChainCalls.{GivesForm, MapsArrays};
+
+pub use crate::array_to_bytes_codec::codec_decode;
+use crate::codec_chain::CodecChain;
+pub use crate::codec_chain::chain_is_sound;
+use crate::representation::taken_form as taken_by;
+pub use crate::vlen::vlen_codec::vlen_is_sound;
+pub use crate::vlen::vlen_decode::vlen_decode;
+use std::alloc::Global;
+pub use zarrs_chain_meaning::bytes_stages::{decode_bytes, outer_representation};
+use zarrs_chunk::{ChunkShape, CodecError};
+use zarrs_codec::{BytesRepresentation, BytesToBytesCodecTraits};
+use zarrs_data_type::{DataType, FillValue};
+
+/// The shape of the chunk that the chain's array-to-bytes codec gets, and how many bytes it makes
+/// of it. Errors: those of `encoded_representation`.
+pub fn taken_form<B: BytesToBytesCodecTraits>(
+    alloc: Global,
+    chain: &CodecChain<B>,
+    shape: &ChunkShape,
+    data_type: &DataType,
+    fill_value: &FillValue,
+) -> Result<(ChunkShape, BytesRepresentation), CodecError>
+    ensures answer { GivesForm B.functions chain.now shape.now data_type.now fill_value.now result }
+    ensures map { MapsArrays chain.now data_type.now shape.now result }
+    ensures counted { IfOk result (λ _. checked_u64 (product shape.now) ≡ Ok (product shape.now)) }
+{
+    let taken = taken_by(alloc, chain, shape, data_type, fill_value)?;
+    Ok((taken.shape, taken.representation))
+}

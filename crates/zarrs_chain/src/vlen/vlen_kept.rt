@@ -1,0 +1,116 @@
+//! Whether the codec of an index gives its offsets back unchanged.
+ghost use Rattle.zarrs_chunk.specs.Answer.{is_fault};
+ghost use Rattle.zarrs_data_type.specs.Form.{form_of};
+ghost use Rattle.std.specs.Prelude.{◌≡◌, false, length, true};
+ghost use Rattle.zarrs_array_bytes.specs.Offsets.{is_offsets};
+ghost use Rattle.zarrs_chain.specs.ChainView.{plain_codec};
+ghost use Rattle.zarrs_chain_meaning.specs.vlen.VlenSettings.{is_wide};
+ghost use Rattle.zarrs_chain_meaning.specs.vlen.VlenSteps.{offsets_fit, TakesOffsets, IsPackable, offsets_form, TellsKept};
+ghost use Rattle.zarrs_chain.specs.vlen.VlenCalls.{TellsOffsets, TellsPacked, ChecksOffsets, tells_items};
+
+use crate::array_to_bytes_codec::ArrayToBytesCodec;
+use crate::encode::row_of;
+use std::alloc::Global;
+use std::borrow::CowSlice;
+use zarrs_array_bytes::ArrayBytes;
+use zarrs_chain_meaning::vlen::vlen_offsets::{offset_fill, offset_items, offset_type};
+use zarrs_chunk::{ChunkShape, CodecError};
+use zarrs_data_type::{DataType, FillValue};
+use zarrs_metadata::VlenIndexDataType;
+use zarrs_packbits::PackBitsCodec;
+
+/// Whether the codec gives the elements of a chunk that it takes back unchanged.
+fn keeps_items(
+    alloc: Global,
+    codec: &PackBitsCodec,
+    items: &[u8],
+    shape: &ChunkShape,
+    data_type: &DataType,
+    fill_value: &FillValue,
+) -> Result<bool, CodecError>
+    requires taken { IsPackable codec.now (form_of shape.now data_type.now fill_value.now) }
+    ensures answer { TellsKept codec.now shape.now data_type.now items.now result }
+    ensures no_fault { is_fault result ≡ false }
+{
+    let elements = ArrayBytes::new_flen(CowSlice::Borrowed(items));
+    let value = codec.encode(alloc, elements, shape, data_type, fill_value)?;
+    let kept = codec.decode(alloc, value, shape, data_type, fill_value)?;
+    holds_items(&kept, items)
+}
+
+/// Whether the bytes of elements of one size are these. Errors: `ArrayBytesKind` for any other
+/// elements.
+fn holds_items(elements: &ArrayBytes<'_>, items: &[u8]) -> Result<bool, CodecError>
+    ensures answer { result ≡ tells_items elements.now items.now }
+{
+    Ok(elements.as_fixed()? == items)
+}
+
+/// Whether the codec `packbits` gives the offsets back unchanged.
+fn packs_offsets(
+    alloc: Global,
+    codec: &PackBitsCodec,
+    offsets: &[usize],
+    data_type: VlenIndexDataType,
+) -> Result<bool, CodecError>
+    requires rising { is_offsets offsets.now ≡ true }
+    requires fits { offsets_fit (is_wide data_type) offsets.now ≡ true }
+    requires taken { IsPackable codec.now (offsets_form (is_wide data_type) (length offsets.now)) }
+    ensures answer { TellsPacked codec.now data_type offsets.now result }
+{
+    let items = offset_items(alloc, offsets, data_type)?;
+    let fill_value = offset_fill(alloc, data_type)?;
+    match row_of(alloc, offsets.len() as u64)? {
+        Some(row) => keeps_items(
+            alloc,
+            codec,
+            &items,
+            &row,
+            &offset_type(data_type),
+            &fill_value,
+        ),
+        None => Ok(true),
+    }
+}
+
+/// Whether a codec that was given offsets, counted from the first of them, gives them back unchanged.
+/// Only `packbits` may leave out bits of a number.
+#[tactic(auto, using(crate::proofs::VlenKept::bytes_keep, crate::proofs::VlenKept::vlen_keeps, crate::proofs::VlenKept::optional_keeps, crate::proofs::VlenKept::packed_keeps, crate::proofs::VlenKept::packed_takes))]
+fn is_kept<B>(
+    alloc: Global,
+    codec: &ArrayToBytesCodec<B>,
+    offsets: &[usize],
+    data_type: VlenIndexDataType,
+) -> Result<bool, CodecError>
+    requires rising { is_offsets offsets.now ≡ true }
+    requires fits { offsets_fit (is_wide data_type) offsets.now ≡ true }
+    requires taken { TakesOffsets (plain_codec codec.now) (is_wide data_type) (length offsets.now) }
+    ensures answer { TellsOffsets codec.now data_type offsets.now result }
+{
+    match codec {
+        ArrayToBytesCodec::Bytes(_) => Ok(true),
+        ArrayToBytesCodec::PackBits(codec) => packs_offsets(alloc, codec, offsets, data_type),
+        ArrayToBytesCodec::Vlen(_) => Ok(true),
+        ArrayToBytesCodec::Optional(_) => Ok(true),
+    }
+}
+
+/// That a codec that was given offsets, counted from the first of them, gives them back unchanged.
+/// Errors: `OffsetNotKept`.
+pub(crate) fn check_kept<B>(
+    alloc: Global,
+    codec: &ArrayToBytesCodec<B>,
+    offsets: &[usize],
+    data_type: VlenIndexDataType,
+) -> Result<(), CodecError>
+    requires rising { is_offsets offsets.now ≡ true }
+    requires fits { offsets_fit (is_wide data_type) offsets.now ≡ true }
+    requires taken { TakesOffsets (plain_codec codec.now) (is_wide data_type) (length offsets.now) }
+    ensures answer { ChecksOffsets codec.now data_type offsets.now result }
+{
+    if is_kept(alloc, codec, offsets, data_type)? {
+        Ok(())
+    } else {
+        Err(CodecError::OffsetNotKept)
+    }
+}

@@ -1,8 +1,0 @@
--- What a header that was read is seen as.
-use Rattle.zarrs_chain_whole.specs.ChainView.{plain_chain}
-use Rattle.zarrs_chain_header.specs.Header as plain
-use Rattle.zarrs_chain_header.specs.declared.header.ChunkHeader.{ChunkHeader}
-
-abbrev pub header_seen : ChunkHeader → plain.Header
-header_seen header =
-    record { sizes = header.shape; data_type = header.data_type; fill = header.fill_value; chain = plain_chain header.chain }

@@ -1,5 +1,0 @@
-use Rattle.std.proofs.Common.{length}
-use Rattle.zarrs_chain_laws.proofs.array_stages.+encode_arrays.Given as goal
-
-abbrev pub decreases-encode_arrays : goal.decreases-encode_arrays
-decreases-encode_arrays l = length l.codecs.now

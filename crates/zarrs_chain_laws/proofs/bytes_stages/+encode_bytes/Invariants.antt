@@ -1,5 +1,0 @@
-use Rattle.std.proofs.Common.{length}
-use Rattle.zarrs_chain_laws.proofs.bytes_stages.+encode_bytes.Given as goal
-
-abbrev pub decreases-encode_bytes : goal.decreases-encode_bytes
-decreases-encode_bytes g l = length l.codecs.now

@@ -1,5 +1,0 @@
-use Rattle.zarrs_chain_laws.proofs.MadeAlike.{chain_made_at}
-use Rattle.zarrs_chain_laws.proofs.laws.chains_are_made_alike.Goals as goal
-
-pub returns : goal.returns
-returns g c = record { law = λ makes metadatas. chain_made_at makes metadatas }

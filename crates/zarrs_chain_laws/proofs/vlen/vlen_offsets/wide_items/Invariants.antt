@@ -1,6 +1,0 @@
-use Rattle.std.proofs.Common.{◌≡◌, ◌*◌, take, true}
-use Rattle.zarrs_chain_laws.specs.vlen.VlenSteps.{bytes_from}
-use Rattle.zarrs_chain_laws.proofs.vlen.vlen_offsets.wide_items.Given as goal
-
-abbrev pub invariant-loop-index : goal.invariant-loop-index
-invariant-loop-index l = l.items.items ≡ bytes_from true l.first (take (l.index * 32) l.offsets)

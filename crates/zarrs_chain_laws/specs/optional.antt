@@ -1,2 +1,0 @@
--- What `optional` is made of: the parts of its values, its configuration.
-pub mod OptionalParts

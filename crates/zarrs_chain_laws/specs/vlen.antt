@@ -1,4 +1,0 @@
--- What `vlen` is made of: its offsets, the parts of its values, its configuration, its plain form.
-pub mod PlainVlen
-pub mod VlenSettings
-pub mod VlenSteps

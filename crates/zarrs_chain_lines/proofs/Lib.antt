@@ -1,4 +1,0 @@
-pub mod LineLemmas
-pub mod RunLemmas
-pub mod ReadLemmas
-pub mod WriteLemmas

@@ -1,0 +1,109 @@
+-- What each array-to-bytes codec means, by one recursion, and what that says of a codec and of a chain.
+use Rattle.std.specs.Prelude.{Ok, map, Option}
+use Rattle.zarrs_bytes.specs.BytesCodec.{bytes_length, BytesStands, BytesWritten, spelling, bytes_chunk}
+use Rattle.zarrs_chain_meaning.specs.Meaning.{Measure, Encoder, Decoder, Standing, Keeping, Meaning, through}
+use Rattle.zarrs_chain_meaning.specs.PlainChain.{PlainCodec, bytes_codec, packbits_codec, vlen_codec, optional_codec, PlainChain}
+use Rattle.zarrs_chain_meaning.specs.optional.Optional.{optional_meaning}
+use Rattle.zarrs_chain_meaning.specs.vlen.Vlen.{vlen_meaning}
+use Rattle.zarrs_chunk.specs.Answer.{◌>>=◌, seen}
+use Rattle.zarrs_codec.specs.BytesToBytesCodec.{BytesCodecs}
+use Rattle.zarrs_codec.specs.declared.bytes_representation.BytesRepresentation.TheVariants.{FixedSize}
+use Rattle.zarrs_data_type.specs.Element.{Chunk}
+use Rattle.zarrs_data_type.specs.ElementType.{ElementType}
+use Rattle.zarrs_data_type.specs.Form.{form_of}
+use Rattle.zarrs_data_type.specs.declared.endianness.Endianness.{Endianness}
+use Rattle.zarrs_packbits.specs.BitStream.{chunk_stream}
+use Rattle.zarrs_packbits.specs.NormalForm as packbits
+use Rattle.zarrs_packbits.specs.PackBitsCodec.{PackBitsStands, PackBitsWritten, packbits_chunk}
+use Rattle.zarrs_packbits.specs.PackBitsSettings.{packbits_length, PackBitsSettings, packed_layout}
+use Rattle.zarrs_packbits.specs.PaddingByte.{value_with}
+
+-- what `bytes` means
+abbrev pub bytes_meaning : {B : Type 0} → Option Endianness → Meaning B
+bytes_meaning order = record {
+  Mapped = Unit {0};
+  normal = λ type element. element;
+  representation = λ f sizes type fill. seen FixedSize (bytes_length order (form_of sizes type fill));
+  value = λ f sizes type fill chunk. Ok (spelling order type chunk);
+  chunk = λ f sizes type fill value. bytes_chunk order (form_of sizes type fill) value;
+  Stands = λ f sizes type fill value chunk. BytesStands order (form_of sizes type fill) value chunk;
+  Written = λ f sizes type fill value chunk. BytesWritten order (form_of sizes type fill) value chunk;
+}
+
+-- the kept bits of the components, packed
+abbrev pub packed_value : PackBitsSettings → Encoder
+packed_value settings sizes type fill chunk = do
+  l ← packed_layout settings (form_of sizes type fill)
+  Ok (value_with l (chunk_stream l chunk))
+
+-- what `packbits` means
+abbrev pub packbits_meaning : {B : Type 0} → PackBitsSettings → Meaning B
+packbits_meaning settings = record {
+  Mapped = Unit {0};
+  normal = packbits.normal_element settings;
+  representation = λ f sizes type fill. seen FixedSize (packbits_length settings (form_of sizes type fill));
+  value = λ f. packed_value settings;
+  chunk = λ f sizes type fill value. packbits_chunk settings (form_of sizes type fill) value;
+  Stands = λ f sizes type fill value chunk. PackBitsStands settings (form_of sizes type fill) value chunk;
+  Written = λ f sizes type fill value chunk. PackBitsWritten settings (form_of sizes type fill) value chunk;
+}
+
+-- what an array-to-bytes codec means: the one definition that goes by all of them
+unfoldable pub meaning : {B : Type 0} → PlainCodec B → Meaning B
+meaning (bytes_codec order) = bytes_meaning order
+meaning (packbits_codec settings) = packbits_meaning settings
+meaning (vlen_codec ia ix ib da dx db wide at_end) = vlen_meaning wide at_end (through ia (meaning ix) ib) (through da (meaning dx) db)
+meaning (optional_codec ma mx mb da dx db) = optional_meaning (through ma (meaning mx) mb) (through da (meaning dx) db)
+
+-- what a chain means
+abbrev pub chain_meaning : {B : Type 0} → PlainChain B → Meaning B
+chain_meaning chain = through chain.array_to_array (meaning chain.array_to_bytes) chain.bytes_to_bytes
+
+-- ---- each part by its name
+
+-- the array-to-array codecs of all chains inside are what their types hold to
+abbrev pub HasMappings : {B : Type 0} → PlainCodec B → Type 0
+HasMappings codec = (meaning codec).Mapped
+
+-- an element as the codec keeps it; of a type that the codec doesn't take, the element itself
+abbrev pub normal_element : {B : Type 0} → PlainCodec B → Keeping
+normal_element codec = (meaning codec).normal
+
+-- The normal form of a chunk: each element as the codec keeps it.
+abbrev pub normal_form : {B : Type 0} → PlainCodec B → ElementType → Chunk → Chunk
+normal_form codec type chunk = map (normal_element codec type) chunk
+
+-- how many bytes the value of such a chunk has, or the first cause why the codec, or the chain, doesn't take such chunks
+abbrev pub codec_representation : {B : Type 0} → BytesCodecs B → PlainCodec B → Measure
+codec_representation f codec = (meaning codec).representation f
+
+abbrev pub chain_representation : {B : Type 0} → BytesCodecs B → PlainChain B → Measure
+chain_representation f chain = (chain_meaning chain).representation f
+
+-- what an array-to-bytes codec writes of a chunk that it takes; and a chain, or the first error
+abbrev pub codec_value : {B : Type 0} → BytesCodecs B → PlainCodec B → Encoder
+codec_value f codec = (meaning codec).value f
+
+abbrev pub chain_value : {B : Type 0} → BytesCodecs B → PlainChain B → Encoder
+chain_value f chain = (chain_meaning chain).value f
+
+-- the chunk that a value stands for, or the first error
+abbrev pub codec_chunk : {B : Type 0} → BytesCodecs B → PlainCodec B → Decoder
+codec_chunk f codec = (meaning codec).chunk f
+
+abbrev pub chain_chunk : {B : Type 0} → BytesCodecs B → PlainChain B → Decoder
+chain_chunk f chain = (chain_meaning chain).chunk f
+
+-- The value stands for the chunk, of these sizes, this type and this fill value.
+abbrev pub CodecStands : {B : Type 0} → BytesCodecs B → PlainCodec B → Standing
+CodecStands f codec = (meaning codec).Stands f
+
+abbrev pub ChainStands : {B : Type 0} → BytesCodecs B → PlainChain B → Standing
+ChainStands f chain = (chain_meaning chain).Stands f
+
+-- The value is written for the chunk, of these sizes, this type and this fill value.
+abbrev pub CodecWritten : {B : Type 0} → BytesCodecs B → PlainCodec B → Standing
+CodecWritten f codec = (meaning codec).Written f
+
+abbrev pub ChainWritten : {B : Type 0} → BytesCodecs B → PlainChain B → Standing
+ChainWritten f chain = (chain_meaning chain).Written f

@@ -1,0 +1,113 @@
+-- Laws of chains, those with chains inside too, and of lawful bytes-to-bytes codecs.
+use Rattle.std.specs.Prelude.{◌≡◌, ◌<◌, ◌↔◌, ℕ, List, Ok, All, ◌≤◌}
+use Rattle.zarrs_data_type.specs.ElementType.{ElementType}
+use Rattle.zarrs_chunk.specs.ChunkShape.{product}
+use Rattle.zarrs_data_type.specs.Element.{Chunk, AreElements}
+use Rattle.zarrs_array_bytes.specs.Update.{update}
+use Rattle.zarrs_codec.specs.CoordinateMap.{CoordinateMap, moved_chunk}
+use Rattle.zarrs_codec.specs.BytesToBytesCodec.{BytesCodecs, IsLawful, KeepsTo, IsAtMost}
+use Rattle.zarrs_codec.specs.declared.bytes_representation.BytesRepresentation.{BytesRepresentation}
+use Rattle.zarrs_array_to_array.specs.ArrayToArrayCodec.{IsMapping}
+use Rattle.zarrs_bytes.specs.BytesCodec.{IsChunk}
+use Rattle.zarrs_packbits.specs.Laws.{HasBytes}
+use Rattle.zarrs_chain_meaning.specs.PlainChain.{PlainCodec, PlainChain}
+use Rattle.zarrs_chain_meaning.specs.CodecMeaning.{HasMappings, chain_chunk, chain_value, normal_form, chain_representation, ChainStands, ChainWritten}
+
+-- a chain whose array-to-array codecs, and those of all chains inside, are what their types hold to
+pub record IsChainOfMappings {B : Type 0} (chain : PlainChain B) : Type 0 where
+  pub mappings : All IsMapping chain.array_to_array
+  pub inner_mappings : HasMappings chain.array_to_bytes
+
+-- What is written for a chunk stands for its normal form.
+abbrev pub WrittenStands : {B : Type 0} → BytesCodecs B → Type 0
+WrittenStands {B} f =
+    (chain : PlainChain B) (sizes : List ℕ) (type : ElementType) (fill value : List ℕ) (chunk : Chunk)
+    → IsLawful f → IsChainOfMappings chain → All HasBytes chunk → All (λ size. 0 < size) sizes
+    → ChainWritten f chain sizes type fill value chunk → ChainStands f chain sizes type fill value (normal_form chain.array_to_bytes type chunk)
+
+-- A value stands for at most one chunk.
+abbrev pub StandsForOne : {B : Type 0} → BytesCodecs B → Type 0
+StandsForOne {B} f =
+    (chain : PlainChain B) (sizes : List ℕ) (type : ElementType) (fill value : List ℕ) (chunk other : Chunk)
+    → IsChainOfMappings chain → All (λ size. 0 < size) sizes
+    → ChainStands f chain sizes type fill value chunk → ChainStands f chain sizes type fill value other → chunk ≡ other
+
+-- The chunk that a value stands for is what a chain answers.
+abbrev pub StandsIsAnswered : {B : Type 0} → BytesCodecs B → Type 0
+StandsIsAnswered {B} f =
+    (chain : PlainChain B) (sizes : List ℕ) (type : ElementType) (fill value : List ℕ) (chunk : Chunk)
+    → IsChainOfMappings chain → All (λ size. 0 < size) sizes
+    → ChainStands f chain sizes type fill value chunk → chain_chunk f chain sizes type fill value ≡ Ok chunk
+
+-- What a chain answers of a value is a chunk that it stands for.
+abbrev pub AnsweredStands : {B : Type 0} → BytesCodecs B → Type 0
+AnsweredStands {B} f =
+    (chain : PlainChain B) (sizes : List ℕ) (type : ElementType) (fill value : List ℕ) (chunk : Chunk)
+    → IsChainOfMappings chain → All (λ size. 0 < size) sizes
+    → chain_chunk f chain sizes type fill value ≡ Ok chunk → ChainStands f chain sizes type fill value chunk
+
+-- For a chunk at most one value is written.
+abbrev pub WrittenOnce : {B : Type 0} → BytesCodecs B → Type 0
+WrittenOnce {B} f =
+    (chain : PlainChain B) (sizes : List ℕ) (type : ElementType) (fill value other : List ℕ) (chunk : Chunk)
+    → ChainWritten f chain sizes type fill value chunk → ChainWritten f chain sizes type fill other chunk → value ≡ other
+
+-- A chain answers a value for a chunk of the sizes and the type exactly where the value is written for it.
+abbrev pub ValueIsWritten : {B : Type 0} → BytesCodecs B → Type 0
+ValueIsWritten {B} f =
+    (chain : PlainChain B) (sizes : List ℕ) (type : ElementType) (fill value : List ℕ) (chunk : Chunk)
+    → IsChainOfMappings chain → All (λ size. 0 < size) sizes → IsChunk type (product sizes) chunk
+    → (chain_value f chain sizes type fill chunk ≡ Ok value) ↔ ChainWritten f chain sizes type fill value chunk
+
+-- The normal form of a normal form is the same, for elements of the type.
+abbrev pub NormalTwice : Type 0 → Type 0
+NormalTwice B =
+    (codec : PlainCodec B) (type : ElementType) (chunk : Chunk)
+    → AreElements type chunk → normal_form codec type (normal_form codec type chunk) ≡ normal_form codec type chunk
+
+-- The normal form of a chunk that array-to-array codecs move is the normal form moved.
+abbrev pub NormalMoved : Type 0 → Type 0
+NormalMoved B =
+    (codec : PlainCodec B) (type : ElementType) (m : CoordinateMap) (chunk : Chunk)
+    → normal_form codec type (moved_chunk m chunk) ≡ moved_chunk m (normal_form codec type chunk)
+
+-- The normal form of an updated chunk is the normal form updated with that of the new elements.
+abbrev pub NormalUpdated : Type 0 → Type 0
+NormalUpdated B =
+    (codec : PlainCodec B) (type : ElementType) (chunk : Chunk) (places : List ℕ) (new : Chunk)
+    → normal_form codec type (update chunk places new) ≡ update (normal_form codec type chunk) places (normal_form codec type new)
+
+-- What is written for a chunk of the sizes and the type is what is written for its normal form.
+abbrev pub WrittenForNormal : {B : Type 0} → BytesCodecs B → Type 0
+WrittenForNormal {B} f =
+    (chain : PlainChain B) (sizes : List ℕ) (type : ElementType) (fill value : List ℕ) (chunk : Chunk)
+    → IsChunk type (product sizes) chunk → ChainWritten f chain sizes type fill value chunk ↔ ChainWritten f chain sizes type fill value (normal_form chain.array_to_bytes type chunk)
+
+-- Two chunks are written alike exactly if their normal forms are equal.
+abbrev pub WrittenAlike : {B : Type 0} → BytesCodecs B → Type 0
+WrittenAlike {B} f =
+    (chain : PlainChain B) (sizes : List ℕ) (type : ElementType) (fill value other_value : List ℕ) (chunk other : Chunk)
+    → IsLawful f → IsChainOfMappings chain → All HasBytes chunk → All HasBytes other → All (λ size. 0 < size) sizes
+    → ChainWritten f chain sizes type fill value chunk → ChainWritten f chain sizes type fill other_value other
+    → (value ≡ other_value) ↔ (normal_form chain.array_to_bytes type chunk ≡ normal_form chain.array_to_bytes type other)
+
+-- A written value is as many bytes as the representation says.
+abbrev pub WrittenKeeps : {B : Type 0} → BytesCodecs B → Type 0
+WrittenKeeps {B} f =
+    (chain : PlainChain B) (sizes : List ℕ) (type : ElementType) (fill value : List ℕ) (chunk : Chunk) (r : BytesRepresentation)
+    → IsLawful f → IsChainOfMappings chain → All HasBytes chunk → All (λ size. 0 < size) sizes
+    → ChainWritten f chain sizes type fill value chunk → chain_representation f chain sizes type fill ≡ Ok r → KeepsTo r value
+
+-- Of the chunks of one type and fill value that a chain takes, those with as many elements have one representation, however they are shaped.
+abbrev pub SizesGoByCount : {B : Type 0} → BytesCodecs B → Type 0
+SizesGoByCount {B} f =
+    (chain : PlainChain B) (sizes others : List ℕ) (type : ElementType) (fill : List ℕ) (r s : BytesRepresentation)
+    → IsChainOfMappings chain → All (λ size. 0 < size) sizes → All (λ size. 0 < size) others → product sizes ≡ product others
+    → chain_representation f chain sizes type fill ≡ Ok r → chain_representation f chain others type fill ≡ Ok s → r ≡ s
+
+-- And one with more elements has no smaller one.
+abbrev pub SizesGrow : {B : Type 0} → BytesCodecs B → Type 0
+SizesGrow {B} f =
+    (chain : PlainChain B) (sizes others : List ℕ) (type : ElementType) (fill : List ℕ) (r s : BytesRepresentation)
+    → IsLawful f → IsChainOfMappings chain → All (λ size. 0 < size) sizes → All (λ size. 0 < size) others → product sizes ≤ product others
+    → chain_representation f chain sizes type fill ≡ Ok r → chain_representation f chain others type fill ≡ Ok s → IsAtMost r s

@@ -1,0 +1,32 @@
+-- Lengths, bytes and the elements that are bytes, as codecs with chains inside share them.
+use Rattle.std.specs.Int.{w64, to_le_bytes, from_le_bytes}
+use Rattle.std.specs.List.{flat_map}
+use Rattle.std.specs.Prelude.{ℕ, false, List, [], ◌∷◌, map, length}
+use Rattle.zarrs_bytes.specs.ByteOrder.{bytes_of}
+use Rattle.zarrs_data_type.specs.Element.{Element, plain, Chunk}
+use Rattle.zarrs_data_type.specs.ElementType.{ElementType, fixed}
+
+-- single bytes
+abbrev pub byte_type : ElementType
+byte_type = fixed 8 1 false
+
+-- the byte of an element of one byte
+abbrev pub the_byte : Element → ℕ
+the_byte (plain (byte ∷ rest)) = byte
+the_byte element = 0
+
+-- bytes as elements
+abbrev pub byte_elements : List ℕ → Chunk
+byte_elements items = map (λ byte. plain (byte ∷ [])) items
+
+-- all bytes of the elements, in order
+abbrev pub all_bytes : Chunk → List ℕ
+all_bytes chunk = flat_map bytes_of chunk
+
+-- a length's bytes, the lowest first; shut likewise
+unfoldable pub length_bytes : List ℕ → List ℕ
+length_bytes part = to_le_bytes w64 (length part)
+
+-- the number that 8 bytes spell, the lowest first; shut, since it computes to a long sum
+unfoldable pub length_of : List ℕ → ℕ
+length_of items = from_le_bytes w64 items

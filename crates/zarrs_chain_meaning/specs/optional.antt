@@ -1,0 +1,3 @@
+-- What `optional` is made of: the parts of its values, its configuration.
+pub mod Optional
+pub mod OptionalParts

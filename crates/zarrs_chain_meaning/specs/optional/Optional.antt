@@ -1,0 +1,184 @@
+-- The codec `optional`: a mask chain writes which elements are present, and a data chain those.
+use Rattle.std.specs.Prelude.{ℕ, ◌+◌, ◌^◌, Bool, false, nat_lt, if◌then◌else◌, List, [], ◌∷◌, replicate, Result, Ok, Err, map, ◌≡◌, ◌<◌, true, ◌++◌, length, zero, suc, ◌==◌, nat_le, take, drop}
+use Rattle.zarrs_bytes.specs.BytesCodec.{IsChunk}
+use Rattle.zarrs_chain_meaning.specs.BytesStages.{in_memory}
+use Rattle.zarrs_chain_meaning.specs.Meaning.{Measure, Encoder, Decoder, Standing, Meaning, part_value, part_chunk, PartStands, PartWritten}
+use Rattle.zarrs_chain_meaning.specs.Parts.{length_bytes, length_of}
+use Rattle.zarrs_chain_meaning.specs.declared.codec_name.TheConstants.{OPTIONAL}
+use Rattle.zarrs_chunk.specs.Answer.{◌>>=◌, demand, checked_u64}
+use Rattle.zarrs_chunk.specs.ChunkShape.{product}
+use Rattle.zarrs_chunk.specs.declared.codec_error.CodecError.TheVariants.{UnsupportedDataType, InvalidFillValue, InvalidBytesLength, MaskValue, HeaderOverflow}
+use Rattle.zarrs_chunk.specs.declared.codec_error.CodecError.{CodecError}
+use Rattle.zarrs_codec.specs.declared.bytes_representation.BytesRepresentation.TheVariants.{FixedSize, BoundedSize, UnboundedSize}
+use Rattle.zarrs_codec.specs.declared.bytes_representation.BytesRepresentation.{BytesRepresentation}
+use Rattle.zarrs_data_type.specs.Element.{Element, plain, present, Chunk, absent}
+use Rattle.zarrs_data_type.specs.ElementType.{ElementType, fixed, text, bytes, optional, element_size}
+use Rattle.zarrs_data_type.specs.FillValue.{fill_fits}
+
+-- ---- which chunks, and how many bytes
+
+-- flags, one for each element
+abbrev pub flag_type : ElementType
+flag_type = fixed 1 1 false
+
+-- the fill value that a chain of present elements gets
+abbrev pub blank_fill : ElementType → List ℕ
+blank_fill (fixed width components sign) = replicate (element_size width components) 0
+blank_fill text = []
+blank_fill bytes = []
+blank_fill (optional type) = 0 ∷ []
+
+-- at most so many bytes, or any number where 64 bits don't count them
+abbrev pub bounded : ℕ → BytesRepresentation
+bounded size = if nat_lt size (2 ^ 64) then BoundedSize size else UnboundedSize
+
+-- two lengths of 8 bytes, and what they count; unbounded where one is
+abbrev pub both_representations : BytesRepresentation → BytesRepresentation → BytesRepresentation
+both_representations (FixedSize mask) (FixedSize data') = bounded (16 + mask + data')
+both_representations (FixedSize mask) (BoundedSize data') = bounded (16 + mask + data')
+both_representations (BoundedSize mask) (FixedSize data') = bounded (16 + mask + data')
+both_representations (BoundedSize mask) (BoundedSize data') = bounded (16 + mask + data')
+both_representations _ _ = UnboundedSize
+
+-- that of `optional`: it asks the mask chain and then the data chain, both at the full shape
+abbrev pub optional_representation : Measure → Measure → Measure
+optional_representation mask data' sizes (optional type) fill = do
+  _ ← demand (fill_fits (optional type) fill) InvalidFillValue
+  _ ← checked_u64 (product sizes)
+  m ← mask sizes flag_type (0 ∷ [])
+  d ← data' sizes type (blank_fill type)
+  Ok (both_representations m d)
+optional_representation mask data' sizes (fixed width components sign) fill = Err (UnsupportedDataType OPTIONAL)
+optional_representation mask data' sizes text fill = Err (UnsupportedDataType OPTIONAL)
+optional_representation mask data' sizes bytes fill = Err (UnsupportedDataType OPTIONAL)
+
+-- ---- the value of a chunk
+
+-- one for a present element, zero for an absent one
+abbrev pub flag_of : Element → Element
+flag_of (plain items) = plain (0 ∷ [])
+flag_of absent = plain (0 ∷ [])
+flag_of (present element) = plain (1 ∷ [])
+
+-- the present elements
+abbrev pub present_of : Chunk → Chunk
+present_of [] = []
+present_of (plain items ∷ chunk) = present_of chunk
+present_of (absent ∷ chunk) = present_of chunk
+present_of (present element ∷ chunk) = element ∷ present_of chunk
+
+-- the two lengths, the mask and the data
+abbrev pub optional_layout : List ℕ → List ℕ → List ℕ
+optional_layout mask data' = length_bytes mask ++ (length_bytes data' ++ (mask ++ data'))
+
+abbrev pub optional_value : Encoder → Encoder → List ℕ → ElementType → Chunk → Result (List ℕ) CodecError
+optional_value mask data' sizes (optional type) chunk = do
+  mask_part ← mask sizes flag_type (0 ∷ []) (map flag_of chunk)
+  data_part ← part_value data' type (blank_fill type) (present_of chunk)
+  in_memory (optional_layout mask_part data_part)
+optional_value mask data' sizes type chunk = Ok []
+
+-- ---- the chunk of a value
+
+-- the mask and the data, and nothing else, behind their lengths
+abbrev pub optional_parts : List ℕ → Result (List ℕ × List ℕ) CodecError
+optional_parts value = do
+  _ ← demand (nat_le 16 (length value)) (InvalidBytesLength (length value) 16)
+  let mask_size = length_of (take 8 value)
+  let data_size = length_of (take 8 (drop 8 value))
+  let size = 16 + mask_size + data_size
+  _ ← demand (nat_lt size (2 ^ 64)) HeaderOverflow
+  _ ← demand (length value == size) (InvalidBytesLength (length value) size)
+  Ok (take mask_size (drop 16 value), drop mask_size (drop 16 value))
+
+-- a flag of one byte, 0 or 1
+abbrev pub flag_in : Element → Result Bool CodecError
+flag_in (plain (zero ∷ [])) = Ok false
+flag_in (plain (suc zero ∷ [])) = Ok true
+flag_in _ = Err MaskValue
+
+-- the flags of a mask
+abbrev pub flags_in : Chunk → Result (List Bool) CodecError
+flags_in [] = Ok []
+flags_in (element ∷ chunk) = do
+  flag ← flag_in element
+  flags ← flags_in chunk
+  Ok (flag ∷ flags)
+
+-- how many flags are set
+abbrev pub count_set : List Bool → ℕ
+count_set [] = 0
+count_set (true ∷ flags) = suc (count_set flags)
+count_set (false ∷ flags) = count_set flags
+
+-- the elements at the places whose flags are set
+abbrev pub under_flags : List Bool → Chunk → Chunk
+under_flags [] chunk = []
+under_flags (false ∷ flags) chunk = absent ∷ under_flags flags chunk
+under_flags (true ∷ flags) [] = absent ∷ under_flags flags []
+under_flags (true ∷ flags) (element ∷ chunk) = present element ∷ under_flags flags chunk
+
+abbrev pub optional_chunk : Decoder → Decoder → List ℕ → ElementType → List ℕ → Result Chunk CodecError
+optional_chunk mask data' sizes (optional type) value = do
+  parts ← optional_parts value
+  mask_chunk ← mask sizes flag_type (0 ∷ []) parts.0
+  flags ← flags_in mask_chunk
+  elements ← part_chunk data' type (blank_fill type) (count_set flags) parts.1
+  Ok (under_flags flags elements)
+optional_chunk mask data' sizes type value = Err (UnsupportedDataType OPTIONAL)
+
+-- ---- what is kept of an element
+
+-- what is present as the data chain keeps it
+abbrev pub optional_normal : (ElementType → Element → Element) → ElementType → Element → Element
+optional_normal data' (optional type) (present element) = present (data' type element)
+optional_normal data' type element = element
+
+-- ---- what stands and what is written
+
+-- Two lengths, a mask part and a data part of just these lengths. The mask part stands for zeros and ones, the data part for the present elements in a row.
+pub record OptionalStands (mask content : Standing) (sizes : List ℕ) (type : ElementType) (value : List ℕ) (chunk : Chunk) : Type 0 where
+  pub head : List ℕ
+  pub next : List ℕ
+  pub mask_part : List ℕ
+  pub data_part : List ℕ
+  pub parts : value ≡ head ++ (next ++ (mask_part ++ data_part))
+  pub head_size : length head ≡ 8
+  pub next_size : length next ≡ 8
+  pub head_is : length_of head ≡ length mask_part
+  pub next_is : length_of next ≡ length data_part
+  pub small : length value < 2 ^ 64
+  pub elements : IsChunk (optional type) (product sizes) chunk
+  pub mask_stands : mask sizes flag_type (0 ∷ []) mask_part (map flag_of chunk)
+  pub data_stands : PartStands content type (blank_fill type) data_part (present_of chunk)
+
+abbrev pub OptionalStandsFor : Standing → Standing → List ℕ → ElementType → List ℕ → Chunk → Type 0
+OptionalStandsFor mask content sizes (optional type) value chunk = OptionalStands mask content sizes type value chunk
+OptionalStandsFor mask content sizes type value chunk = ⊥
+
+-- The lengths of the mask and of the data, and both, each as its chain writes it.
+pub record OptionalWritten (mask content : Standing) (sizes : List ℕ) (type : ElementType) (value : List ℕ) (chunk : Chunk) : Type 0 where
+  pub mask_part : List ℕ
+  pub data_part : List ℕ
+  pub small : length value < 2 ^ 64
+  pub parts : value ≡ optional_layout mask_part data_part
+  pub mask_written : mask sizes flag_type (0 ∷ []) mask_part (map flag_of chunk)
+  pub data_written : PartWritten content type (blank_fill type) data_part (present_of chunk)
+
+abbrev pub OptionalWrittenFor : Standing → Standing → List ℕ → ElementType → List ℕ → Chunk → Type 0
+OptionalWrittenFor mask content sizes (optional type) value chunk = OptionalWritten mask content sizes type value chunk
+OptionalWrittenFor mask content sizes type value chunk = ⊥
+
+-- ---- all of it
+
+-- what `optional` means, by what its two chains mean
+abbrev pub optional_meaning : {B : Type 0} → Meaning B → Meaning B → Meaning B
+optional_meaning mask content = record {
+  Mapped = mask.Mapped × content.Mapped;
+  normal = optional_normal content.normal;
+  representation = λ f. optional_representation (mask.representation f) (content.representation f);
+  value = λ f sizes type fill chunk. optional_value (mask.value f) (content.value f) sizes type chunk;
+  chunk = λ f sizes type fill value. optional_chunk (mask.chunk f) (content.chunk f) sizes type value;
+  Stands = λ f sizes type fill value chunk. OptionalStandsFor (mask.Stands f) (content.Stands f) sizes type value chunk;
+  Written = λ f sizes type fill value chunk. OptionalWrittenFor (mask.Written f) (content.Written f) sizes type value chunk;
+}

@@ -1,0 +1,93 @@
+//! The names of the codecs: in metadata, and those of `vlen` and `optional` in errors.
+ghost use Rattle.std.specs.Prelude.{◌≡◌};
+ghost use Rattle.zarrs_metadata.specs.CodecMetadata.{is_bytes_name, is_squeeze_name};
+ghost use Rattle.zarrs_chain_meaning.specs.CodecNames.{is_vlen_name, is_optional_name, codec_named as codec_named_of};
+
+use zarrs_chunk::CodecName;
+
+/// The name of `vlen` in errors.
+pub const VLEN: CodecName = CodecName {
+    letters: *b"vlen\0\0\0\0\0\0\0\0\0\0\0\0",
+};
+
+/// The name of `optional` in errors.
+pub const OPTIONAL: CodecName = CodecName {
+    letters: *b"optional\0\0\0\0\0\0\0\0",
+};
+
+/// The codecs that a chain knows by their names.
+#[derive(Clone, Copy)]
+pub enum KnownCodec {
+    /// `transpose`.
+    Transpose,
+    /// `reshape`.
+    Reshape,
+    /// `zarrs.squeeze`.
+    Squeeze,
+    /// `bytes`.
+    Bytes,
+    /// `packbits`.
+    PackBits,
+    /// `zarrs.vlen`.
+    Vlen,
+    /// `zarrs.optional`.
+    Optional,
+}
+
+/// Whether the codec `squeeze` is known by this name.
+fn is_squeeze(name: &str) -> bool
+    ensures value { result ≡ is_squeeze_name name.now }
+{
+    name == "zarrs.squeeze" || name == "https://codec.zarrs.dev/array_to_array/squeeze"
+}
+
+/// Whether the codec `bytes` is known by this name.
+fn is_bytes(name: &str) -> bool
+    ensures value { result ≡ is_bytes_name name.now }
+{
+    name == "bytes" || name == "endian"
+}
+
+/// Whether the codec `vlen` is known by this name.
+pub fn is_vlen(name: &str) -> bool
+    ensures value { result ≡ is_vlen_name name.now }
+{
+    name == "zarrs.vlen" || name == "https://codec.zarrs.dev/array_to_bytes/vlen"
+}
+
+/// Whether the codec `optional` is known by this name.
+pub fn is_optional(name: &str) -> bool
+    ensures value { result ≡ is_optional_name name.now }
+{
+    name == "zarrs.optional"
+        || name == "optional"
+        || name == "https://codec.zarrs.dev/array_to_bytes/optional"
+}
+
+/// The codec that is known by this name.
+pub fn codec_named(name: &str) -> Option<KnownCodec>
+    ensures value { result ≡ codec_named_of name.now }
+{
+    if name == "transpose" {
+        return Some(KnownCodec::Transpose);
+    }
+    if name == "reshape" {
+        return Some(KnownCodec::Reshape);
+    }
+    if is_squeeze(name) {
+        return Some(KnownCodec::Squeeze);
+    }
+    if is_bytes(name) {
+        return Some(KnownCodec::Bytes);
+    }
+    if name == "packbits" {
+        return Some(KnownCodec::PackBits);
+    }
+    if is_vlen(name) {
+        return Some(KnownCodec::Vlen);
+    }
+    if is_optional(name) {
+        return Some(KnownCodec::Optional);
+    }
+    None
+}

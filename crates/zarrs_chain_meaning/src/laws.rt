@@ -1,0 +1,86 @@
+//! Laws over the definitions alone: each function's contract is one. They are of all chains, those
+//! with chains inside too.
+ghost use Rattle.zarrs_codec.specs.BytesToBytesCodec.{BytesCodecs};
+ghost use Rattle.zarrs_chain_meaning.specs.MadeAgain.{ChainsAreMadeAgain};
+ghost use Rattle.zarrs_chain_meaning.specs.MadeChain.{ChainsAreMadeAlike};
+ghost use Rattle.zarrs_chain_meaning.specs.vlen.PlainVlen.{PlainIsPlain};
+ghost use Rattle.zarrs_chain_meaning.specs.Laws.{WrittenStands, StandsForOne, StandsIsAnswered, AnsweredStands, WrittenOnce, ValueIsWritten, NormalTwice, NormalMoved, NormalUpdated, WrittenForNormal, WrittenAlike, WrittenKeeps, SizesGoByCount, SizesGrow};
+
+/// What is written for a chunk stands for its normal form.
+pub fn written_stands<B>()
+    ensures law { (f : BytesCodecs B) → WrittenStands f }
+{}
+
+/// A value stands for at most one chunk.
+pub fn stands_for_one<B>()
+    ensures law { (f : BytesCodecs B) → StandsForOne f }
+{}
+
+/// The chunk that a value stands for is what a chain answers.
+pub fn stands_is_answered<B>()
+    ensures law { (f : BytesCodecs B) → StandsIsAnswered f }
+{}
+
+/// What a chain answers of a value is a chunk that it stands for.
+pub fn answered_stands<B>()
+    ensures law { (f : BytesCodecs B) → AnsweredStands f }
+{}
+
+/// For a chunk at most one value is written.
+pub fn written_once<B>()
+    ensures law { (f : BytesCodecs B) → WrittenOnce f }
+{}
+
+/// A chain answers a value for a chunk exactly where the value is written for it.
+pub fn value_is_written<B>()
+    ensures law { (f : BytesCodecs B) → ValueIsWritten f }
+{}
+
+/// The normal form of a normal form is the same, and the same value is written for it.
+pub fn normal_twice<B>()
+    ensures law { NormalTwice B }
+    ensures written { (f : BytesCodecs B) → WrittenForNormal f }
+{}
+
+/// The normal form of a chunk that array-to-array codecs move is the normal form moved.
+pub fn normal_moved<B>()
+    ensures law { NormalMoved B }
+{}
+
+/// The normal form of an updated chunk is the normal form updated with that of the new elements.
+pub fn normal_updated<B>()
+    ensures law { NormalUpdated B }
+{}
+
+/// Two chunks are written alike exactly if their normal forms are equal.
+pub fn written_alike<B>()
+    ensures law { (f : BytesCodecs B) → WrittenAlike f }
+{}
+
+/// A written value is as many bytes as the representation says.
+pub fn written_keeps<B>()
+    ensures law { (f : BytesCodecs B) → WrittenKeeps f }
+{}
+
+/// Of the chunks of one type and fill value that a chain takes, those with as many elements have one
+/// size, however they are shaped; one with more elements has no smaller size.
+pub fn sizes_go_by_count<B>()
+    ensures law { (f : BytesCodecs B) → SizesGoByCount f }
+    ensures grows { (f : BytesCodecs B) → SizesGrow f }
+{}
+
+/// A codec that has a plain form is the plain `vlen` of this form, over some data chain.
+pub fn plain_is_plain<B>()
+    ensures law { PlainIsPlain B }
+{}
+
+/// The chains inside a chain are made of their metadata as the chain itself is.
+pub fn chains_are_made_alike<B>()
+    ensures law { ChainsAreMadeAlike B }
+{}
+
+/// What is written of a chain makes an equal one, where each bytes-to-bytes codec's metadata has a
+/// name that no codec of the table has, and no float, and the maker makes an equal codec of it.
+pub fn chains_are_made_again<B>()
+    ensures law { ChainsAreMadeAgain B }
+{}

@@ -1,0 +1,47 @@
+//! What holds of all bytes of a machine, and the laws of chains ask for: they are below 256.
+ghost use Rattle.std.specs.Prelude.{◌<◌, ℕ, slice_index};
+ghost use Rattle.zarrs_codec.specs.BytesToBytesCodec.{AreBytes};
+ghost use Rattle.zarrs_chain_meaning.specs.MachineBytes.{HeldHasBytes, FixedHasBytes, VariableHasBytes};
+
+use zarrs_array_bytes::ArrayBytes;
+
+/// Each byte is below 256.
+fn each_is_small(_bytes: &[u8])
+    ensures small { (i : ℕ) → slice_index _bytes.now i < 256 }
+{}
+
+/// Bytes are bytes.
+pub fn bytes_are(bytes: &[u8])
+    ensures bytes { AreBytes bytes.now }
+{
+    each_is_small(bytes);
+}
+
+/// Those of elements of one size.
+fn fixed_are_bytes(elements: &ArrayBytes<'_>)
+    ensures fixed { FixedHasBytes elements.now }
+{
+    if let Ok(bytes) = elements.as_fixed() {
+        bytes_are(bytes);
+    }
+}
+
+/// Those of elements of any length.
+fn variable_are_bytes(elements: &ArrayBytes<'_>)
+    ensures variable { VariableHasBytes elements.now }
+{
+    if let Ok((bytes, _)) = elements.as_variable() {
+        bytes_are(bytes);
+    }
+}
+
+/// Those of elements, under all masks.
+pub fn elements_are_bytes(elements: &ArrayBytes<'_>)
+    ensures bytes { HeldHasBytes elements.now }
+{
+    fixed_are_bytes(elements);
+    variable_are_bytes(elements);
+    if let Ok((inner, _)) = elements.as_optional() {
+        elements_are_bytes(inner);
+    }
+}

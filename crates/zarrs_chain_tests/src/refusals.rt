@@ -1,0 +1,128 @@
+//! Chunks that `vlen` and `optional` don't take, containers that hold another chunk, and values that
+//! stand for none.
+
+use crate::forms::{Chunk, Elements, OPTIONS, PAIR, TEXTS};
+use crate::whole_rows::Row;
+use zarrs_chain_meaning::codec_name::{OPTIONAL, VLEN};
+use zarrs_chunk::CodecError::{ArrayBytesKind, InvalidBytesLength, UnsupportedDataType};
+use zarrs_codec::BytesRepresentation::{BoundedSize, UnboundedSize};
+
+const STRINGS: Chunk = Chunk {
+    shape: &[2],
+    data_type: r#""string""#,
+    fill_value: &[],
+};
+
+const OPTIONAL_BYTES: Chunk = Chunk {
+    shape: &[3],
+    data_type: r#"{"optional":"uint8"}"#,
+    fill_value: &[0],
+};
+
+pub(crate) const REFUSED: &'static [Row] = &[
+    Row {
+        name: "vlen over elements of one size",
+        codecs: TEXTS,
+        chunk: PAIR,
+        size: Err(UnsupportedDataType(VLEN)),
+        elements: Elements {
+            bytes: &[1, 2],
+            ends: &[],
+            masks: &[],
+        },
+        encoded: Err(UnsupportedDataType(VLEN)),
+        value: &[1, 2],
+        decoded: Err(UnsupportedDataType(VLEN)),
+    },
+    Row {
+        name: "optional over elements that are there",
+        codecs: OPTIONS,
+        chunk: PAIR,
+        size: Err(UnsupportedDataType(OPTIONAL)),
+        elements: Elements {
+            bytes: &[1, 2],
+            ends: &[],
+            masks: &[],
+        },
+        encoded: Err(UnsupportedDataType(OPTIONAL)),
+        value: &[1, 2],
+        decoded: Err(UnsupportedDataType(OPTIONAL)),
+    },
+    Row {
+        name: "elements of one size in place of texts, and seven bytes",
+        codecs: TEXTS,
+        chunk: STRINGS,
+        size: Ok(UnboundedSize),
+        elements: Elements {
+            bytes: &[1, 2],
+            ends: &[],
+            masks: &[],
+        },
+        encoded: Err(ArrayBytesKind),
+        value: &[0; 7],
+        decoded: Err(InvalidBytesLength {
+            len: 7,
+            expected: 8,
+        }),
+    },
+    Row {
+        name: "the offsets of one text in place of two, and one byte where the texts have three",
+        codecs: TEXTS,
+        chunk: STRINGS,
+        size: Ok(UnboundedSize),
+        elements: Elements {
+            bytes: b"a",
+            ends: &[0, 1],
+            masks: &[],
+        },
+        encoded: Err(InvalidBytesLength {
+            len: 2,
+            expected: 3,
+        }),
+        value: &[
+            24, 0, 0, 0, 0, 0, 0, 0, 0, 0, 0, 0, 0, 0, 0, 0, 1, 0, 0, 0, 0, 0, 0, 0, 3, 0, 0, 0, 0,
+            0, 0, 0, 97,
+        ],
+        decoded: Err(InvalidBytesLength {
+            len: 1,
+            expected: 3,
+        }),
+    },
+    Row {
+        name: "no mask, and seventeen bytes of no mask and no data",
+        codecs: OPTIONS,
+        chunk: OPTIONAL_BYTES,
+        size: Ok(BoundedSize(22)),
+        elements: Elements {
+            bytes: &[5, 9, 7],
+            ends: &[],
+            masks: &[],
+        },
+        encoded: Err(ArrayBytesKind),
+        value: &[0; 17],
+        decoded: Err(InvalidBytesLength {
+            len: 17,
+            expected: 16,
+        }),
+    },
+    Row {
+        name: "a mask of two in place of three, and fifteen bytes",
+        codecs: OPTIONS,
+        chunk: OPTIONAL_BYTES,
+        size: Ok(BoundedSize(22)),
+        elements: Elements {
+            bytes: &[5, 9],
+            ends: &[],
+            masks: &[&[1, 0]],
+        },
+        encoded: Err(InvalidBytesLength {
+            len: 2,
+            expected: 3,
+        }),
+        value: &[0; 15],
+        decoded: Err(InvalidBytesLength {
+            len: 15,
+            expected: 16,
+        }),
+    },
+];

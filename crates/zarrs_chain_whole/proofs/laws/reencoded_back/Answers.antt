@@ -1,5 +1,0 @@
-use Rattle.zarrs_chain_whole.proofs.ReencodeLaws.{reencoded_back}
-use Rattle.zarrs_chain_whole.proofs.laws.reencoded_back.Goals as goal
-
-pub returns : goal.returns
-returns g c = record { law = λ f g from to form value other back chunk lawful is also each positive canonical keeps r. reencoded_back f g from to form value other back chunk lawful is also each positive canonical keeps r }

@@ -1,0 +1,117 @@
+-- What each array-to-bytes codec does in part, as one record: what a read of places answers and rests on, what is planned, and whether a write replaces its places' bytes alone.
+use Rattle.std.specs.Prelude.{ℕ, Bool, true, false, Option, Some, None, IsOkAnd, List, [], ◌∷◌, Result, Ok}
+use Rattle.zarrs_bytes.specs.CountLaws.{read_count}
+use Rattle.zarrs_bytes.specs.PartialRead.{place_bytes, place_size, read_places}
+use Rattle.zarrs_bytes.specs.PlannedRanges.{IsPlan as IsElementPlan}
+use Rattle.zarrs_chain_meaning.specs.CodecMeaning.{meaning}
+use Rattle.zarrs_chain_meaning.specs.Meaning.{Meaning}
+use Rattle.zarrs_chain_meaning.specs.PlainChain.{PlainCodec, bytes_codec, packbits_codec, vlen_codec, optional_codec}
+use Rattle.zarrs_chain_meaning.specs.vlen.PlainVlen.{plain_form_of}
+use Rattle.zarrs_chain_meaning.specs.vlen.PlainForm.{PlainForm}
+use Rattle.zarrs_chunk.specs.ChunkShape.{product}
+use Rattle.zarrs_chunk.specs.declared.codec_error.CodecError.{CodecError}
+use Rattle.zarrs_codec.specs.BytesToBytesCodec.{BytesCodecs}
+use Rattle.zarrs_codec.specs.ByteSpan.{ByteSpan}
+use Rattle.zarrs_codec_chain.specs.PartRead.{PlaceReader, whole_read, read_by_form, AnswersEach, whole_count, form_count}
+use Rattle.zarrs_data_type.specs.ElementType.{ElementType}
+use Rattle.zarrs_data_type.specs.Form.{form_of}
+use Rattle.zarrs_data_type.specs.declared.endianness.Endianness.{Endianness}
+use Rattle.zarrs_packbits.specs.CountLaws.{read_count_of}
+use Rattle.zarrs_packbits.specs.PackBitsSettings.{packed_layout, PackBitsSettings}
+use Rattle.zarrs_packbits.specs.PartialRead.{bytes_of_places, read_places_of}
+use Rattle.zarrs_packbits.specs.ReadPlan.{IsPlan}
+use Rattle.zarrs_plain_vlen.specs.VlenRead.{stored_rests_on}
+
+-- The bytes that are there may be none: nothing is stored. A read answers an element for each place. What is asked of a plan, and of what a read rests on, is asked of places of the chunk that the codec gets.
+pub record Part (B : Type 0) : Type 1 where
+  pub read : BytesCodecs B → PlaceReader
+  pub counted : (f : BytesCodecs B) → AnswersEach (read f)
+  pub rests_on : List ℕ → ElementType → List ℕ → Option (List ℕ) → List ℕ → Result (List ℕ) CodecError
+  pub plans : Bool
+  pub IsPlanned : List ℕ → ElementType → List ℕ → List ℕ → List ByteSpan → Type 0
+  pub in_place : Option (Option Endianness)
+
+-- ---- read and written whole
+
+-- what a codec does in part that is read and written whole: nothing
+abbrev pub whole_part : {B : Type 0} → Meaning B → Part B
+whole_part m = record {
+  read = λ f. whole_read (m.chunk f);
+  counted = λ f. whole_count (m.chunk f);
+  rests_on = λ sizes type fill stored places. Ok [];
+  plans = false;
+  IsPlanned = λ sizes type fill places ranges. ⊥;
+  in_place = None;
+}
+
+-- ---- bytes, packbits
+
+-- The places' bytes, whatever is stored. The ranges are these and no others: each is the bytes of one run of places, none of them empty, and no run starts where the one before it ends; their lengths sum to the elements' bytes.
+abbrev pub bytes_part : {B : Type 0} → Option Endianness → Part B
+bytes_part order = record {
+  read = λ f sizes. read_places order;
+  counted = λ f sizes. read_count order;
+  rests_on = λ sizes type fill stored places. Ok (place_bytes (place_size type) places);
+  plans = true;
+  IsPlanned = λ sizes type fill places ranges. IsElementPlan (place_size type) places ranges;
+  in_place = Some order;
+}
+
+-- The bytes that have bits of the places, whatever is stored; the ranges likewise.
+abbrev pub packbits_part : {B : Type 0} → PackBitsSettings → Part B
+packbits_part settings = record {
+  read = λ f sizes type fill stored places. read_places_of settings (form_of sizes type fill) stored places;
+  counted = λ f sizes type fill. read_count_of settings (form_of sizes type fill);
+  rests_on = λ sizes type fill stored places. bytes_of_places settings (form_of sizes type fill) places;
+  plans = true;
+  IsPlanned = λ sizes type fill places ranges. IsOkAnd (packed_layout settings (form_of sizes type fill)) (λ layout. IsPlan layout places ranges);
+  in_place = None;
+}
+
+-- ---- vlen
+
+-- the numbers of the bytes of what is stored that the elements at these places rest on, of a `vlen` by its plain form: the offsets' and the elements'; none where it has no such form
+abbrev pub form_rests_on : Option PlainForm → ℕ → Option (List ℕ) → List ℕ → List ℕ
+form_rests_on None count stored places = []
+form_rests_on (Some form) count stored places = stored_rests_on form count stored places
+
+-- of a `vlen` with a plain form the offsets and the elements' bytes; which ones, the offsets say, so nothing is planned
+abbrev pub vlen_part : {B : Type 0} → Option PlainForm → Meaning B → Part B
+vlen_part form m = record {
+  read = λ f. read_by_form form (m.chunk f);
+  counted = λ f. form_count form (m.chunk f);
+  rests_on = λ sizes type fill stored places. Ok (form_rests_on form (product sizes) stored places);
+  plans = false;
+  IsPlanned = λ sizes type fill places ranges. ⊥;
+  in_place = None;
+}
+
+-- ---- all of them
+
+-- what an array-to-bytes codec does in part
+abbrev pub part_of : {B : Type 0} → PlainCodec B → Part B
+part_of (bytes_codec order) = bytes_part order
+part_of (packbits_codec settings) = packbits_part settings
+part_of (vlen_codec ia ix ib da dx db wide at_end) = vlen_part (plain_form_of (vlen_codec ia ix ib da dx db wide at_end)) (meaning (vlen_codec ia ix ib da dx db wide at_end))
+part_of (optional_codec ma mx mb da dx db) = whole_part (meaning (optional_codec ma mx mb da dx db))
+
+-- the elements at these places of a chunk that the codec gets
+abbrev pub codec_read : {B : Type 0} → BytesCodecs B → PlainCodec B → PlaceReader
+codec_read f codec = (part_of codec).read f
+
+-- the numbers of the bytes of what is stored that the elements at these places rest on, where the codec reads in part
+abbrev pub codec_rests_on : {B : Type 0} → PlainCodec B → List ℕ → ElementType → List ℕ → Option (List ℕ) → List ℕ → Result (List ℕ) CodecError
+codec_rests_on codec = (part_of codec).rests_on
+
+-- whether the bytes of a place are known before anything is read
+abbrev pub codec_plans : {B : Type 0} → PlainCodec B → Bool
+codec_plans codec = (part_of codec).plans
+
+-- the ranges are a plan of a read of these places
+abbrev pub IsCodecPlan : {B : Type 0} → PlainCodec B → List ℕ → ElementType → List ℕ → List ℕ → List ByteSpan → Type 0
+IsCodecPlan codec = (part_of codec).IsPlanned
+
+-- the byte order of `bytes` without bytes-to-bytes codecs: there the bytes of places are those of their elements, and a write over a stored value replaces them alone
+abbrev pub order_in_place : {B : Type 0} → List B → PlainCodec B → Option (Option Endianness)
+order_in_place [] codec = (part_of codec).in_place
+order_in_place (first ∷ rest) codec = None

@@ -1,0 +1,16 @@
+pub mod Refusal
+pub mod Json
+pub mod Elements
+pub mod Containers
+pub mod Element
+pub mod Shown
+pub mod Indexer
+pub mod Edit
+pub mod DataType
+pub mod Laws
+pub mod Codecs
+pub mod Header
+pub mod HeaderRead
+pub mod KnownBytesCodec
+pub mod KnownLaws
+pub mod KnownMaker

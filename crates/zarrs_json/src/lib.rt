@@ -1,0 +1,31 @@
+//! What the line tool and the calls for C read and write as JSON: the header of a chunk, which is its
+//! shape, the type of its elements, its fill value and the codecs that it goes through; data types,
+//! elements, indexers and edits; the errors of lines; and the bytes-to-bytes codecs that a header
+//! may name.
+#![tactic(auto)]
+
+mod codecs;
+mod containers;
+mod data_types;
+mod edits;
+mod element;
+mod element_lists;
+mod header;
+mod indexers;
+mod json;
+mod known_bytes_codec;
+mod known_maker;
+pub mod laws;
+mod refusal;
+mod shown;
+
+pub use data_types::data_type;
+pub use edits::{Edit, read_edit};
+pub use element_lists::elements;
+pub use header::{ChunkHeader, read_codecs, read_header};
+pub use indexers::indexer;
+pub use json::{Members, hex_bytes, member, numbers, object, ok_hex, tree};
+pub use known_bytes_codec::KnownBytesCodec;
+pub use known_maker::KnownMaker;
+pub use refusal::Refusal;
+pub use shown::ok_elements;

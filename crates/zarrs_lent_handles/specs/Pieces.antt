@@ -1,0 +1,95 @@
+-- Pieces of a value: which bytes they have, and the values that have them.
+use Rattle.std.specs.Prelude.{ℕ, ◌+◌, ◌-◌, ◌<◌, ◌≤◌, Bool, true, ◌&&◌, ◌≡◌, nat_le, nat_lt, Option, Some, None, is_some, List, [], ◌∷◌, Vec, Result, IfOk, length, map, if◌then◌else◌, get_or}
+use Rattle.std.specs.List.{list_all, range_with_len}
+use Rattle.std.proofs.Common.{Global}
+use Rattle.zarrs_chunk.specs.Answer.{AnswersItems, Excused, fault, memory_or_fault}
+use Rattle.zarrs_chunk.specs.declared.codec_error.CodecError.{CodecError}
+use Rattle.zarrs_codec.specs.ByteRanges.{EndsOutside, read_value}
+use Rattle.zarrs_codec.specs.ByteSpan.{ByteSpan}
+use Rattle.zarrs_codec.specs.HandleCalls.{NeverFailsIf}
+use Rattle.zarrs_lent_handles.specs.declared.piece.Piece.{Piece}
+
+-- a piece of a value: the number of its first byte, and its bytes
+pub record PlainPiece : Type 0 where
+  pub start : ℕ
+  pub bytes : List ℕ
+
+-- what a piece is seen as
+abbrev pub piece_seen : Piece → PlainPiece
+piece_seen piece = record { start = piece.start; bytes = piece.bytes.now }
+
+abbrev pub pieces_seen : List Piece → List PlainPiece
+pieces_seen pieces = map piece_seen pieces
+
+-- the byte of this number is in the piece
+abbrev pub IsInPiece : ℕ → Piece → Type 0
+IsInPiece number piece = (piece.start ≤ number) × (number - piece.start < length piece.bytes.now)
+
+-- ---- which bytes are at hand
+
+-- the piece has the byte of this number
+abbrev pub has_byte : PlainPiece → ℕ → Bool
+has_byte piece number = nat_le piece.start number && nat_lt (number - piece.start) (length piece.bytes)
+
+-- the first piece that has it
+abbrev pub piece_with : List PlainPiece → ℕ → Option PlainPiece
+piece_with [] number = None
+piece_with (piece ∷ pieces) number = if has_byte piece number then Some piece else piece_with pieces number
+
+-- the pieces come in order from a number on, with at least a byte between one and the next, and end inside so many bytes
+abbrev pub are_apart : ℕ → ℕ → List PlainPiece → Bool
+are_apart len free [] = true
+are_apart len free (piece ∷ pieces) =
+    nat_le free piece.start && (nat_le (piece.start + length piece.bytes) len && are_apart len (piece.start + length piece.bytes + 1) pieces)
+
+-- the byte of this number is at hand
+abbrev pub is_at_hand : List PlainPiece → ℕ → Bool
+is_at_hand pieces number = is_some (piece_with pieces number)
+
+-- all bytes with these numbers are at hand
+abbrev pub are_at_hand : List PlainPiece → List ℕ → Bool
+are_at_hand pieces numbers = list_all (is_at_hand pieces) numbers
+
+-- the numbers of the bytes of a range
+abbrev pub numbers_of : ByteSpan → List ℕ
+numbers_of range = range_with_len range.start (range.end - range.start)
+
+-- where all bytes with these numbers are at hand, a read doesn't fail, but for lack of memory
+abbrev pub SureIfAtHand : {T : Type 0} → List Piece → List ℕ → Result T CodecError → Type 0
+SureIfAtHand pieces numbers result = NeverFailsIf (are_at_hand (pieces_seen pieces) numbers) result
+
+-- what is read are bytes at hand: all with these numbers are
+abbrev pub OnlyAtHand : {T E : Type 0} → List Piece → List ℕ → Result T E → Type 0
+OnlyAtHand pieces numbers result = IfOk result (λ _. are_at_hand (pieces_seen pieces) numbers ≡ true)
+
+-- ---- values that have the pieces
+
+-- the byte of this number in a piece
+abbrev pub byte_in : Option PlainPiece → ℕ → ℕ
+byte_in None number = 0
+byte_in (Some piece) number = get_or piece.bytes (number - piece.start) 0
+
+-- the byte of this number; zero where it isn't at hand
+abbrev pub byte_at : List PlainPiece → ℕ → ℕ
+byte_at pieces number = byte_in (piece_with pieces number) number
+
+-- the value of so many bytes that has these pieces, and zeros elsewhere
+abbrev pub value_with : ℕ → List PlainPiece → List ℕ
+value_with len pieces = map (byte_at pieces) (range_with_len 0 len)
+
+-- the same of pieces as they are given
+abbrev pub value_of : ℕ → List Piece → List ℕ
+value_of len pieces = value_with len (pieces_seen pieces)
+
+-- the ranges' bytes of this value are answered, joined in order, or the first error; a lack of memory or a failure may come in their place
+abbrev pub Gathers : ℕ → List Piece → List ByteSpan → Result (Vec ℕ Global) CodecError → Type 0
+Gathers len pieces ranges result = AnswersItems memory_or_fault result (read_value (value_of len pieces) ranges)
+
+-- the value has so many bytes, and each that is at hand is the piece's
+pub record HasPieces (len : ℕ) (pieces : List PlainPiece) (value : List ℕ) : Type 0 where
+  pub length_is : length value ≡ len
+  pub same : (number : ℕ) → is_at_hand pieces number ≡ true → get_or value number 0 ≡ byte_at pieces number
+
+-- the range ends past the value, and is rejected for that, or else a byte isn't at hand
+abbrev pub IsOutside : List ℕ → ByteSpan → CodecError → Type 0
+IsOutside value range error = Excused (fault error) (EndsOutside value range error)
