@@ -22,10 +22,10 @@
  *   {"optional":TYPE}         absent 00; else the value of TYPE, and 01 behind it: 1 of an optional uint16 is
  *                             010001, an empty text 01; an absent one within one that is there is 0001
  *
- * A call answers ZARRS_DONE; ZARRS_SHORT where a buffer is too short for the answer; or the code of the
- * first cause of a refusal, one of enum zarrs_code, whose name zarrs_error_name tells. Where it answers
- * ZARRS_SHORT it has written how many items are needed, and nothing else; where it refuses, nothing at
- * all (but for zarrs_edit, which says what stands). Want of memory (ZARRS_OUT_OF_MEMORY) may come in place of any other answer.
+ * A call returns ZARRS_DONE; ZARRS_SHORT where a buffer is too short for the answer; or the code of the
+ * first error, one of enum zarrs_code, whose name zarrs_error_name returns. Where it returns ZARRS_SHORT
+ * it has written how many items are needed, and nothing else; where it fails, nothing at all (but for
+ * zarrs_edit, which says how many edits stay). ZARRS_OUT_OF_MEMORY may come in place of any other code.
  *
  * Elements cross in three buffers, whatever their type:
  *
@@ -40,8 +40,8 @@
  *
  * What a call writes is fixed by the elements: offsets begin at 0, masks are 0 and 1, and under an absent
  * element there are zeros, or no bytes. What it is given may be looser: the first offset may be above 0,
- * and what stands under an absent element doesn't matter. An answer's parts stand in front of the
- * buffers, and what is behind them stays as it was. The sizes that a fixed type needs follow from the
+ * and what stands under an absent element doesn't matter. An answer's parts are at the front of
+ * the buffers, and what is behind them stays as it was. The sizes that a fixed type needs follow from the
  * header, so that one call is enough; of a string or bytes call once with buffers of no length, or with a
  * guess.
  *
@@ -66,14 +66,14 @@
 extern "C" {
 #endif
 
-/* All codes, and why a call refuses. A code keeps its number in all versions; later ones may have more. */
+/* All codes, and why a call fails. A code keeps its number in all versions; later ones may have more. */
 enum zarrs_code {
     ZARRS_DONE = 0,
     ZARRS_SHORT = 1, /* a buffer is too short for the answer */
     ZARRS_SYNTAX = 2, /* the header, or a list of codecs, isn't of its form */
     ZARRS_ARGUMENT = 3, /* masks of several lengths, numbers that are no selection, other pieces */
     ZARRS_NOT_IN_PLACE = 4, /* a value can't be edited where it stands */
-    ZARRS_OUT_OF_MEMORY = 10, /* memory was refused: may come in place of any other */
+    ZARRS_OUT_OF_MEMORY = 10, /* an allocation failed: may come in place of any other */
     ZARRS_STORAGE = 11, /* a byte is needed that isn't among the pieces */
     ZARRS_UNSUPPORTED_DATA_TYPE = 12, /* a codec doesn't take this type */
     ZARRS_ENDIANNESS_MISSING = 13, /* no byte order, and components of several bytes */
@@ -94,7 +94,7 @@ enum zarrs_code {
     ZARRS_MASK_VALUE = 28, /* neither 0 nor 1 */
     ZARRS_HEADER_OVERFLOW = 29, /* two lengths pass 2^64 - 1 */
     ZARRS_INVALID_BYTE_RANGE = 30, /* a range ends past the bytes: a value is too short */
-    ZARRS_BYTES_CODEC = 31, /* a bytes-to-bytes codec refused */
+    ZARRS_BYTES_CODEC = 31, /* a bytes-to-bytes codec failed */
     ZARRS_DATA_MISMATCH = 32, /* not one element for each place */
     ZARRS_UNSUPPORTED_TARGET = 33, /* elements of variable length */
     ZARRS_TARGET_MISMATCH = 34, /* levels, counts or sizes differ */
@@ -104,8 +104,8 @@ enum zarrs_code {
     ZARRS_INDEX_NOT_FIXED = 38, /* the encoded index isn't of a fixed size */
     ZARRS_UNKNOWN_NAME = 50, /* no codec has this name */
     ZARRS_INVALID_CONFIGURATION = 51, /* a key is missing, or its value of another kind */
-    ZARRS_MISSING_ARRAY_TO_BYTES = 52, /* no codec from arrays to bytes */
-    ZARRS_MULTIPLE_ARRAY_TO_BYTES = 53, /* more than one from arrays to bytes */
+    ZARRS_MISSING_ARRAY_TO_BYTES = 52, /* no array-to-bytes codec */
+    ZARRS_MULTIPLE_ARRAY_TO_BYTES = 53, /* more than one array-to-bytes codec */
     ZARRS_BIT_ORDER = 54, /* a bit range ends before it starts */
     ZARRS_MULTIPLE_AUTO = 55, /* several automatic sizes */
     ZARRS_ZERO_SIZE = 56, /* a size of a reshape is zero */
@@ -143,7 +143,7 @@ extern const char zarrs_version[];
 /* Whether a header reads and its codecs take such chunks. */
 uint32_t zarrs_check(const uint8_t *header, size_t header_len);
 
-/* The name of a code in ASCII, without a zero behind it; no byte for a number that no call answers. */
+/* The name of a code in ASCII, without a zero behind it; no byte for a number that no call returns. */
 uint32_t zarrs_error_name(uint32_t code, uint8_t *name, size_t name_len, size_t *needed);
 
 /* The same with a zero behind it, in text, which has ZARRS_NAME_SIZE bytes. */
@@ -189,9 +189,9 @@ uint32_t zarrs_reencode(const uint8_t *header, size_t header_len,
                         const uint8_t *codecs, size_t codecs_len,
                         uint8_t *other, size_t other_len, size_t *needed);
 
-/* The elements that a selection means of the chunk that a value stands for; of a chunk of fill values where
- * nothing is stored, and then the value isn't read. Of bytes and packbits, with no codec of bytes behind them,
- * the bytes of these elements are looked at and no others. */
+/* The selected elements, in the selection's order, of the chunk that a value stands for, or fill values where
+ * nothing is stored, and then the value isn't read. Of bytes and packbits, with no bytes-to-bytes codec behind
+ * them, the bytes of these elements are looked at and no others. */
 uint32_t zarrs_read(const uint8_t *header, size_t header_len,
                     bool is_stored, const uint8_t *value, size_t value_len,
                     uint64_t tuples, const uint64_t *numbers, size_t numbers_len,
@@ -199,7 +199,7 @@ uint32_t zarrs_read(const uint8_t *header, size_t header_len,
                     uint64_t *offsets, size_t offsets_len,
                     uint8_t *bytes, size_t bytes_len, zarrs_sizes *needed);
 
-/* What zarrs_read answers of each selection of a list: the parts of each answer stand behind those of the one
+/* What zarrs_read returns of each selection of a list: the parts of each answer stand behind those of the one
  * before it, so each has its own masks, its own offsets, from 0 on, and its own bytes. needed counts them all.
  * The header is read once, and a value that has to be decoded whole is decoded once. */
 uint32_t zarrs_read_many(const uint8_t *header, size_t header_len,
@@ -210,9 +210,9 @@ uint32_t zarrs_read_many(const uint8_t *header, size_t header_len,
                          uint64_t *offsets, size_t offsets_len,
                          uint8_t *bytes, size_t bytes_len, zarrs_sizes *needed);
 
-/* The value of the chunk with new elements where a selection means them: it begins as the chunk that a value
- * stands for, or as fill values where nothing is stored, and then the value isn't read. Of a tuple that comes
- * more than once the last element stands. The old value stays as it is. */
+/* The value of the chunk with new elements at the selected places, in the selection's order: it begins as the
+ * chunk that a value stands for, or as fill values where nothing is stored, and then the value isn't read. Of a
+ * tuple that comes more than once the last element stands. The old value stays as it is. */
 uint32_t zarrs_write(const uint8_t *header, size_t header_len,
                      bool is_stored, const uint8_t *value, size_t value_len,
                      uint64_t tuples, const uint64_t *numbers, size_t numbers_len,
@@ -221,13 +221,13 @@ uint32_t zarrs_write(const uint8_t *header, size_t header_len,
                      const uint8_t *bytes, size_t bytes_len,
                      uint8_t *out, size_t out_len, size_t *needed);
 
-/* New elements written into the value itself, by a list of edits: what zarrs_write answers, one after another.
- * The header is read once, and of the value only the bytes of the edits' places are written; it may overlap
+/* New elements written into the value itself, by a list of edits, one after another, each as zarrs_write makes
+ * it. The header is read once, and of the value only the bytes of the edits' places are written; it may overlap
  * no other argument. That is done where all codecs of the chain write a part of a value (bytes, behind
- * array-to-array codecs or none, and no codec of bytes), and the value has all bytes of the chunk; else
- * ZARRS_NOT_IN_PLACE is answered. done is always written: it says how many edits were made. Where one is
- * refused, those before it stand, and the value has nothing of it nor of those behind it. So elements are of
- * a fixed size, and neither masks nor offsets are given. */
+ * array-to-array codecs or none, and no bytes-to-bytes codec), and the value has all bytes of the chunk; else
+ * ZARRS_NOT_IN_PLACE is returned. done is always written: it is how many edits were made. Where one fails,
+ * those before it stay, and it and those behind it leave the value as it is. So elements are of a fixed size,
+ * and neither masks nor offsets are given. */
 uint32_t zarrs_edit(const uint8_t *header, size_t header_len,
                     uint8_t *value, size_t value_len,
                     const zarrs_edit_size *sizes, size_t sizes_len,
@@ -236,17 +236,19 @@ uint32_t zarrs_edit(const uint8_t *header, size_t header_len,
 
 /* Which bytes of a value zarrs_read asks for, whatever is stored: ranges, each the number of its first byte
  * and that of the first byte behind it, in order and with at least a byte between one and the next. Where
- * is_planned is false there are none: the whole value is needed. A short buffer is told by ZARRS_SHORT, and
- * is_planned is told then too. */
+ * is_planned is false there are none: the whole value is needed. Where the buffer is too short, is_planned is
+ * written too, and ZARRS_SHORT is returned. */
 uint32_t zarrs_planned_ranges(const uint8_t *header, size_t header_len,
                               uint64_t tuples, const uint64_t *numbers, size_t numbers_len,
                               uint64_t *ranges, size_t ranges_len,
                               bool *is_planned, size_t *needed);
 
-/* What zarrs_read answers of a value of len bytes, by pieces of it: such ranges, and in fetched the bytes of
- * all of them, joined. Where all bytes that zarrs_planned_ranges tells are among them, the answer is the same
- * for every value that has these bytes there. ZARRS_STORAGE says that a byte is needed which isn't among
- * them; ranges that touch, come in another order or end behind the value are refused. */
+/* What zarrs_read returns of a value of len bytes, by pieces of it: such ranges, and in fetched the bytes of
+ * all of them, joined. Where all bytes of the ranges that zarrs_planned_ranges returns are among them, the
+ * answer is the same for every value that has these bytes there. ZARRS_STORAGE says that a byte is needed
+ * which isn't among them: it comes only where the header, the form of the selection and the ranges have no
+ * error, and never where all bytes of the value are among them. Ranges that touch, come in another order or
+ * end behind the value are rejected. */
 uint32_t zarrs_read_pieces(const uint8_t *header, size_t header_len,
                            uint64_t len, const uint64_t *ranges, size_t ranges_len,
                            const uint8_t *fetched, size_t fetched_len,

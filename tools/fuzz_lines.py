@@ -7,6 +7,7 @@ import itertools
 import json
 import math
 import random
+import zlib
 
 import model
 
@@ -14,7 +15,7 @@ PAGES = model.PAGES
 SQUEEZE = ("zarrs.squeeze", PAGES + "/array_to_array/squeeze")
 VLEN = ("zarrs.vlen", PAGES + "/array_to_bytes/vlen")
 OPTIONAL = ("zarrs.optional", "optional", PAGES + "/array_to_bytes/optional")
-BEHIND = ("sample.reverse", "sample.length", "crc32c")
+BEHIND = ("sample.reverse", "sample.length", "crc32c", "crc32c")
 HUGE = (2**64 - 1, 2**63, 2**63 - 1, 2**62, 2**61, 2**32, 2**32 - 1, 2**31)
 # what stands where something else is due
 JUNK = (None, True, False, 0, 1, 2, 7, -1, -2, 2**32, 2**63, 2**64 - 1, "", "x", "00", "0", "bytes", "little", "\u00e9", [], [0], [[]], {}, {"a": 1})
@@ -37,14 +38,16 @@ class Run:
         self.random = random.Random(seed)
         # more elements than memory holds, and often than 64 bits count: with it come other faults of a header
         self.is_huge = self.chance(0.06)
-        self.lines = [self.header()]
+        # as many as are moved in blocks: small ones, since those are packed
+        self.is_large = not self.is_huge and self.chance(0.06)
+        self.lines, self.session = [self.header()], None
         try:
             self.session = model.Session(self.lines[0])
         except (model.Refused, model.TooLarge):
             self.lines += [b"value"] * self.chance(0.2)
         else:
             self.is_huge = math.prod(self.session.shape) > 500
-            for _ in range(self.random.randint(1, 12)):
+            for _ in range(self.random.randint(1, self.pick((12, 60, 60)))):
                 self.lines += self.next_lines() if not self.has_long_elements() else [self.pick((b"decode", b"value"))]
         if self.chance(0.04):
             self.lines.insert(self.random.randint(0, len(self.lines)), b"")
@@ -65,11 +68,13 @@ class Run:
 
     def type_tree(self, depth=0):
         roll = self.random.random()
+        if self.is_large and self.chance(0.6):
+            return self.pick(("bool", "int2", "int4", "uint4", "int8", "uint8", "int16", {"components": {"bits": self.random.randint(1, 12), "count": 1, "signed": True}}))
         if roll < 0.42:
             return self.pick(sorted(set(model.TYPES) - {"string", "bytes"}))
         if roll < 0.58:
             bits = self.pick((1, 3, 5, 7, 8, 9, 11, 12, 16, 17, 24, 31, 32, 33, 63, 64, 65, self.random.randint(1, 130)))
-            return {"components": {"bits": bits, "count": self.random.randint(1, 3), "signed": self.chance(0.5)}}
+            return {"components": {"bits": bits, "count": self.random.randint(1, self.pick((3, 3, 3, 9))), "signed": self.chance(0.5)}}
         if roll < 0.76 or depth > 2:
             return self.pick(("string", "bytes"))
         return {"optional": self.type_tree(depth + 1)}
@@ -77,8 +82,9 @@ class Run:
     def shape(self):
         if self.is_huge:
             return [self.pick(HUGE) for _ in range(self.random.randint(1, 2))] + [self.random.randint(1, 3)] * self.few(2)
-        shape = [self.pick((1, 1, 2, 2, 3, 4, 5, 7)) for _ in range(self.random.randint(0, 4))]
-        while math.prod(shape) > 70:
+        sizes, most = ((1, 7, 8, 9, 16, 17, 33, 64, 130), 450) if self.is_large else ((1, 1, 2, 2, 3, 4, 5, 7), 70)
+        shape = [self.pick(sizes) for _ in range(self.random.randint(self.is_large, 4))]
+        while math.prod(shape) > most:
             shape.pop()
         return [self.random.randint(1, 40)] if len(shape) == 1 and self.chance(0.3) else shape
 
@@ -158,6 +164,10 @@ class Run:
             said["first_bit"] = self.random.randint(0, bits - 1)
         if self.chance(0.45):
             said["last_bit"] = self.random.randint(said.get("first_bit", 0), bits - 1)
+        if bits > 1 and self.chance(0.25):
+            kept = self.pick([it for it in (1, 2, 4, 8) if it <= bits])
+            said["first_bit"] = self.random.randint(0, bits - kept)
+            said["last_bit"] = said["first_bit"] + kept - 1
         if self.chance(0.2 if self.is_huge else 0.04):
             said[self.pick(("first_bit", "last_bit"))] = self.pick((None, bits, bits - 1, 0, 2**64 - 1))
         return self.named(("packbits",), said or None)
@@ -190,8 +200,8 @@ class Run:
         """A list of codecs; flat where the chunk has one axis of any length."""
         codecs, shape = self.arrays(of_type, shape, is_flat)
         codecs.append(self.to_bytes(of_type, shape, depth))
-        if self.chance(0.25):
-            codecs += [self.named(BEHIND) for _ in range(self.random.randint(1, 3))]
+        if self.chance(0.35 if depth == 0 else 0.25):
+            codecs += [self.named(BEHIND) for _ in range(self.pick((1, 1, 2, 3, 4)))]
         if self.chance(0.06):
             self.random.shuffle(codecs)
         if self.chance(0.06):
@@ -270,7 +280,8 @@ class Run:
         if of_type[0] == "optional":
             return None if self.chance(0.35) else [self.element(of_type[1])]
         if of_type[0] == "variable":
-            return self.random.randbytes(self.few(6))
+            # now and then as long as offsets of two bytes, or of three
+            return self.random.randbytes(self.few(6) if self.chance(0.98) else self.few(400) if self.chance(0.998) else 66000)
         if of_type == model.BOOL and not self.chance(0.1):
             return self.pick((b"\0", b"\1"))
         size = model.size_of(of_type)
@@ -336,6 +347,49 @@ class Run:
             return self.loose_optional(codec, last)
         return model.encode_chain(chain, self.chunk(), shape, of_type, fill)
 
+    def spoilt_stage(self, kind, value):
+        """The value behind a bytes-to-bytes codec, with another checksum or length than it should have, or none."""
+        if kind == "crc32c" and len(value) >= 4:
+            before, checksum = value[:-4], value[-4:]
+            at = self.random.randrange(len(value))
+            return self.pick((
+                before + checksum[::-1], before, value[:-1], before + bytes(4), checksum + before, before + zlib.crc32(before).to_bytes(4, "little"),
+                before + bytes(it ^ 255 for it in checksum), value + b"\0", value[: self.random.randint(0, 4)], before[1:] + checksum,
+                value[:at] + bytes([value[at] ^ 1 << self.random.randrange(8)]) + value[at + 1 :], model.do_behind(([], None, [(kind,)]), value),
+            ))
+        if kind == "sample.length" and len(value) >= 8:
+            length, rest = len(value) - 8, value[8:]
+            return self.pick((model.length_bytes(self.pick((0, length + 1, max(0, length - 1), model.MOST))) + rest, value[: self.random.randint(0, 8)], rest))
+        return self.damaged(value)
+
+    def spoilt_at_depth(self, chain, value):
+        """The value with one part spoilt, at any depth; the lengths and checksums of what stands around that part are right."""
+        codec, stages = chain[1], chain[2]
+        inner = model.undo_behind(chain, value)
+        if stages and self.chance(0.5):
+            at = self.random.randrange(len(stages))
+            part = self.spoilt_stage(stages[at][0], model.do_behind(([], None, stages[: at + 1]), inner))
+            return model.do_behind(([], None, stages[at + 1 :]), part)
+        if codec[0] == "vlen" and len(inner) >= 8 and self.chance(0.7):
+            stored, texts = model.split_vlen(codec, inner)
+            if texts and self.chance(0.5):
+                texts = self.spoilt_at_depth(codec[2], texts)
+            else:
+                stored = self.spoilt_at_depth(codec[1], stored)
+            length = model.length_bytes(len(stored))
+            inner = length + stored + texts if codec[4] == "start" else texts + stored + length
+        elif codec[0] == "optional" and len(inner) >= 16 and self.chance(0.7):
+            masks = int.from_bytes(inner[:8], "little")
+            mask, data = inner[16 : 16 + masks], inner[16 + masks :]
+            if data and self.chance(0.5):
+                data = self.spoilt_at_depth(codec[2], data)
+            else:
+                mask = self.spoilt_at_depth(codec[1], mask)
+            inner = model.length_bytes(len(mask)) + model.length_bytes(len(data)) + mask + data
+        else:
+            inner = self.spoilt_content(codec, inner)
+        return model.do_behind(chain, inner)
+
     def spoilt_content(self, codec, value):
         """The value with another number in a place of its layout."""
         if codec[0] == "packbits" and value:
@@ -385,14 +439,17 @@ class Run:
             value = self.content()
         except (model.Refused, model.TooLarge):
             value = self.random.randbytes(self.few(30))
-        if self.chance(0.35):
-            value = self.damaged(value) if self.chance(0.5) else bytes(self.spoilt_value(value))
+        roll = self.random.random()
+        if roll < 0.12:
+            value = self.damaged(value)
         value = model.do_behind(self.session.chain, value)
-        return self.damaged(value) if self.chance(0.12) else value
+        if roll < 0.12 or roll >= 0.45:
+            return value
+        return bytes(self.spoilt_value(value)) if roll < 0.36 else self.damaged(value)
 
     def spoilt_value(self, value):
         try:
-            return self.spoilt_content(self.session.chain[1], value)
+            return self.spoilt_at_depth(self.session.chain, value)
         except model.Refused:
             return self.damaged(value)
 
@@ -404,7 +461,13 @@ class Run:
             begin = self.pick((0, 0, 1, size - 1, size // 2))
             end = min(size, begin + self.few(3))
         if self.chance(0.03):
-            return self.pick(([end, begin], [begin, size + 1], [size, size], [0, 2**64 - 1], [size, 0], [begin]))
+            return self.pick(([end, begin], [begin, size + 1], [0, 2**64 - 1], [size, 0], [begin]))
+        if self.chance(0.05):
+            # nothing, at the axis' end and behind it
+            at = self.pick((size, size, size + 1, size + 1, size + 2, 2 * size, 2**32, 2**63, 2**64 - 1))
+            return [min(at, model.MOST)] * 2
+        if self.chance(0.1):
+            return [0, size] if size <= 500 else [begin, end]
         return [begin, end]
 
     def indexer(self):
@@ -428,8 +491,8 @@ class Run:
         try:
             many = len(model.places_in(model.read_indexer(at), self.session.shape))
         except (model.Refused, model.TooLarge):
-            many = 1
-        many += self.pick((1, -1)) if self.chance(0.04) else 0
+            many = self.pick((0, 1))
+        many = max(0, many + self.pick((1, -1))) if self.chance(0.04) else many
         data = self.elements([self.element(self.session.type) for _ in range(many)])
         if self.chance(0.07):
             at = self.pick(({"ranges": [[1, 0]] * len(self.session.shape)}, {"indices": [[0]]}, {"indices": [[2**32] * len(self.session.shape)]}, {"ranges": []}, at))

@@ -1,7 +1,9 @@
 #!/usr/bin/env python3
 """The line tool a second time, written from the published formats: slow, element by element, and no code of the crates.
 
-tools/model.py < LINES      answers the lines as zarrs_chain_tool does, with its exit status
+tools/model.py < LINES                 answers the lines as zarrs_chain_tool does, with its exit status
+tools/model.py --transcripts FOLDER    plays the transcripts of a folder: prints each run that they have otherwise, and how
+                                       many runs there are; the status is 1 where one differs
 
 A chunk is a list of elements in row-major order. An element is bytes; of an optional type None, or a list of one element of
 the type inside. A value is bytes. A chain is a list of array-to-array codecs, an array-to-bytes codec, and a list of
@@ -11,6 +13,7 @@ refusals. Memory is taken to be there.
 import itertools
 import json
 import math
+import pathlib
 import sys
 
 MOST = 2**64 - 1
@@ -455,8 +458,9 @@ def components_of(element, of_type):
 
 def turned(element, codec, of_type):
     """The bytes of an element as `bytes` stores them, and back."""
-    parts = components_of(element, of_type)
-    return b"".join(part[::-1] if codec[1] == "big" else part for part in parts)
+    if codec[1] != "big":
+        return element
+    return b"".join(part[::-1] for part in components_of(element, of_type))
 
 
 def bits_of(data):
@@ -629,13 +633,21 @@ def encode_chain(chain, chunk, shape, of_type, fill):
     return do_behind(chain, value)
 
 
+def rest_of_byte(byte):
+    """What division bit by bit leaves of a byte."""
+    for _ in range(8):
+        byte = byte >> 1 ^ 0x82F63B78 * (byte & 1)
+    return byte
+
+
+RESTS = [rest_of_byte(byte) for byte in range(256)]
+
+
 def checksum_of(value):
-    """CRC-32C, bit by bit."""
+    """CRC-32C."""
     rest = 2**32 - 1
     for byte in value:
-        rest ^= byte
-        for _ in range(8):
-            rest = rest >> 1 ^ 0x82F63B78 * (rest & 1)
+        rest = rest >> 8 ^ RESTS[(rest ^ byte) & 255]
     return (rest ^ 2**32 - 1).to_bytes(4, "little")
 
 
@@ -862,7 +874,45 @@ def answers_to(sent):
     return answers, 0
 
 
+# -- Transcripts (docs/TRANSCRIPTS.md) -------------------------------------------------------------------------------
+
+
+def runs_of(text):
+    """The runs of a transcript: what is sent, the answers that have to come, and how the run has to end."""
+    for part in text.split("\n\n"):
+        sent, wanted, end = "", [], 0
+        for line in part.splitlines():
+            if line.startswith(">| "):
+                sent += line[3:]
+            elif line.startswith(">"):
+                sent += line[1:].removeprefix(" ") + "\n"
+            elif line.startswith("="):
+                end = {"= bad header": 2}.get(line, line)
+            elif line and not line.startswith("#"):
+                wanted.append(line)
+        if sent:
+            yield sent, wanted, end
+
+
+def play(folder):
+    """Prints where the transcripts of a folder differ, and how many runs there are: whether there was one, and none differs."""
+    count, differing = 0, 0
+    for path in sorted(pathlib.Path(folder).glob("*.txt")):
+        for sent, *wanted in runs_of(path.read_text()):
+            count += 1
+            came = [*answers_to(sent.encode())]
+            if came != wanted:
+                differing += 1
+                print(f"{path.name}: to the run that begins with {sent.splitlines()[0]} came {came}, and {wanted} is wanted")
+    print(f"{count} runs, {differing} of them differ")
+    return count > 0 and not differing
+
+
 def main():
+    if sys.argv[1:2] == ["--transcripts"] and len(sys.argv) == 3:
+        return 0 if play(sys.argv[2]) else 1
+    if sys.argv[1:]:
+        sys.exit(__doc__)
     answers, status = answers_to(sys.stdin.buffer.read())
     for answer in answers:
         print(answer)

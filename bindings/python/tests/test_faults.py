@@ -7,6 +7,7 @@ import contextlib
 import errno
 import json
 import os
+import shutil
 import subprocess
 import sys
 import threading
@@ -99,16 +100,23 @@ def small_disk(folder, size):
         subprocess.run(["umount", folder], check=True)
 
 
+@pytest.mark.parametrize("is_there", [True, False])
 @pytest.mark.parametrize("data_type, codecs, fill", CODECS)
-def test_a_writer_killed_at_every_point_leaves_the_old_chunk_or_the_new_one(data_type, codecs, fill, tmp_path):
-    """At each call of a function that a write makes, and at each return from one."""
+def test_a_writer_killed_at_every_point_leaves_the_old_chunk_or_the_new_one(data_type, codecs, fill, is_there, tmp_path):
+    """At each call of a function that a write makes, and at each return from one. Each writer finds what the first one
+    did, a chunk or not even a folder, so that all of them make the same calls."""
     array = make_array(tmp_path / "a", (6,), (6,), data_type, codecs, fill)
     of = str if data_type == "string" else int
     old, number, ends = of(fill), 0, []
+    if is_there:
+        array[...] = old = of(1)
     with started(WRITER, tmp_path / "a", stdin=subprocess.PIPE) as writer:
         while not ends or ends[-1] != 0:
             number += 1
             new = number % 100
+            if not is_there:
+                shutil.rmtree(tmp_path / "a/c", ignore_errors=True)
+                old = of(fill)
             writer.stdin.write(f"{number} {new}\n")
             writer.stdin.flush()
             ends.append(int(writer.stdout.readline()))

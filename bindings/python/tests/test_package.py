@@ -17,7 +17,7 @@ from zarrs_codecs import _library
 TOP = Path(__file__).parents[3]
 PACKAGE = TOP / "bindings" / "python"
 HEADER = TOP / "include" / "zarrs_codecs.h"
-NAMES = TOP / "crates" / "zarrs_calls" / "src" / "names.rt"
+NAMES = TOP / "crates" / "zarrs_c_calls" / "src" / "names.rt"
 
 
 def needs(*names):
