@@ -1,21 +1,23 @@
--- The last window of a region with its elements, encoded from those of the region.
-use Rattle.std.proofs.Common.{◌≡◌, ℕ, List, length, Result, Ok, Err, refl, ap, ap₂, ◌∙◌, sym, subst}
+-- The runs of a region where codecs take it with its elements there, encoded from those of the region.
+use Rattle.std.proofs.Common.{◌≡◌, ℕ, List, [], length, Vec, Global, Result, Ok, Err, refl, ap, ap₂, ◌∙◌, sym, subst}
 use Rattle.std.specs.Prelude.{IfOk}
-use Rattle.zarrs_chunk.specs.Answer.{GivesBy}
+use Rattle.zarrs_chunk.specs.Answer.{GivesBy, seen}
 use Rattle.zarrs_chunk.specs.ChunkShape.{product}
 use Rattle.zarrs_chunk.specs.Region.{Region}
+use Rattle.zarrs_chunk.specs.Runs.{EndWithin}
 use Rattle.zarrs_chunk.specs.declared.codec_error.CodecError.{CodecError}
 use Rattle.zarrs_data_type.specs.Element.{Chunk}
 use Rattle.zarrs_data_type.specs.ElementType.{ElementType}
 use Rattle.zarrs_array_bytes.specs.Elements.{elements}
 use Rattle.zarrs_array_bytes.specs.Held.{Held}
+use Rattle.zarrs_array_bytes.specs.Tight.{IsTight, KeepsTight}
 use Rattle.zarrs_array_bytes.specs.Validity.{Holds, validity}
 use Rattle.zarrs_codec.specs.CoordinateMap.{IsCoordinateMap, moved_chunk}
 use Rattle.zarrs_array_to_array.specs.ArrayToArrayCodec.{ArrayMapping, transpose, reshape, squeeze}
 use Rattle.zarrs_array_to_array.proofs.CoordinateMaps.{kept_places, length-moved, moved_twice, same_places_map, composed_map}
 use Rattle.zarrs_array_regions.specs.declared.window.Window.{Window}
 use Rattle.zarrs_array_regions.specs.Parts.{part_encoded}
-use Rattle.zarrs_array_regions.specs.Windows.{IsWindow, window_of, part_map, region_map, encoded_of, IsEncodedWindow}
+use Rattle.zarrs_array_regions.specs.Windows.{window_of, window_places, part_map, region_map, encoded_of, IsEncodedRegion, GivesRegionRuns}
 use Rattle.zarrs_array_regions.proofs.WindowCalls.{WindowStep, WindowStays}
 use Rattle.zarrs_array_to_array.proofs.MappedChunks.{holds_elements}
 use Rattle.zarrs_array_bytes.proofs.UpdatedLemmas.{length-elements}
@@ -28,16 +30,31 @@ part_is_encoded (reshape dims) type sizes region held n = sym (kept_places regio
 part_is_encoded squeeze type sizes region held n = sym (kept_places (part_map squeeze (window_of sizes region)).encoded (elements type (product region.lengths) held) (length-elements type (product region.lengths) held ∙ sym n))
 
 -- where the window stays, so do its elements
-pub encoded_stay : (all : List ArrayMapping) (sizes : List ℕ) (region : Region) (type : ElementType) (window : Window) (held : Held) → WindowStays all sizes region → window ≡ window_of sizes region → validity type (product region.lengths) held ≡ Ok tt → IsEncodedWindow type (window, held) (encoded_of all type (window_of sizes region) held)
-encoded_stay all sizes region type window held s is v = (
-  is ∙ sym s.last_is,
-  subst (Holds type held)
-      (sym (kept_places region.lengths (elements type (product region.lengths) held) (length-elements type (product region.lengths) held)) ∙ sym (ap (λ m. moved_chunk m (elements type (product region.lengths) held)) s.map_is))
-      (holds_elements type (product region.lengths) held v),
-)
+pub encoded_stay : (all : List ArrayMapping) (sizes : List ℕ) (region : Region) (type : ElementType) (held : Held) (r : Result (Vec (ℕ × ℕ) Global × Held) CodecError) → WindowStays all sizes region → GivesRegionRuns [] sizes region (seen (λ answer. answer.0) r) → IfOk r (λ answer. answer.1 ≡ held) → validity type (product region.lengths) held ≡ Ok tt → GivesBy (IsEncodedRegion type) r (Ok (encoded_of all type (window_of sizes region) held))
+encoded_stay all sizes region type held (Ok answer) s places same v = record {
+  is = (
+    same_places_in _ _ places.is ∙ sym (ap window_places s.last_is),
+    subst (λ there. Holds type there (encoded_of all type (window_of sizes region) held).1) (sym same) (subst (Holds type held)
+        (sym (kept_places region.lengths (elements type (product region.lengths) held) (length-elements type (product region.lengths) held)) ∙ sym (ap (λ m. moved_chunk m (elements type (product region.lengths) held)) s.map_is))
+        (holds_elements type (product region.lengths) held v)),
+  );
+  no_fault = refl;
+}
+  where
+    same_places_in : (xs ys : List ℕ) → ◌≡◌ {A = Result (List ℕ) CodecError} (Ok xs) (Ok ys) → ys ≡ xs
+    same_places_in xs ys h = cc
+encoded_stay all sizes region type held (Err e) s places same v = record { is = λ m. absurd (bad _ e (places.is m)); no_fault = places.no_fault }
+  where
+    bad : (v : List ℕ) (e : CodecError) → ◌≡◌ {A = Result (List ℕ) CodecError} (Ok v) (Err e) → ⊥
+    bad v e x = cc
 
-pub map_stays : (all : List ArrayMapping) (sizes : List ℕ) (region : Region) → WindowStays all sizes region → IsCoordinateMap region.lengths (region_map all (window_of sizes region))
-map_stays all sizes region s = subst (IsCoordinateMap region.lengths) (sym s.map_is) (same_places_map region.lengths region.lengths refl (λ p. p))
+pub tight_stays : (type : ElementType) (held : Held) (r : Result (Vec (ℕ × ℕ) Global × Held) CodecError) → IfOk r (λ answer. answer.1 ≡ held) → KeepsTight type held (seen (λ answer. answer.1) r)
+tight_stays type held (Ok answer) same = λ tight. subst (IsTight type) (sym same) tight
+tight_stays type held (Err e) same = λ tight. tt
+
+pub map_stays : {T : Type 0} (all : List ArrayMapping) (sizes : List ℕ) (region : Region) (r : Result T CodecError) → WindowStays all sizes region → IfOk r (λ _. IsCoordinateMap region.lengths (region_map all (window_of sizes region)))
+map_stays all sizes region (Ok x) s = subst (IsCoordinateMap region.lengths) (sym s.map_is) (same_places_map region.lengths region.lengths refl (λ p. p))
+map_stays all sizes region (Err e) s = tt
 
 module _ (all codecs : List ArrayMapping) (codec : ArrayMapping) (sizes : List ℕ) (region : Region) (next : Window) (s : WindowStep all codecs codec sizes region next) where
   map_goes : IsCoordinateMap next.region.lengths (region_map codecs next) → IsCoordinateMap region.lengths (region_map all (window_of sizes region))
@@ -76,20 +93,16 @@ module _ (all codecs : List ArrayMapping) (codec : ArrayMapping) (sizes : List �
         pair : Window → Chunk → Window × Chunk
         pair w c = (w, c)
 
-    pub encoded_here : (r : Result (Window × Held) CodecError) → GivesBy (IsEncodedWindow type) r (Ok (encoded_of codecs type next above)) → IfOk r (λ _. IsCoordinateMap next.region.lengths (region_map codecs next)) → GivesBy (IsEncodedWindow type) r (Ok (encoded_of all type (window_of sizes region) held))
-    encoded_here (Ok x) g is = subst (λ (e : Window × Chunk). GivesBy (IsEncodedWindow type) (Ok x) (Ok e)) (encoded_is is) g
+    pub encoded_here : (r : Result (Vec (ℕ × ℕ) Global × Held) CodecError) → GivesBy (IsEncodedRegion type) r (Ok (encoded_of codecs type next above)) → IfOk r (λ _. IsCoordinateMap next.region.lengths (region_map codecs next)) → GivesBy (IsEncodedRegion type) r (Ok (encoded_of all type (window_of sizes region) held))
+    encoded_here (Ok x) g is = subst (λ (e : Window × Chunk). GivesBy (IsEncodedRegion type) (Ok x) (Ok e)) (encoded_is is) g
     encoded_here (Err e) g is = refused e g
       where
         bad : (v : Window × Chunk) (e : CodecError) → ◌≡◌ {A = Result (Window × Chunk) CodecError} (Ok v) (Err e) → ⊥
         bad v e x = cc
 
-        refused : (e : CodecError) → GivesBy {T = Window × Held} (IsEncodedWindow type) (Err e) (Ok (encoded_of codecs type next above)) → GivesBy {T = Window × Held} (IsEncodedWindow type) (Err e) (Ok (encoded_of all type (window_of sizes region) held))
+        refused : (e : CodecError) → GivesBy {T = Vec (ℕ × ℕ) Global × Held} (IsEncodedRegion type) (Err e) (Ok (encoded_of codecs type next above)) → GivesBy {T = Vec (ℕ × ℕ) Global × Held} (IsEncodedRegion type) (Err e) (Ok (encoded_of all type (window_of sizes region) held))
         refused e g = record { is = λ m. absurd (bad (encoded_of codecs type next above) e (g.is m)); no_fault = g.no_fault }
 
--- ---- answers of calls
-
-pub window_is : (x y : Window) → ◌≡◌ {A = Result Window CodecError} (Ok x) (Ok y) → y ≡ x
-window_is x y e = cc
-
-pub inside_here : (r : Result (Window × Held) CodecError) (count other : ℕ) → count ≡ other → IfOk r (λ answer. IsWindow count answer.0) → IfOk r (λ answer. IsWindow other answer.0)
-inside_here r count other e h = subst (λ n. IfOk r (λ answer. IsWindow n answer.0)) e h
+-- runs that end within chunks of as many elements
+pub ends_here : (r : Result (Vec (ℕ × ℕ) Global × Held) CodecError) (count other : ℕ) → count ≡ other → IfOk r (λ answer. EndWithin count answer.0.items) → IfOk r (λ answer. EndWithin other answer.0.items)
+ends_here r count other e h = subst (λ n. IfOk r (λ answer. EndWithin n answer.0.items)) e h

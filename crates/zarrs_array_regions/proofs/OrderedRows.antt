@@ -1,26 +1,26 @@
 -- Rows of a region, behind fronts that are made axis by axis.
-use Rattle.std.proofs.Common.{◌≡◌, ℕ, zero, suc, ◌+◌, ◌*◌, ◌-◌, ◌<◌, ◌≤◌, ◌^◌, true, List, [], ◌∷◌, ◌++◌, length, get_or, map, take, drop, arith, refl, ap, ◌∙◌, sym, subst}
+use Rattle.std.proofs.Common.{◌≡◌, ◌==◌, Bool, ℕ, zero, suc, ◌+◌, ◌*◌, ◌-◌, ◌<◌, ◌≤◌, ◌^◌, true, List, [], ◌∷◌, ◌++◌, length, get_or, map, take, drop, arith, refl, ap, ◌∙◌, sym, subst}
 use Rattle.std.specs.Prelude.{min}
 use Rattle.std.specs.List.{All, flat_map, range_with_len}
-use Rattle.std.proofs.lemmas.List.{append-nil, map-append, append_assoc, get_or-map, get_or_default, length-take, drop_all, take_more, take_rest, take-map, drop-map, take-append-drop}
+use Rattle.std.proofs.lemmas.List.{append-nil, map-append, append_assoc, get_or_default, length-take, drop_all, take_more, take_rest, take-map, drop-map, take-append-drop}
 use Rattle.std.proofs.Math.Nat.{mul-le-mul_right, mul-le-mul_left, mul_assoc}
 use Rattle.std.proofs.lemmas.List.Concat.{flat_map-append}
 use Rattle.zarrs_chunk.specs.ChunkShape.{product}
-use Rattle.zarrs_chunk.specs.Levels.{number_behind, numbers_behind, box_places, rows_behind, IsFitting, AreFronts, FrontsFit, AreWhole, LastIsPartial}
+use Rattle.zarrs_chunk.specs.Levels.{number_behind, numbers_behind, rows_behind, IsFitting, AreFronts, FrontsFit, AreWhole, LastIsPartial}
 use Rattle.zarrs_chunk.specs.Tuples.{box_tuples, is_box_inside}
 use Rattle.zarrs_chunk.proofs.BoxTuples.{numbers_behind-next, numbers_behind-start, numbers_behind-end}
-use Rattle.zarrs_chunk.proofs.Consecutive.{range-append}
 use Rattle.zarrs_chunk.proofs.Fitting.{IsFitting-more, IsFitting-start, room_below, room_next}
 use Rattle.zarrs_chunk.proofs.Inside.{is_box_inside-at, is_box_inside-lengths}
 use Rattle.zarrs_chunk.proofs.Products.{product_positive, product_positive-drop, product_drop}
 use Rattle.zarrs_chunk.proofs.WholeAxes.{positive_whole, spread_rows, rows_before_whole, whole_row_fits, product_drop-le, all_whole, one_filled}
 use Rattle.zarrs_chunk.proofs.Apart.{AreApart-one, rows_apart}
-use Rattle.zarrs_chunk.specs.Runs.{joined_runs, AreFilled, EndWithin, AreApart}
-use Rattle.std.proofs.lemmas.Bool.{and_from, and_parts}
+use Rattle.zarrs_chunk.specs.Runs.{joined_runs, AreFilled, EndWithin}
+use Rattle.std.proofs.lemmas.Bool.{and_from, and_parts, eqb-true}
 use Rattle.std.proofs.lemmas.List.Elements.{All-map, All-tail, All-take, All-push}
 use Rattle.zarrs_array_to_array.specs.Orders.{permuted}
-use Rattle.zarrs_array_to_array.proofs.Orders.{length-permuted}
-use Rattle.zarrs_array_regions.specs.OrderedRuns.{fronts_over, row_at, AreAxes, HasRoom}
+use Rattle.zarrs_array_bytes.proofs.UpdateSteps.{range_more}
+use Rattle.zarrs_array_to_array.proofs.Orders.{length-permuted, permuted_at}
+use Rattle.zarrs_array_regions.specs.OrderedRuns.{fronts_over, row_at, AreAxes, AreBoxRuns, HasRoom}
 use Rattle.zarrs_array_regions.specs.declared.ordered_runs.Row.{Row}
 
 -- the first of some axes and the others
@@ -28,14 +28,16 @@ pub axes_split : (order : List ℕ) (axis : ℕ) → 1 ≤ length order → axis
 axes_split [] axis l e = absurd (omega arith)
 axes_split (first ∷ order) axis l e = ap (λ a. a ∷ order) (sym e)
 
-one_axis : (order : List ℕ) (axis : ℕ) → length order ≡ 1 → axis ≡ get_or order 0 0 → order ≡ axis ∷ []
-one_axis [] axis l e = absurd (omega (arith, l))
-one_axis (first ∷ []) axis l e = ap (λ a. a ∷ []) (sym e)
-one_axis (first ∷ second ∷ order) axis l e = absurd (omega (arith, l))
+one_axis : (order : List ℕ) (axis : ℕ) → 1 ≤ length order → length order < 2 → axis ≡ get_or order 0 0 → order ≡ axis ∷ []
+one_axis [] axis l m e = absurd (omega arith)
+one_axis (first ∷ []) axis l m e = ap (λ a. a ∷ []) (sym e)
+one_axis (first ∷ second ∷ order) axis l m e = absurd (omega arith)
 
--- one number more
-pub range_more : (first count : ℕ) → range_with_len first (count + 1) ≡ range_with_len first count ++ (first + count) ∷ []
-range_more first count = range-append first count 1
+-- with none behind it, an axis is the last one
+pub last_axis : (order rest : List ℕ) (empty : Bool) → rest ≡ drop 1 order → empty ≡ (length rest == 0) → empty ≡ true → length order < 2
+last_axis [] rest empty e is h = omega arith
+last_axis (first ∷ []) rest empty e is h = omega arith
+last_axis (first ∷ second ∷ order) rest empty e is h = absurd (omega (arith, ap length e, eqb-true (length rest) 0 (sym is ∙ h)))
 
 -- a row more
 pub rows_more : (row : Row) (runs : List (ℕ × ℕ)) (first count : ℕ) → (runs ++ map (row_at row) (range_with_len first count)) ++ row_at row (first + count) ∷ [] ≡ runs ++ map (row_at row) (range_with_len first (count + 1))
@@ -69,19 +71,16 @@ fronts_next order sizes starts lengths axis front l e =
     ∙ numbers_behind-next (get_or sizes axis 0) (get_or starts axis 0) (get_or lengths axis 0) (permuted rest sizes) (permuted rest starts) (permuted rest lengths) (front ∷ [])
     ∙ ap (fronts_over rest sizes starts lengths) (append-nil (range_with_len (front * get_or sizes axis 0 + get_or starts axis 0) (get_or lengths axis 0)))
 
-pub fronts_last : (order sizes starts lengths : List ℕ) (axis front : ℕ) → length order ≡ 1 → axis ≡ get_or order 0 0
+pub fronts_last : (order sizes starts lengths : List ℕ) (axis front : ℕ) → 1 ≤ length order → length order < 2 → axis ≡ get_or order 0 0
     → fronts_over order sizes starts lengths (front ∷ []) ≡ range_with_len (front * get_or sizes axis 0 + get_or starts axis 0) (get_or lengths axis 0)
-fronts_last order sizes starts lengths axis front l e =
+fronts_last order sizes starts lengths axis front l m e =
     let row = range_with_len (front * get_or sizes axis 0 + get_or starts axis 0) (get_or lengths axis 0) in
-    ap (λ axes. fronts_over axes sizes starts lengths (front ∷ [])) (one_axis order axis l e)
+    ap (λ axes. fronts_over axes sizes starts lengths (front ∷ [])) (one_axis order axis l m e)
     ∙ numbers_behind-next (get_or sizes axis 0) (get_or starts axis 0) (get_or lengths axis 0) [] [] [] (front ∷ [])
     ∙ ap (fronts_over [] sizes starts lengths) (append-nil row)
     ∙ numbers_behind-end [] [] [] row 0 (omega arith) (omega arith)
 
 -- ---- room for them
-
-pub permuted_at : (order xs : List ℕ) (k : ℕ) → k < length order → get_or (permuted order xs) k 0 ≡ get_or xs (get_or order k 0) 0
-permuted_at order xs k l = get_or-map (λ axis. get_or xs axis 0) order k 0 0 l
 
 pub permuted_positive : (order sizes : List ℕ) → All (λ axis. axis < length sizes) order → All (λ size. 0 < size) sizes → All (λ size. 0 < size) (permuted order sizes)
 permuted_positive order sizes below positive = All-map (λ size. 0 < size) (λ axis. get_or sizes axis 0) order (λ k d l. positive (get_or order k d) 0 (below k d l))
@@ -147,7 +146,7 @@ module _ (order sizes starts lengths : List ℕ) (front : ℕ) (row : Row) (axis
     step = room.step;
   }
 
-  pub last_room : length order ≡ 1 → (front * get_or sizes axis 0 + get_or starts axis 0 + get_or lengths axis 0) * row.step < 2 ^ 64
+  pub last_room : length order < 2 → (front * get_or sizes axis 0 + get_or starts axis 0 + get_or lengths axis 0) * row.step < 2 ^ 64
   last_room one =
       let none : product (permuted (drop 1 order) sizes) ≡ 1 = ap (λ (xs : List ℕ). product (permuted xs sizes)) (drop_all 1 order (omega (arith, one))) in
       last_fits front (get_or sizes axis 0) (get_or starts axis 0) (get_or lengths axis 0) row.step step.within
@@ -254,14 +253,7 @@ rows_are step first len size start whole (front ∷ fronts) e f =
     distribute : (front size start whole : ℕ) → front * (size * whole) + start * whole ≡ (front * size + start) * whole
     distribute front size start whole = omega arith
 
--- what is known of the runs of a box
-pub record AreBoxRuns (sizes starts lengths : List ℕ) (runs : List (ℕ × ℕ)) : Type 0 where
-  pub places : joined_runs runs ≡ box_places sizes starts lengths
-  pub filled : AreFilled runs
-  pub below : EndWithin (product sizes) runs
-  pub apart : AreApart runs
-
-module _ (order sizes starts lengths : List ℕ) (axes : AreAxes order sizes starts lengths) (filled : All (λ len. 0 < len) lengths) (outer : ℕ) (some : 0 < outer) (fits : outer ≤ length order)
+module _ (order sizes starts lengths : List ℕ) (axes : AreAxes order sizes starts lengths) (filled : All (λ len. 0 < len) lengths) (outer : ℕ) (other : outer ≡ 0 → ⊥) (fits : outer ≤ length order)
     (whole : AreWhole outer (length order) (permuted order sizes) (permuted order starts) (permuted order lengths)) (partial : LastIsPartial outer (permuted order sizes) (permuted order lengths)) where
   abbrev pub S : List ℕ
   S = permuted order sizes
@@ -280,6 +272,9 @@ module _ (order sizes starts lengths : List ℕ) (axes : AreAxes order sizes sta
 
   abbrev pub rest : ℕ
   rest = product (drop outer S)
+
+  some : 0 < outer
+  some = omega arith
 
   count : length S ≡ length order
   count = length-permuted order sizes
@@ -305,8 +300,9 @@ module _ (order sizes starts lengths : List ℕ) (axes : AreAxes order sizes sta
   step_is : get_or S last 0 * rest ≡ product (drop last S)
   step_is = let one : last + 1 ≡ outer = omega arith in ap (λ n. get_or S last 0 * product (drop n S)) (sym one) ∙ sym (product_drop S last (omega (arith, count)))
 
-  pub rest_fits : rest ≤ product S
-  rest_fits = product_drop-le S outer S_positive
+  -- the axes behind have no more elements than all
+  pub rest_few : (n : ℕ) → n ≡ product (permuted (take (length order - outer) (drop outer order)) sizes) → product S < 2 ^ 64 → n < 2 ^ 64
+  rest_few n e small = omega (arith, rest_is n e, product_drop-le S outer S_positive, small)
 
   pub step_fits : get_or sizes axis 0 * rest ≤ product S
   step_fits = subst (λ n. n * rest ≤ product S) size_is (omega (arith, step_is, product_drop-le S last S_positive))

@@ -1,27 +1,27 @@
 -- The runs of a region that one transposition takes as a region.
 use Rattle.std.proofs.Common.{◌≡◌, ◌<◌, ◌^◌, ℕ, true, List, [], ◌∷◌, length, Result, Ok, Vec, Global, arith, refl, ap, ◌∙◌, sym, subst}
-use Rattle.std.specs.Prelude.{is_ok, slice_index}
+use Rattle.std.specs.Prelude.{is_ok, slice_index, IfOk}
 use Rattle.std.proofs.lemmas.List.{get_or_default}
 use Rattle.std.specs.List.{All}
-use Rattle.zarrs_chunk.specs.Answer.{GivesBy}
+use Rattle.zarrs_chunk.specs.Answer.{Gives}
 use Rattle.zarrs_chunk.specs.ChunkShape.{product}
 use Rattle.zarrs_chunk.specs.Region.{Region}
-use Rattle.zarrs_chunk.specs.Runs.{places_in}
+use Rattle.zarrs_chunk.specs.Runs.{places_in, EndWithin}
 use Rattle.zarrs_chunk.specs.declared.codec_error.CodecError.{CodecError}
 use Rattle.zarrs_chunk.proofs.Inside.{is_box_inside-lengths}
 use Rattle.zarrs_chunk.proofs.Rising.{Rises-box, Rises-room}
 use Rattle.zarrs_data_type.specs.ElementType.{ElementType}
 use Rattle.zarrs_array_bytes.specs.Held.{Held}
-use Rattle.zarrs_array_bytes.specs.Validity.{Holds}
 use Rattle.zarrs_metadata.specs.Orders.{is_order}
 use Rattle.zarrs_metadata.proofs.Orders.{order_parts}
 use Rattle.zarrs_array_to_array.specs.ArrayToArrayCodec.{ArrayMapping, transpose, coordinates}
 use Rattle.zarrs_array_to_array.specs.Orders.{permuted}
 use Rattle.zarrs_array_to_array.proofs.Orders.{permuted_product}
+use Rattle.zarrs_array_regions.specs.declared.window.Window.{Window}
 use Rattle.zarrs_array_regions.specs.OrderedRuns.{AreAxes, ordered_places}
-use Rattle.zarrs_array_regions.specs.Parts.{FitsRegion, part_encoded}
-use Rattle.zarrs_array_regions.specs.Windows.{TakesRegion, IsEncodedRegion, window_of, window_places, last_window, encoded_of}
-use Rattle.zarrs_array_regions.proofs.WindowCalls.{first_taken, order_axes}
+use Rattle.zarrs_array_regions.specs.Parts.{FitsRegion, EncodesPart}
+use Rattle.zarrs_array_regions.specs.Windows.{TakesRegion, GivesRegionRuns, TransposesRegion, window_places}
+use Rattle.zarrs_array_regions.proofs.WindowCalls.{first_taken, order_axes, WindowStep, WindowStays}
 use Rattle.zarrs_array_regions.proofs.WindowMaps.{permuted_box}
 
 all_below : (order : List ℕ) (n : ℕ) → ((i : ℕ) → i < length order → slice_index order i < n) → All (λ axis. axis < n) order
@@ -60,12 +60,23 @@ module _ (order sizes : List ℕ) (region : Region) (takes : TakesRegion (transp
       let room = Rises-room 0 (product S) (ordered_places axes shape starts lengths) (Rises-box S (permuted axes starts) (permuted axes lengths) there.inside) in
       omega (arith, room, count_there axes shape a s h, takes.counted)
 
--- where the one codec is a transposition, the runs and the elements there are those that it makes
-pub encoded_there : (all : List ArrayMapping) (order sizes : List ℕ) (region : Region) (type : ElementType) (held there : Held) (runs : Vec (ℕ × ℕ) Global) → all ≡ transpose order ∷ []
-    → ◌≡◌ {A = Result (List ℕ) CodecError} (Ok (window_places (last_window (transpose order ∷ []) (window_of sizes region)))) (Ok (places_in runs)) → Holds type there (part_encoded (transpose order) type region held)
-    → GivesBy (IsEncodedRegion type) (Ok (runs, there)) (Ok (encoded_of all type (window_of sizes region) held))
-encoded_there all order sizes region type held there runs e places holds =
-    subst (λ cs. GivesBy (IsEncodedRegion type) (Ok (runs, there)) (Ok (encoded_of cs type (window_of sizes region) held))) (sym e) (record { is = (same _ _ places, holds); no_fault = refl })
+-- runs of the moved region's places and a container of its moved elements are what is asked for
+pub encoded_there : (order sizes : List ℕ) (region : Region) (type : ElementType) (held there : Held) (runs : Vec (ℕ × ℕ) Global) → GivesRegionRuns (transpose order ∷ []) sizes region (Ok runs) → EncodesPart (transpose order) type region held (Ok there) → TransposesRegion order type sizes region held (Ok (runs, there))
+encoded_there order sizes region type held there runs places encoded = record { is = (same _ _ places.is, encoded.is); no_fault = refl }
   where
     same : (xs ys : List ℕ) → ◌≡◌ {A = Result (List ℕ) CodecError} (Ok xs) (Ok ys) → ys ≡ xs
     same xs ys h = cc
+
+-- ---- codecs one after another
+
+-- where the window stays, so do its runs
+pub runs_stay : (all : List ArrayMapping) (sizes : List ℕ) (region : Region) (r : Result (Vec (ℕ × ℕ) Global) CodecError) → WindowStays all sizes region → GivesRegionRuns [] sizes region r → GivesRegionRuns all sizes region r
+runs_stay all sizes region r s g = subst (λ w. Gives places_in r (Ok (window_places w))) (sym s.last_is) g
+
+-- the runs of the next window are the region's
+pub runs_go : (all codecs : List ArrayMapping) (codec : ArrayMapping) (sizes : List ℕ) (region : Region) (next : Window) → WindowStep all codecs codec sizes region next → (r : Result (Vec (ℕ × ℕ) Global) CodecError) → GivesRegionRuns codecs next.sizes next.region r → GivesRegionRuns all sizes region r
+runs_go all codecs codec sizes region next s r g = subst (λ w. Gives places_in r (Ok (window_places w))) (sym s.last_is) g
+
+-- runs that end within chunks of as many elements
+pub inside_here : (r : Result (Vec (ℕ × ℕ) Global) CodecError) (count other : ℕ) → count ≡ other → IfOk r (λ runs. EndWithin count runs.items) → IfOk r (λ runs. EndWithin other runs.items)
+inside_here r count other e h = subst (λ n. IfOk r (λ runs. EndWithin n runs.items)) e h

@@ -1,6 +1,6 @@
 -- What the calls on windows ask for and answer.
 use Rattle.std.proofs.Common.{◌≡◌, ◌==◌, ◌^◌, ◌<◌, ◌+◌, ℕ, suc, true, false, Option, Some, None, List, [], ◌∷◌, length, get_or, map, Result, Ok, Err, ◌≤◌, arith, refl, ap, ◌∙◌, sym, subst, inl, inr}
-use Rattle.std.specs.Prelude.{is_ok, IfOk, IsSome}
+use Rattle.std.specs.Prelude.{is_ok, IsSome}
 use Rattle.std.proofs.lemmas.Bool.{and_from, eq-eqb, eqb-true, lt-ltb, cases_Bool}
 use Rattle.std.proofs.lemmas.List.Elements.{All-tail}
 use Rattle.zarrs_chunk.specs.Answer.{◌>>=◌}
@@ -60,10 +60,13 @@ order_starts order sizes region h inside = order_axes order sizes h ∙ sym (is_
 
 -- ---- the parts of a list of codecs
 
-pub one_mapping : (codecs : List ArrayToArrayCodec) (first : ArrayToArrayCodec) → length codecs ≡ 1 → first ≡ get_or codecs 0 first → map mapping_of codecs ≡ mapping_of first ∷ []
-one_mapping [] first l e = absurd (omega (arith, l))
-one_mapping (x ∷ []) first l e = ap (λ (y : ArrayToArrayCodec). mapping_of y ∷ []) (sym e)
-one_mapping (x ∷ (y ∷ xs)) first l e = absurd (omega (arith, l))
+pub one_mapping : (codecs : List ArrayToArrayCodec) (first : ArrayToArrayCodec) → 1 ≤ length codecs → length codecs < 2 → first ≡ get_or codecs 0 first → map mapping_of codecs ≡ mapping_of first ∷ []
+one_mapping [] first l m e = absurd (omega arith)
+one_mapping (x ∷ []) first l m e = ap (λ (y : ArrayToArrayCodec). mapping_of y ∷ []) (sym e)
+one_mapping (x ∷ (y ∷ xs)) first l m e = absurd (omega arith)
+
+pub some_codecs : (codecs : List ArrayToArrayCodec) → 2 ≤ length codecs → 1 ≤ length codecs
+some_codecs codecs l = omega arith
 
 -- ---- what is taken
 
@@ -187,7 +190,3 @@ pub shape_there : (sizes xs : List ℕ) (r : Option (List ℕ)) → 0 < product 
 shape_there sizes xs r p e is =
     let made : r ≡ Some sizes = is ∙ ap shape_of e ∙ shape_of-positive sizes (factors_positive sizes p) in
     rw made refl
-
--- a window that lies inside chunks of as many elements
-pub inside_there : (r : Result Window CodecError) (count other : ℕ) → count ≡ other → IfOk r (IsWindow count) → IfOk r (IsWindow other)
-inside_there r count other e h = subst (λ n. IfOk r (IsWindow n)) e h

@@ -3,7 +3,7 @@ use Rattle.std.specs.Prelude.{◌≡◌, ℕ, ◌+◌, ◌*◌, ◌<◌, ◌≤�
 use Rattle.std.specs.declared.alloc.Global.{Global}
 use Rattle.zarrs_chunk.specs.ChunkShape.{product}
 use Rattle.zarrs_chunk.specs.Levels.{box_places, numbers_behind, AreWhole, LastIsPartial}
-use Rattle.zarrs_chunk.specs.Runs.{places_in}
+use Rattle.zarrs_chunk.specs.Runs.{joined_runs, AreFilled, EndWithin, AreApart}
 use Rattle.zarrs_chunk.specs.Tuples.{is_box_inside}
 use Rattle.zarrs_array_to_array.specs.Orders.{permuted}
 use Rattle.zarrs_array_regions.specs.declared.ordered_runs.Row.{Row}
@@ -44,9 +44,17 @@ pub record HasRoom (front : ℕ) (order sizes : List ℕ) (row : Row) : Type 0 w
 abbrev pub ordered_places : List ℕ → List ℕ → List ℕ → List ℕ → List ℕ
 ordered_places order sizes starts lengths = box_places (permuted order sizes) (permuted order starts) (permuted order lengths)
 
--- runs of these places are given
+-- runs are those of a box inside these sizes: they have its places, and none is empty, ends behind the last element or starts where the one before it ends
+pub record AreBoxRuns (sizes starts lengths : List ℕ) (runs : List (ℕ × ℕ)) : Type 0 where
+  pub places : joined_runs runs ≡ box_places sizes starts lengths
+  pub filled : AreFilled runs
+  pub below : EndWithin (product sizes) runs
+  pub apart : AreApart runs
+
+-- runs of the region's places are given, in the chunk with its axes in this order
 abbrev pub GivesOrdered : {E : Type 0} → List ℕ → List ℕ → List ℕ → List ℕ → Result (Vec (ℕ × ℕ) Global) E → Type 0
-GivesOrdered order sizes starts lengths result = IfOk result (λ v. places_in v ≡ ordered_places order sizes starts lengths)
+GivesOrdered order sizes starts lengths result =
+    IfOk result (λ v. AreBoxRuns (permuted order sizes) (permuted order starts) (permuted order lengths) v.items)
 
 -- behind the first so many axes of the order the region covers each whole
 abbrev pub IsWholeBehind : ℕ → List ℕ → List ℕ → List ℕ → List ℕ → Type 0

@@ -119,14 +119,6 @@ GivesNextWindow codec window result = Gives (λ next. next) result (Ok (next_win
 abbrev pub GivesThisWindow : ArrayMapping → Window → Result Window CodecError → Type 0
 GivesThisWindow codec window result = Gives Some result (Ok (next_window codec window))
 
--- what is given is the window that the codecs take this one to
-abbrev pub GivesLastWindow : List ArrayMapping → Window → Result Window CodecError → Type 0
-GivesLastWindow codecs window result = Gives (λ last. last) result (Ok (last_window codecs window))
-
--- what the codecs do to the window's elements is a coordinate map
-abbrev pub IsRegionMap : List ArrayMapping → Window → Type 0
-IsRegionMap codecs window = IsCoordinateMap window.region.lengths (region_map codecs window)
-
 -- the elements of the window, decoded from those that a container has for the last one
 abbrev pub decoded_of : List ArrayMapping → ElementType → Window → Held → Chunk
 decoded_of codecs type window held = decoded_elements codecs window (window_elements type window held)
@@ -139,14 +131,6 @@ DecodesWindow codecs type window held result = GivesBy (Holds type) result (Ok (
 abbrev pub encoded_of : List ArrayMapping → ElementType → Window → Held → Window × Chunk
 encoded_of codecs type window held = (last_window codecs window, encoded_elements codecs window (window_elements type window held))
 
--- a window and a container are this window and hold these elements
-abbrev pub IsEncodedWindow : ElementType → Window × Held → Window × Chunk → Type 0
-IsEncodedWindow type answer expected = (answer.0 ≡ expected.0) × Holds type answer.1 expected.1
-
--- what is given is the last window and a container of its elements
-abbrev pub EncodesWindow : List ArrayMapping → ElementType → Window → Held → Result (Window × Held) CodecError → Type 0
-EncodesWindow codecs type window held result = GivesBy (IsEncodedWindow type) result (Ok (encoded_of codecs type window held))
-
 -- what is given are runs of the places of the window that codecs take a region to
 abbrev pub GivesRegionRuns : List ArrayMapping → List ℕ → Region → Result (Vec (ℕ × ℕ) Global) CodecError → Type 0
 GivesRegionRuns codecs sizes region result = Gives places_in result (Ok (window_places (last_window codecs (window_of sizes region))))
@@ -157,24 +141,23 @@ IsEncodedRegion type answer expected = (places_in answer.0 ≡ window_places exp
 
 -- ---- the same of codecs and of a region of a chunk of these sizes
 
--- what is given is the window that the codecs take the region to
-abbrev pub GivesRegionWindow : List ArrayToArrayCodec → List ℕ → Region → Result Window CodecError → Type 0
-GivesRegionWindow codecs sizes region result = GivesLastWindow (map mapping_of codecs) (window_of sizes region) result
-
 -- what is given is a container of the region's elements, from those that a container has for its last window
 abbrev pub GivesDecoded : List ArrayToArrayCodec → ElementType → List ℕ → Region → Held → Result Held CodecError → Type 0
 GivesDecoded codecs type sizes region held result =
     DecodesWindow (map mapping_of codecs) type (window_of sizes region) held result
 
--- what is given is the last window of a window and a container of its elements
-abbrev pub EncodesThrough : List ArrayToArrayCodec → ElementType → Window → Held → Result (Window × Held) CodecError → Type 0
-EncodesThrough codecs type window held result = EncodesWindow (map mapping_of codecs) type window held result
-
--- what is given is the region's last window and a container of its elements
-abbrev pub GivesEncoded : List ArrayToArrayCodec → ElementType → List ℕ → Region → Held → Result (Window × Held) CodecError → Type 0
-GivesEncoded codecs type sizes region held result = EncodesThrough codecs type (window_of sizes region) held result
+-- what the codecs do to the region's elements is a coordinate map
+abbrev pub IsRegionMap : List ArrayToArrayCodec → List ℕ → Region → Type 0
+IsRegionMap codecs sizes region = IsCoordinateMap region.lengths (region_map (map mapping_of codecs) (window_of sizes region))
 
 -- what is given are runs of the places of the region's last window, and a container of its elements
+abbrev pub EncodesMapped : List ArrayMapping → ElementType → List ℕ → Region → Held → Result (Vec (ℕ × ℕ) Global × Held) CodecError → Type 0
+EncodesMapped codecs type sizes region held result =
+    GivesBy (IsEncodedRegion type) result (Ok (encoded_of codecs type (window_of sizes region) held))
+
+-- the same, of codecs and of a transposition alone
 abbrev pub EncodesRegion : List ArrayToArrayCodec → ElementType → List ℕ → Region → Held → Result (Vec (ℕ × ℕ) Global × Held) CodecError → Type 0
-EncodesRegion codecs type sizes region held result =
-    GivesBy (IsEncodedRegion type) result (Ok (encoded_of (map mapping_of codecs) type (window_of sizes region) held))
+EncodesRegion codecs type sizes region held result = EncodesMapped (map mapping_of codecs) type sizes region held result
+
+abbrev pub TransposesRegion : List ℕ → ElementType → List ℕ → Region → Held → Result (Vec (ℕ × ℕ) Global × Held) CodecError → Type 0
+TransposesRegion order type sizes region held result = EncodesMapped (transpose order ∷ []) type sizes region held result

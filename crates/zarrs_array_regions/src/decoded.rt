@@ -1,5 +1,5 @@
 //! The elements of a region from those of its last window.
-ghost use Rattle.std.specs.Prelude.{◌≡◌, ◌<◌, ◌^◌, Ok, true, map};
+ghost use Rattle.std.specs.Prelude.{◌≡◌, ◌<◌, ◌^◌, Ok, map};
 ghost use Rattle.zarrs_chunk.specs.Answer.{GivesValue};
 ghost use Rattle.zarrs_chunk.specs.ChunkShape.{product};
 ghost use Rattle.zarrs_array_bytes.specs.Tight.{KeepsTight};
@@ -45,11 +45,17 @@ fn decoded_part<'a>(
 {
     match codec {
         ArrayToArrayCodec::Transpose(codec) => {
-            let shape = region_shape(alloc, part)?;
+            // Not `?`: a call to `drop` is one step of the proof, and a drop at the end is many.
+            let shape = match region_shape(alloc, part) {
+                Ok(shape) => shape,
+                Err(error) => {
+                    drop(held);
+                    return Err(error);
+                }
+            };
             codec.decode(alloc, held, &shape, data_type, fill_value)
         }
-        ArrayToArrayCodec::Reshape(_) => Ok(held),
-        ArrayToArrayCodec::Squeeze(_) => Ok(held),
+        ArrayToArrayCodec::Reshape(_) | ArrayToArrayCodec::Squeeze(_) => Ok(held),
     }
 }
 
@@ -79,7 +85,14 @@ pub fn decoded_window<'a>(
         [last] => decoded_part(alloc, last, region, held, data_type, fill_value),
         [first, rest @ ..] => {
             first.is_sound();
-            match next_window(alloc, first, shape, region)? {
+            let next = match next_window(alloc, first, shape, region) {
+                Ok(next) => next,
+                Err(error) => {
+                    drop(held);
+                    return Err(error);
+                }
+            };
+            match next {
                 None => Ok(held),
                 Some(next) => {
                     let held = decoded_window(

@@ -1,17 +1,19 @@
-//! The last window of a region with its elements, from those of the region.
-ghost use Rattle.std.specs.Prelude.{◌≡◌, ◌<◌, ◌^◌, Ok, true, map, IfOk};
+//! The runs of a region where codecs take it with its elements there, from those of the region.
+ghost use Rattle.std.specs.Prelude.{◌≡◌, ◌<◌, ◌^◌, [], Ok, true, map, IfOk};
 ghost use Rattle.zarrs_chunk.specs.Answer.{seen};
 ghost use Rattle.zarrs_chunk.specs.ChunkShape.{product};
+ghost use Rattle.zarrs_chunk.specs.Runs.{AreFilled, EndWithin, AreApart};
+ghost use Rattle.zarrs_chunk.specs.Tuples.{is_box_inside};
 ghost use Rattle.zarrs_array_bytes.specs.Tight.{KeepsTight};
 ghost use Rattle.zarrs_array_bytes.specs.Validity.{validity};
 ghost use Rattle.zarrs_array_to_array.specs.ArrayToArrayCodec.{transpose};
 ghost use Rattle.zarrs_array_to_array.specs.CodecAnswers.{type_taken};
 ghost use Rattle.zarrs_array_to_array.specs.Mapping.{mapping_of};
-ghost use Rattle.zarrs_array_regions.specs.Windows.{IsWindow, TakesRegion, TakeType, IsRegionMap, EncodesThrough, GivesEncoded};
+ghost use Rattle.zarrs_array_regions.specs.Windows.{TakesRegion, TakeType, IsRegionMap, GivesRegionRuns, EncodesRegion};
 ghost use Rattle.zarrs_array_regions.specs.Parts.{FitsRegion, EncodesPart};
 
 use crate::next::next_window;
-use crate::window::Window;
+use crate::window::own_runs;
 use std::alloc::Global;
 use zarrs_array_bytes::ArrayBytes;
 use zarrs_array_to_array::{ArrayToArrayCodec, TransposeCodec, transpose_elements};
@@ -56,74 +58,87 @@ fn encoded_part<'a>(
 {
     match codec {
         ArrayToArrayCodec::Transpose(codec) => {
-            transposed_part(alloc, codec, part, &held, data_type)
+            let encoded = transposed_part(alloc, codec, part, &held, data_type);
+            // A call to `drop` is one step of the proof, and a drop at the end is many.
+            drop(held);
+            encoded
         }
-        ArrayToArrayCodec::Reshape(_) => Ok(held),
-        ArrayToArrayCodec::Squeeze(_) => Ok(held),
+        ArrayToArrayCodec::Reshape(_) | ArrayToArrayCodec::Squeeze(_) => Ok(held),
     }
 }
 
-/// Where the codecs take a window of the chunk's own sizes, with its elements.
-fn encoded_through<'a>(
+/// The runs of a region of a chunk of this shape, and its elements, which stay as they are.
+fn with_own_runs<'a>(
     alloc: Global,
-    codecs: &[ArrayToArrayCodec],
-    window: Window,
+    shape: &ChunkShape,
+    region: &ArraySubset,
     held: ArrayBytes<'a>,
-    data_type: &DataType,
-) -> Result<(Window, ArrayBytes<'a>), CodecError>
-    requires region { TakesRegion (map mapping_of codecs.now) window.sizes window.region }
-    requires takes { TakeType (map mapping_of codecs.now) data_type.now }
-    requires filled { 0 < product window.region.lengths }
-    requires valid { validity data_type.now (product window.region.lengths) held ≡ Ok tt }
-    ensures encoded { EncodesThrough codecs.now data_type.now window held.entry result }
-    ensures tight { KeepsTight data_type.now held.entry (seen (λ answer. answer.1) result) }
-    ensures inside { IfOk result (λ answer. IsWindow (product window.sizes) answer.0) }
-    ensures map { IfOk result (λ _. IsRegionMap (map mapping_of codecs.now) window) }
+) -> Result<(Vec<(u64, u64)>, ArrayBytes<'a>), CodecError>
+    requires inside { is_box_inside shape.now region.now.starts region.now.lengths ≡ true }
+    requires counted { product shape.now < 2 ^ 64 }
+    ensures places { GivesRegionRuns [] shape.now region.now (seen (λ answer. answer.0) result) }
+    ensures held { IfOk result (λ answer. answer.1 ≡ held.entry) }
+    ensures filled { IfOk result (λ answer. AreFilled answer.0.items) }
+    ensures below { IfOk result (λ answer. EndWithin (product shape.now) answer.0.items) }
+    ensures apart { IfOk result (λ answer. AreApart answer.0.items) }
 {
-    match codecs {
-        [] => Ok((window, held)),
-        [first, rest @ ..] => {
-            first.is_sound();
-            match next_window(alloc, first, &window.sizes, &window.region)? {
-                None => Ok((window, held)),
-                Some(next) => {
-                    let held = encoded_part(alloc, first, &window.region, held, data_type)?;
-                    encoded_through(alloc, rest, next, held, data_type)
-                }
-            }
+    match own_runs(alloc, shape, region) {
+        Ok(runs) => Ok((runs, held)),
+        Err(error) => {
+            drop(held);
+            Err(error)
         }
     }
 }
 
-/// The window that the codecs take a region to, of a chunk of this shape, as `last_window` returns
-/// it, and its elements, encoded from those of the region codec by codec, each at the region's lengths
-/// before it. The codecs accept the chunk and its type, the region has elements, and there is one in
-/// `held` for each. Where `held` is fixed by its elements, so is what is made. Errors: `OutOfMemory`.
-pub(crate) fn encoded_window<'a>(
+/// The runs of a region of a chunk of this shape where the codecs take it, and its elements as they
+/// stand there, encoded from those of the region codec by codec, each at the region's lengths before
+/// it. The codecs accept the chunk and its type, the region has elements, and there is one in `held`
+/// for each. Where `held` is fixed by its elements, so is what is made. Errors: `OutOfMemory`.
+pub(crate) fn encoded_runs<'a>(
     alloc: Global,
     codecs: &[ArrayToArrayCodec],
     shape: &ChunkShape,
     region: &ArraySubset,
     held: ArrayBytes<'a>,
     data_type: &DataType,
-) -> Result<(Window, ArrayBytes<'a>), CodecError>
+) -> Result<(Vec<(u64, u64)>, ArrayBytes<'a>), CodecError>
     requires region { TakesRegion (map mapping_of codecs.now) shape.now region.now }
     requires takes { TakeType (map mapping_of codecs.now) data_type.now }
     requires filled { 0 < product region.now.lengths }
     requires valid { validity data_type.now (product region.now.lengths) held ≡ Ok tt }
-    ensures encoded { GivesEncoded codecs.now data_type.now shape.now region.now held.entry result }
+    ensures encoded { EncodesRegion codecs.now data_type.now shape.now region.now held.entry result }
     ensures tight { KeepsTight data_type.now held.entry (seen (λ answer. answer.1) result) }
-    ensures inside { IfOk result (λ answer. IsWindow (product shape.now) answer.0) }
+    ensures filled { IfOk result (λ answer. AreFilled answer.0.items) }
+    ensures below { IfOk result (λ answer. EndWithin (product shape.now) answer.0.items) }
+    ensures apart { IfOk result (λ answer. AreApart answer.0.items) }
+    ensures map { IfOk result (λ _. IsRegionMap codecs.now shape.now region.now) }
 {
     match codecs {
-        [] => Ok((Window::new(shape, region)?, held)),
+        [] => with_own_runs(alloc, shape, region, held),
         [first, rest @ ..] => {
             first.is_sound();
-            match next_window(alloc, first, shape, region)? {
-                None => Ok((Window::new(shape, region)?, held)),
+            let next = match next_window(alloc, first, shape, region) {
+                Ok(next) => next,
+                Err(error) => {
+                    drop(held);
+                    return Err(error);
+                }
+            };
+            match next {
+                None => with_own_runs(alloc, shape, region, held),
                 Some(next) => {
                     let held = encoded_part(alloc, first, region, held, data_type)?;
-                    encoded_through(alloc, rest, next, held, data_type)
+                    let made = encoded_runs(
+                        alloc,
+                        rest,
+                        &next.sizes,
+                        &next.region,
+                        held,
+                        data_type,
+                    );
+                    drop(next);
+                    made
                 }
             }
         }

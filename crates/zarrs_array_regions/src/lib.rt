@@ -16,7 +16,6 @@
 mod decoded;
 mod encoded;
 mod kept;
-mod last;
 pub mod laws;
 mod next;
 mod ordered_runs;

@@ -1,8 +1,7 @@
 //! The runs of a region with the axes of its chunk in another order.
-ghost use Rattle.std.specs.Prelude.{◌≡◌, ◌<◌, ◌≤◌, ◌^◌, ◌+◌, ◌*◌, length, All, IfOk};
+ghost use Rattle.std.specs.Prelude.{◌≡◌, ◌<◌, ◌≤◌, ◌^◌, ◌+◌, ◌*◌, length, All};
 ghost use Rattle.std.specs.List.{range_with_len};
 ghost use Rattle.zarrs_chunk.specs.ChunkShape.{product};
-ghost use Rattle.zarrs_chunk.specs.Runs.{AreFilled, EndWithin, AreApart};
 ghost use Rattle.zarrs_array_to_array.specs.Orders.{permuted};
 ghost use Rattle.zarrs_array_regions.specs.OrderedRuns.{AppendsRows, AreAxes, GivesOrdered, HasRoom, HasRows, IsPartialAt, IsWholeBehind};
 
@@ -10,7 +9,7 @@ use std::alloc::{AllocError, Global};
 
 /// The rows of a region along the last axis that it doesn't cover whole: how many places its front
 /// passes in one step, how many lie before the row, and how many the row has.
-#[derive(Clone, Copy, Debug, Drop)]
+#[derive(Clone, Copy, Drop)]
 pub(crate) struct Row {
     pub(crate) step: u64,
     pub(crate) start: u64,
@@ -88,13 +87,13 @@ fn append_rows(
 {
     match order {
         [] => push_rows(out, front, 1, row),
-        [axis] => {
-            let first = front * sizes[*axis] + starts[*axis];
-            push_rows(out, first, lengths[*axis], row)
-        }
         [axis, rest @ ..] => {
             let first = front * sizes[*axis] + starts[*axis];
-            for index in 0..lengths[*axis] {
+            let count = lengths[*axis];
+            if rest.is_empty() {
+                return push_rows(out, first, count, row);
+            }
+            for index in 0..count {
                 append_rows(out, rest, sizes, starts, lengths, first + index, row)?;
             }
             Ok(())
@@ -116,9 +115,6 @@ pub(crate) fn ordered_runs(
     requires filled { All (λ len. 0 < len) lengths.now }
     requires fits { product (permuted order.now sizes.now) < 2 ^ 64 }
     ensures places { GivesOrdered order.now sizes.now starts.now lengths.now result }
-    ensures filled { IfOk result (λ v. AreFilled v.items) }
-    ensures below { IfOk result (λ v. EndWithin (product (permuted order.now sizes.now)) v.items) }
-    ensures apart { IfOk result (λ v. AreApart v.items) }
 {
     let axes = outer_axes(order, sizes, starts, lengths);
     if axes == 0 {

@@ -7,12 +7,13 @@ ghost use Rattle.zarrs_array_bytes.specs.Tight.{KeepsTight};
 ghost use Rattle.zarrs_array_bytes.specs.Validity.{validity};
 ghost use Rattle.zarrs_array_to_array.specs.ArrayToArrayCodec.{transpose};
 ghost use Rattle.zarrs_array_to_array.specs.Mapping.{mapping_of};
-ghost use Rattle.zarrs_array_regions.specs.Windows.{TakesRegion, TakeType, EncodesRegion, GivesRegionRuns};
+ghost use Rattle.zarrs_array_regions.specs.Windows.{TakesRegion, TakeType, EncodesRegion, TransposesRegion, GivesRegionRuns};
 
-use crate::encoded::{encoded_window, transposed_part};
+use crate::encoded::{encoded_runs, transposed_part};
 use crate::kept::is_filled;
-use crate::last::last_window;
+use crate::next::next_window;
 use crate::ordered_runs::ordered_runs;
+use crate::window::own_runs;
 use std::alloc::Global;
 use zarrs_array_bytes::ArrayBytes;
 use zarrs_array_to_array::{ArrayToArrayCodec, TransposeCodec};
@@ -57,6 +58,56 @@ fn transposed_runs(
     Ok(runs)
 }
 
+/// The runs of a region where the codecs take it: `transpose` permutes it, `squeeze` drops its axes of
+/// size one, and `reshape` and the codecs behind it leave it.
+fn runs_through(
+    alloc: Global,
+    codecs: &[ArrayToArrayCodec],
+    shape: &ChunkShape,
+    region: &ArraySubset,
+) -> Result<Vec<(u64, u64)>, CodecError>
+    requires region { TakesRegion (map mapping_of codecs.now) shape.now region.now }
+    ensures places { GivesRegionRuns (map mapping_of codecs.now) shape.now region.now result }
+    ensures filled { IfOk result (λ runs. AreFilled runs.items) }
+    ensures below { IfOk result (λ runs. EndWithin (product shape.now) runs.items) }
+    ensures count { IfOk result (λ runs. length (places_in runs) < 2 ^ 64) }
+    ensures apart { IfOk result (λ runs. AreApart runs.items) }
+{
+    match codecs {
+        [] => own_runs(alloc, shape, region),
+        [first, rest @ ..] => {
+            first.is_sound();
+            match next_window(alloc, first, shape, region)? {
+                None => own_runs(alloc, shape, region),
+                Some(next) => runs_through(alloc, rest, &next.sizes, &next.region),
+            }
+        }
+    }
+}
+
+/// The runs of a region where transposition takes it, and its elements as they stand there.
+fn transposed_region<'b>(
+    alloc: Global,
+    codec: &TransposeCodec,
+    shape: &ChunkShape,
+    region: &ArraySubset,
+    held: &ArrayBytes<'_>,
+    data_type: &DataType,
+) -> Result<(Vec<(u64, u64)>, ArrayBytes<'b>), CodecError>
+    requires region { TakesRegion (transpose codec.now ∷ []) shape.now region.now }
+    requires filled { 0 < product region.now.lengths }
+    requires valid { validity data_type.now (product region.now.lengths) held.now ≡ Ok tt }
+    ensures encoded { TransposesRegion codec.now data_type.now shape.now region.now held.now result }
+    ensures tight { KeepsTight data_type.now held.now (seen (λ answer. answer.1) result) }
+    ensures filled { IfOk result (λ answer. AreFilled answer.0.items) }
+    ensures below { IfOk result (λ answer. EndWithin (product shape.now) answer.0.items) }
+    ensures apart { IfOk result (λ answer. AreApart answer.0.items) }
+{
+    let runs = transposed_runs(alloc, codec, shape, region)?;
+    let held = transposed_part(alloc, codec, region, held, data_type)?;
+    Ok((runs, held))
+}
+
 /// The places of a region of a chunk of this shape where the codecs take it, in row-major order there,
 /// as runs of a start and a length: none is empty, and none starts where the one before it ends. They
 /// are those of its window: `transpose` permutes it, `squeeze` drops its axes of size one, and
@@ -79,10 +130,7 @@ pub fn region_runs(
 {
     match few_axes(codecs) {
         Some(codec) if is_filled(region) => transposed_runs(alloc, codec, shape, region),
-        _ => {
-            let window = last_window(alloc, codecs, shape, region)?;
-            window.into_runs(alloc)
-        }
+        _ => runs_through(alloc, codecs, shape, region),
     }
 }
 
@@ -110,14 +158,10 @@ pub fn encode_region<'a>(
 {
     match few_axes(codecs) {
         Some(codec) => {
-            let runs = transposed_runs(alloc, codec, shape, region)?;
-            let held = transposed_part(alloc, codec, region, &held, data_type)?;
-            Ok((runs, held))
+            let encoded = transposed_region(alloc, codec, shape, region, &held, data_type);
+            drop(held);
+            encoded
         }
-        None => {
-            let (window, held) = encoded_window(alloc, codecs, shape, region, held, data_type)?;
-            let runs = window.into_runs(alloc)?;
-            Ok((runs, held))
-        }
+        None => encoded_runs(alloc, codecs, shape, region, held, data_type),
     }
 }

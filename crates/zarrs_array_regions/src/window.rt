@@ -1,8 +1,9 @@
 //! Windows.
-ghost use Rattle.std.specs.Prelude.{◌<◌, ◌^◌, Ok, length, IfOk};
-ghost use Rattle.zarrs_chunk.specs.Answer.{Gives, GivesValue};
+ghost use Rattle.std.specs.Prelude.{◌≡◌, ◌<◌, ◌^◌, [], true, length, IfOk};
 ghost use Rattle.zarrs_chunk.specs.ChunkShape.{product};
 ghost use Rattle.zarrs_chunk.specs.Runs.{places_in, AreFilled, EndWithin, AreApart};
+ghost use Rattle.zarrs_chunk.specs.Tuples.{is_box_inside};
+ghost use Rattle.zarrs_array_regions.specs.Windows.{GivesRegionRuns};
 
 use std::alloc::Global;
 use zarrs_chunk::{ArraySubset, ChunkShape, CodecError, Indexer};
@@ -17,32 +18,22 @@ pub struct Window {
     pub region: ArraySubset,
 }
 
-impl Window {
-    ghost use Rattle.zarrs_array_regions.specs.Windows.{IsWindow, window_places, window_of};
-
-    /// The window of a region of a chunk of this shape. Errors: `OutOfMemory`.
-    pub(crate) fn new(shape: &ChunkShape, region: &ArraySubset) -> Result<Window, CodecError>
-        ensures made { GivesValue result (Ok (window_of shape.now region.now)) }
-    {
-        let sizes = shape.clone()?;
-        let region = region.clone()?;
-        Ok(Window { sizes, region })
-    }
-
-    /// The places of the window's elements in row-major order, as runs of a start and a length: none
-    /// is empty, and none starts where the one before it ends. The region lies inside the sizes, of
-    /// which 64 bits count the elements. Errors: `OutOfMemory`.
-    pub(crate) fn into_runs(self, alloc: Global) -> Result<Vec<(u64, u64)>, CodecError>
-        requires inside { IsWindow (product self.sizes) self }
-        requires counted { product self.sizes < 2 ^ 64 }
-        ensures places { Gives places_in result (Ok (window_places self)) }
-        ensures filled { IfOk result (λ runs. AreFilled runs.items) }
-        ensures below { IfOk result (λ runs. EndWithin (product self.sizes) runs.items) }
-        ensures count { IfOk result (λ runs. length (places_in runs) < 2 ^ 64) }
-        ensures apart { IfOk result (λ runs. AreApart runs.items) }
-    {
-        let sizes = self.sizes;
-        let indexer = Indexer::Subset(self.region);
-        indexer.runs(alloc, &sizes)
-    }
+/// The places of the elements of a region of a chunk of this shape, in row-major order, as runs of a
+/// start and a length: none is empty, and none starts where the one before it ends. The region lies
+/// inside, and 64 bits count the chunk's elements. Errors: `OutOfMemory`.
+pub(crate) fn own_runs(
+    alloc: Global,
+    shape: &ChunkShape,
+    region: &ArraySubset,
+) -> Result<Vec<(u64, u64)>, CodecError>
+    requires inside { is_box_inside shape.now region.now.starts region.now.lengths ≡ true }
+    requires counted { product shape.now < 2 ^ 64 }
+    ensures places { GivesRegionRuns [] shape.now region.now result }
+    ensures filled { IfOk result (λ runs. AreFilled runs.items) }
+    ensures below { IfOk result (λ runs. EndWithin (product shape.now) runs.items) }
+    ensures count { IfOk result (λ runs. length (places_in runs) < 2 ^ 64) }
+    ensures apart { IfOk result (λ runs. AreApart runs.items) }
+{
+    let indexer = Indexer::Subset(region.clone()?);
+    indexer.runs(alloc, shape)
 }

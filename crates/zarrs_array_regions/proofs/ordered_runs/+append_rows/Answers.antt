@@ -3,30 +3,30 @@ use Rattle.std.specs.Prelude.{OnOk}
 use Rattle.std.proofs.lemmas.List.{append-nil, take_rest}
 use Rattle.std.specs.List.{range_with_len}
 use Rattle.zarrs_array_regions.specs.OrderedRuns.{row_at, fronts_over}
-use Rattle.zarrs_array_regions.proofs.OrderedRows.{fronts_none, fronts_last, fronts_next, fronts_more, first_room, last_room, rest_axes, rest_room}
+use Rattle.zarrs_array_regions.proofs.OrderedRows.{fronts_none, fronts_last, fronts_next, fronts_more, first_room, last_room, last_axis, rest_axes, rest_room}
 use Rattle.zarrs_array_regions.proofs.ordered_runs.+append_rows.Goals as goal
 
-pub push_rows-requires-in-len1-clause-room : goal.push_rows-requires-in-len1-clause-room
-push_rows-requires-in-len1-clause-room t c =
+pub push_rows-requires-then-is_empty-clause-room : goal.push_rows-requires-then-is_empty-clause-room
+push_rows-requires-then-is_empty-clause-room t c =
     let axis = get_or c.args.order.now 0 0 in
-    last_room c.args.order.now c.args.sizes.now c.args.starts.now c.args.lengths.now c.args.front c.args.row axis (omega arith) refl c.requires.axes c.requires.room (omega arith)
+    last_room c.args.order.now c.args.sizes.now c.args.starts.now c.args.lengths.now c.args.front c.args.row axis c.in-len1-up.len_at_least refl c.requires.axes c.requires.room (last_axis c.args.order.now _ c.is_empty.result (take_rest c.args.order.now 1) c.is_empty.ensures c.if-is_empty.true)
 
-pub overflow_mul-first-in-len1-up : goal.overflow_mul-first-in-len1-up
-overflow_mul-first-in-len1-up t c =
+pub overflow_mul-first : goal.overflow_mul-first
+overflow_mul-first t c =
     let axis = get_or c.args.order.now 0 0 in
-    let room = first_room c.args.order.now c.args.sizes.now c.args.starts.now c.args.lengths.now c.args.front c.args.row axis (omega arith) refl c.requires.axes c.requires.room in
+    let room = first_room c.args.order.now c.args.sizes.now c.args.starts.now c.args.lengths.now c.args.front c.args.row axis c.in-len1-up.len_at_least refl c.requires.axes c.requires.room in
     omega (arith, room)
 
-pub overflow_add-first-in-len1-up : goal.overflow_add-first-in-len1-up
-overflow_add-first-in-len1-up t c =
+pub overflow_add-first : goal.overflow_add-first
+overflow_add-first t c =
     let axis = get_or c.args.order.now 0 0 in
-    let room = first_room c.args.order.now c.args.sizes.now c.args.starts.now c.args.lengths.now c.args.front c.args.row axis (omega arith) refl c.requires.axes c.requires.room in
+    let room = first_room c.args.order.now c.args.sizes.now c.args.starts.now c.args.lengths.now c.args.front c.args.row axis c.in-len1-up.len_at_least refl c.requires.axes c.requires.room in
     omega (arith, room)
 
 pub overflow_add-first-in-loop-index : goal.overflow_add-first-in-loop-index
 overflow_add-first-in-loop-index t c =
     let axis = get_or c.args.order.now 0 0 in
-    let room = first_room c.args.order.now c.args.sizes.now c.args.starts.now c.args.lengths.now c.args.front c.args.row axis (omega arith) refl c.requires.axes c.requires.room in
+    let room = first_room c.args.order.now c.args.sizes.now c.args.starts.now c.args.lengths.now c.args.front c.args.row axis c.in-len1-up.len_at_least refl c.requires.axes c.requires.room in
     omega (arith, room)
 
 pub append_rows-requires : goal.append_rows-requires
@@ -35,8 +35,8 @@ append_rows-requires t c =
     let rest = take_rest c.args.order.now 1 in (
       omega arith,
       (
-        rest_axes c.args.order.now c.args.sizes.now c.args.starts.now c.args.lengths.now c.args.front c.args.row axis (omega arith) refl c.requires.axes c.requires.room _ rest,
-        rest_room c.args.order.now c.args.sizes.now c.args.starts.now c.args.lengths.now c.args.front c.args.row axis (omega arith) refl c.requires.axes c.requires.room _ c.loop-index.index rest (omega arith),
+        rest_axes c.args.order.now c.args.sizes.now c.args.starts.now c.args.lengths.now c.args.front c.args.row axis c.in-len1-up.len_at_least refl c.requires.axes c.requires.room _ rest,
+        rest_room c.args.order.now c.args.sizes.now c.args.starts.now c.args.lengths.now c.args.front c.args.row axis c.in-len1-up.len_at_least refl c.requires.axes c.requires.room _ c.loop-index.index rest (omega arith),
       ),
     )
 
@@ -58,11 +58,11 @@ returns-in-empty t c =
     let runs = c.args.out.now.items in
     record { made = subst (λ (xs : List ℕ). OnOk c.push_rows.result (c.push_rows.new.out.items ≡ runs ++ map (row_at c.args.row) xs)) (sym (fronts_none c.args.order.now c.args.sizes.now c.args.starts.now c.args.lengths.now c.args.front c.in-empty.len_below)) c.push_rows.ensures.appended }
 
-pub returns-in-len1 : goal.returns-in-len1
-returns-in-len1 t c =
+pub returns-then-is_empty : goal.returns-then-is_empty
+returns-then-is_empty t c =
     let runs = c.args.out.now.items in
     let axis = get_or c.args.order.now 0 0 in
-    record { made = subst (λ (xs : List ℕ). OnOk c.push_rows-in-len1.result (c.push_rows-in-len1.new.out.items ≡ runs ++ map (row_at c.args.row) xs)) (sym (fronts_last c.args.order.now c.args.sizes.now c.args.starts.now c.args.lengths.now axis c.args.front (omega arith) refl)) c.push_rows-in-len1.ensures.appended }
+    record { made = subst (λ (xs : List ℕ). OnOk c.push_rows-then-is_empty.result (c.push_rows-then-is_empty.new.out.items ≡ runs ++ map (row_at c.args.row) xs)) (sym (fronts_last c.args.order.now c.args.sizes.now c.args.starts.now c.args.lengths.now axis c.args.front c.in-len1-up.len_at_least (last_axis c.args.order.now _ c.is_empty.result (take_rest c.args.order.now 1) c.is_empty.ensures c.if-is_empty.true) refl)) c.push_rows-then-is_empty.ensures.appended }
 
 pub returns-after-loop-index : goal.returns-after-loop-index
 returns-after-loop-index t c =
@@ -74,5 +74,5 @@ returns-after-loop-index t c =
     record {
       made = c.loop-index.invariant
           ∙ ap (λ (n : ℕ). runs ++ map (row_at c.args.row) (fronts_over rest c.args.sizes.now c.args.starts.now c.args.lengths.now (range_with_len first n))) all
-          ∙ ap (λ (xs : List ℕ). runs ++ map (row_at c.args.row) xs) (sym (fronts_next c.args.order.now c.args.sizes.now c.args.starts.now c.args.lengths.now axis c.args.front (omega arith) refl));
+          ∙ ap (λ (xs : List ℕ). runs ++ map (row_at c.args.row) xs) (sym (fronts_next c.args.order.now c.args.sizes.now c.args.starts.now c.args.lengths.now axis c.args.front c.in-len1-up.len_at_least refl));
     }

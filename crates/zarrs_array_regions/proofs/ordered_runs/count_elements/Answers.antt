@@ -1,8 +1,8 @@
 use Rattle.std.proofs.Common.{◌∙◌, get_or, arith, sym}
 use Rattle.zarrs_chunk.proofs.Products.{product_more, product_more-le}
 use Rattle.zarrs_array_to_array.specs.Orders.{permuted}
-use Rattle.zarrs_array_regions.proofs.OrderedRows.{permuted_at, permuted_positive}
-use Rattle.zarrs_array_to_array.proofs.Orders.{length-permuted}
+use Rattle.zarrs_array_regions.proofs.OrderedRows.{permuted_positive}
+use Rattle.zarrs_array_to_array.proofs.Orders.{length-permuted, permuted_at}
 use Rattle.zarrs_array_regions.proofs.ordered_runs.count_elements.Goals as goal
 
 pub overflow_mul-count : goal.overflow_mul-count

@@ -1,8 +1,7 @@
 use Rattle.std.proofs.Common.{rules, ◌+◌, ◌≤◌, get_or, arith}
 use Rattle.zarrs_chunk.proofs.Inside.{is_box_inside-at}
 use Rattle.zarrs_array_to_array.specs.Orders.{permuted}
-use Rattle.zarrs_array_regions.proofs.OrderedRows.{permuted_at}
-use Rattle.zarrs_array_to_array.proofs.Orders.{length-permuted}
+use Rattle.zarrs_array_to_array.proofs.Orders.{length-permuted, permuted_at}
 use Rattle.zarrs_array_regions.proofs.ordered_runs.outer_axes.Goals as goal
 
 pub loop-index-preserved : goal.loop-index-preserved

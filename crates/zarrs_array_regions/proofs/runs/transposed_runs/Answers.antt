@@ -20,10 +20,10 @@ ordered_runs-requires-clause-fits c =
 pub returns-clause-below : goal.returns-clause-below
 returns-clause-below c =
     let count = count_there c.args.codec.now c.args.shape.now c.args.region.now c.requires.region c.order.result.now c.as_slice.result.now c.order.ensures.value c.as_slice.ensures.value c.order.ensures.order in
-    subst (λ n. EndWithin n c.in_ok-runs.runs.items) count (c.in_ok-runs.ensures {u = tt}).below
+    subst (λ n. EndWithin n c.in_ok-runs.runs.items) count ((c.in_ok-runs.ensures {u = tt}).places.below)
 
 pub returns-clause-count : goal.returns-clause-count
 returns-clause-count c =
     let axes = axes_there c.args.codec.now c.args.shape.now c.args.region.now c.requires.region c.order.result.now c.as_slice.result.now c.start.result.now c.shape.result.now c.order.ensures.value c.as_slice.ensures.value c.start.ensures.value c.shape.ensures.value c.order.ensures.order c.as_slice.ensures.positive in
     let few = places_there c.args.codec.now c.args.shape.now c.args.region.now c.requires.region c.order.result.now c.as_slice.result.now c.start.result.now c.shape.result.now c.order.ensures.value c.as_slice.ensures.value c.order.ensures.order axes in
-    subst (λ n. n < 2 ^ 64) (sym (ap length (c.in_ok-runs.ensures {u = tt}).places)) few
+    subst (λ n. n < 2 ^ 64) (sym (ap length (c.in_ok-runs.ensures {u = tt}).places.places)) few
