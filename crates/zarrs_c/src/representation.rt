@@ -1,5 +1,6 @@
 //! The call `zarrs_representation`.
-ghost use Rattle.zarrs_c_calls.specs.Calls.{TellsRepresented};
+ghost use Rattle.zarrs_c_calls.specs.Calls.{represented};
+ghost use Rattle.zarrs_c_calls.specs.Told.{TellsRepresented};
 
 use std::alloc::Global;
 
@@ -12,7 +13,7 @@ pub extern "C" fn zarrs_representation(
     kind: &mut u32,
     size: &mut u64,
 ) -> u32
-    ensures told { TellsRepresented text.now result kind.old kind.new size.old size.new }
+    ensures told { TellsRepresented (represented text.now) result kind.old kind.new size.old size.new }
 {
     zarrs_c_calls::zarrs_representation(alloc, text, kind, size)
 }

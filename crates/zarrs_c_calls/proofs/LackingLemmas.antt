@@ -22,7 +22,7 @@ use Rattle.zarrs_codec_chain.specs.ChunkRead.{ReadsChunk, are_asked_sure, asks_i
 use Rattle.zarrs_codec_chain.specs.PlannedReads.{ArePlanned}
 use Rattle.zarrs_codec_chain.proofs.PlannedAlike.{planned_is_asked}
 use Rattle.zarrs_c_calls.specs.Fetched.{AsksSurely}
-use Rattle.zarrs_c_calls.specs.LackingByte.{LacksByte, apart_read, have_all, whole_value}
+use Rattle.zarrs_c_calls.specs.LackingByte.{LacksByte, apart_read, whole_value}
 use Rattle.zarrs_c_calls.specs.Reads.{form_read}
 use Rattle.zarrs_c_calls.proofs.CodeLemmas.{fault_wants}
 use Rattle.zarrs_c_calls.proofs.FetchedLemmas.{IsMade}
@@ -110,7 +110,7 @@ lacks_at test n k l e = by (list_all test (range_with_len 0 n)) refl
     by true f = absurd (let p = passes test 0 n k f (omega arith) (omega (arith, l)) in cc)
 
 -- where the first piece isn't the whole value, a byte isn't at hand
-pub not_whole : (len : ℕ) (ps : List PlainPiece) → are_apart len 0 ps ≡ true → whole_value len ps ≡ None → have_all len ps ≡ false
+pub not_whole : (len : ℕ) (ps : List PlainPiece) → are_apart len 0 ps ≡ true → whole_value len ps ≡ None → are_at_hand ps (range_with_len 0 len) ≡ false
 not_whole len [] apart none = lacks_at (is_at_hand []) len 0 (grind (arith, nat_tests)) refl
 not_whole len (p ∷ ps) apart none = by (nat_lt (p.start + length p.bytes) len) refl
   where
@@ -120,7 +120,7 @@ not_whole len (p ∷ ps) apart none = by (nat_lt (p.start + length p.bytes) len)
     rest : are_apart len (p.start + length p.bytes + 1) ps ≡ true
     rest = grind (arith, nat_tests)
 
-    by : (t : Bool) → nat_lt (p.start + length p.bytes) len ≡ t → have_all len (p ∷ ps) ≡ false
+    by : (t : Bool) → nat_lt (p.start + length p.bytes) len ≡ t → are_at_hand (p ∷ ps) (range_with_len 0 len) ≡ false
     by true e =
         let l : p.start + length p.bytes < len = grind (arith, nat_tests) in
         let behind = absent_below len (p.start + length p.bytes + 1) (p.start + length p.bytes) ps rest (omega arith) in

@@ -1,17 +1,19 @@
 -- Plans of reads, made by a coder, joined and returned.
 use Rattle.std.proofs.Common.{◌≡◌, ℕ, true, List, Option, Some, None, Result, Ok, Err, IsOkAnd, Vec, Global, length, inl, inr, refl, sym, subst}
+use Rattle.std.specs.Option.{option_map}
 use Rattle.zarrs_chunk.specs.Answer.{AnswersBy, Excused, memory, seen, ◌>>=◌}
 use Rattle.zarrs_chunk.specs.Selection.{Selection}
 use Rattle.zarrs_chunk.specs.declared.codec_error.CodecError.{CodecError}
 use Rattle.zarrs_codec.specs.ByteSpan.{ByteSpan}
 use Rattle.zarrs_json.specs.KnownBytesCodec.{known_codecs}
 use Rattle.zarrs_chain_meaning.specs.CodecMeaning.{chain_representation}
-use Rattle.zarrs_codec_chain.specs.ChunkRead.{planned_places}
+use Rattle.zarrs_codec_chain.specs.ChunkRead.{IsReadPlan, planned_places}
 use Rattle.zarrs_json.specs.Header.{Header, form_of, Form}
+use Rattle.zarrs_lent_handles.specs.Joined.{Joins}
 use Rattle.zarrs_c_calls.specs.Calls.{header_given}
 use Rattle.zarrs_c_calls.specs.Codes.{cause_code, cause_memory, codec_answer}
-use Rattle.zarrs_c_calls.specs.Plans.{Planned, PlanBuffers, TellsPlan, ToldRanges, places_planned, planned}
-use Rattle.zarrs_c_calls.specs.PlanSeen.{AreNumbersOf, IsPlanAsNumbers, IsPlanOf}
+use Rattle.zarrs_c_calls.specs.Plans.{Planned, PlanBuffers, TellsPlan, ToldRanges, places_planned, planned, range_numbers}
+use Rattle.zarrs_c_calls.specs.PlanSeen.{IsPlanNumbers}
 use Rattle.zarrs_c_calls.specs.Selections.{selection_given}
 use Rattle.zarrs_c_calls.specs.Told.{ToldBytes}
 use Rattle.zarrs_c_calls.specs.declared.cause.Cause.{Cause}
@@ -19,6 +21,10 @@ use Rattle.zarrs_c_calls.proofs.CodeLemmas.{refused}
 use Rattle.zarrs_codec_chain.proofs.MadeCoders.{fits}
 
 -- ---- by a coder that is made for it
+
+-- these ranges are a plan of these places
+abbrev IsPlanOf : Form → Option (Vec ByteSpan Global) → Option (List ℕ) → Type 0
+IsPlanOf form ranges places = IsReadPlan known_codecs form (option_map (λ v. v.items) ranges) places
 
 stops : {A B : Type 0} (r : Result A CodecError) (x : Result B CodecError) (e : CodecError) → seen (λ _. tt {0}) r ≡ Err e → (r >>= λ _. x) ≡ Err e
 stops (Ok a) x e h = absurd (cc)
@@ -42,13 +48,17 @@ plan_made chunk form selection r same made h =
 abbrev pub with_header : Header → Option (List ℕ) → Result Planned Cause
 with_header header places = Ok (header, places)
 
-none_joined : (header : Header) (places : Result (Option (List ℕ)) CodecError) → IsOkAnd places (IsPlanOf (form_of header) None) → IsOkAnd (codec_answer places >>= with_header header) (IsPlanAsNumbers None)
+none_joined : (header : Header) (places : Result (Option (List ℕ)) CodecError) → IsOkAnd places (IsPlanOf (form_of header) None) → IsOkAnd (codec_answer places >>= with_header header) (IsPlanNumbers None)
 none_joined header (Ok None) h = refl
 none_joined header (Ok (Some places)) h = absurd h
 none_joined header (Err e) h = absurd h
 
+-- the numbers are those of the ranges, in order and joined
+abbrev AreNumbersOf : List ByteSpan → Vec ℕ Global → Type 0
+AreNumbersOf ranges numbers = (joined : List ByteSpan) × (numbers.items ≡ range_numbers joined) × Joins ranges joined
+
 some_joined : (header : Header) (places : Result (Option (List ℕ)) CodecError) (ranges : Vec ByteSpan Global) (numbers : Vec ℕ Global) → IsOkAnd places (IsPlanOf (form_of header) (Some ranges)) → AreNumbersOf ranges.items numbers
-    → IsOkAnd (codec_answer places >>= with_header header) (IsPlanAsNumbers (Some numbers))
+    → IsOkAnd (codec_answer places >>= with_header header) (IsPlanNumbers (Some numbers))
 some_joined header (Ok None) ranges numbers h joined = absurd h
 some_joined header (Ok (Some places)) ranges numbers h joined = (joined.0, joined.1, (places, ranges.items, refl, h, joined.2))
 some_joined header (Err e) ranges numbers h joined = absurd h
@@ -61,25 +71,25 @@ module _ (text : List ℕ) (tuples : ℕ) (numbers : List ℕ) (header : Header)
   plan_by = rw (reads, means) refl
 
   -- where none is planned, none is due
-  pub none_due : (ranges : Option (Vec ByteSpan Global)) → IsOkAnd places (IsPlanOf (form_of header) ranges) → ranges ≡ None → IsOkAnd (planned text tuples numbers) (IsPlanAsNumbers None)
+  pub none_due : (ranges : Option (Vec ByteSpan Global)) → IsOkAnd places (IsPlanOf (form_of header) ranges) → ranges ≡ None → IsOkAnd (planned text tuples numbers) (IsPlanNumbers None)
   none_due ranges h is =
       let of_none : IsOkAnd places (IsPlanOf (form_of header) None) = subst (λ (r : Option (Vec ByteSpan Global)). IsOkAnd places (IsPlanOf (form_of header) r)) is h in
-      subst (λ (x : Result Planned Cause). IsOkAnd x (IsPlanAsNumbers None)) (sym plan_by) (none_joined header places of_none)
+      subst (λ (x : Result Planned Cause). IsOkAnd x (IsPlanNumbers None)) (sym plan_by) (none_joined header places of_none)
 
   -- those that are planned are due, joined
   pub some_due : (ranges : Option (Vec ByteSpan Global)) (made : Vec ByteSpan Global) (told : Vec ℕ Global) → IsOkAnd places (IsPlanOf (form_of header) ranges) → ranges ≡ Some made → AreNumbersOf made.items told
-      → IsOkAnd (planned text tuples numbers) (IsPlanAsNumbers (Some told))
+      → IsOkAnd (planned text tuples numbers) (IsPlanNumbers (Some told))
   some_due ranges made told h is joined =
       let of_some : IsOkAnd places (IsPlanOf (form_of header) (Some made)) = subst (λ (r : Option (Vec ByteSpan Global)). IsOkAnd places (IsPlanOf (form_of header) r)) is h in
-      subst (λ (x : Result Planned Cause). IsOkAnd x (IsPlanAsNumbers (Some told))) (sym plan_by) (some_joined header places made told of_some joined)
+      subst (λ (x : Result Planned Cause). IsOkAnd x (IsPlanNumbers (Some told))) (sym plan_by) (some_joined header places made told of_some joined)
 
 -- ---- returned
 
-pub none_told : (expected : Result Planned Cause) (code : ℕ) (old new : PlanBuffers) → IsOkAnd expected (IsPlanAsNumbers None) → ToldRanges None code old new → TellsPlan expected code old new
+pub none_told : (expected : Result Planned Cause) (code : ℕ) (old new : PlanBuffers) → IsOkAnd expected (IsPlanNumbers None) → ToldRanges None code old new → TellsPlan expected code old new
 none_told (Ok plan) code old new h told = inl (plan, None, refl, h, told)
 none_told (Err cause) code old new h told = absurd h
 
-pub some_told : (numbers : Vec ℕ Global) (expected : Result Planned Cause) (code : ℕ) (old new : PlanBuffers) → IsOkAnd expected (IsPlanAsNumbers (Some numbers)) → new.is_planned ≡ true → ToldBytes numbers.items code old.ranges new.ranges new.needed
+pub some_told : (numbers : Vec ℕ Global) (expected : Result Planned Cause) (code : ℕ) (old new : PlanBuffers) → IsOkAnd expected (IsPlanNumbers (Some numbers)) → new.is_planned ≡ true → ToldBytes numbers.items code old.ranges new.ranges new.needed
     → TellsPlan expected code old new
 some_told numbers (Ok plan) code old new h planned told =
     inl (plan, Some h.0, refl, h.2, (planned, subst (λ (v : List ℕ). ToldBytes v code old.ranges new.ranges new.needed) h.1 told))

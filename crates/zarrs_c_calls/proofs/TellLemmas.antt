@@ -5,7 +5,7 @@ use Rattle.zarrs_array_bytes.specs.Held.{Held}
 use Rattle.zarrs_c_calls.specs.Buffers.{Buffers, crossed}
 use Rattle.zarrs_c_calls.specs.Codes.{cause_code, cause_memory}
 use Rattle.zarrs_codec.specs.declared.bytes_representation.BytesRepresentation.{BytesRepresentation}
-use Rattle.zarrs_c_calls.specs.Told.{Elements, HoldsThese, ToldBytes, ToldParts, TellsBytes, TellsElements, TellsRepresentation, kind_of, size_of}
+use Rattle.zarrs_c_calls.specs.Told.{Elements, HoldsThese, ToldBytes, ToldParts, TellsBytes, TellsElements, TellsRepresented, kind_of, size_of}
 use Rattle.zarrs_c_calls.specs.declared.cause.Cause.{Cause}
 use Rattle.zarrs_c_calls.specs.declared.sizes.Sizes.{Sizes}
 use Rattle.zarrs_c_calls.proofs.CodeLemmas.{refused}
@@ -30,11 +30,11 @@ elements_refused cause expected code old needed gives is = inr (rw is (refused c
 
 -- a representation that is due is returned
 pub representation_told : (r : BytesRepresentation) (expected : Result BytesRepresentation Cause) (code kind_old kind_new size_old size_new : ℕ) → expected ≡ Ok r → code ≡ 0 → kind_new ≡ kind_of r → size_new ≡ size_of r
-    → TellsRepresentation expected code kind_old kind_new size_old size_new
+    → TellsRepresented expected code kind_old kind_new size_old size_new
 representation_told r expected code kind_old kind_new size_old size_new is done kind size = inl (r, is, done, kind, size)
 
 -- an error is returned in place of it
-pub representation_refused : (cause : Cause) (expected : Result BytesRepresentation Cause) (code kind size : ℕ) → Excused (cause_memory cause) (expected ≡ Err cause) → code ≡ cause_code cause → TellsRepresentation expected code kind kind size size
+pub representation_refused : (cause : Cause) (expected : Result BytesRepresentation Cause) (code kind size : ℕ) → Excused (cause_memory cause) (expected ≡ Err cause) → code ≡ cause_code cause → TellsRepresented expected code kind kind size size
 representation_refused cause expected code kind size gives is = inr (rw is (refused cause expected gives), refl, refl)
 
 -- ---- parts that have room, or not

@@ -1,5 +1,5 @@
 -- Elements as they cross to C: in three buffers.
-use Rattle.std.specs.Prelude.{ℕ, ◌&&◌, ◌^◌, ◌-◌, nat_le, min, Bool, List, [], ◌++◌, length}
+use Rattle.std.specs.Prelude.{ℕ, ◌&&◌, nat_le, Bool, List, [], ◌++◌, length}
 use Rattle.zarrs_array_bytes.specs.Held.{Held, flen, vlen, masked}
 use Rattle.zarrs_array_bytes.specs.Update.{with_items_at}
 use Rattle.zarrs_c_calls.specs.declared.sizes.Sizes.{Sizes}
@@ -30,14 +30,6 @@ abbrev pub crossed : Held → Buffers
 crossed (flen raw) = buffers [] [] raw.items
 crossed (vlen raw offsets) = buffers [] offsets raw.items
 crossed (masked inner mask) = under_mask mask.items (crossed inner)
-
--- how many there are of each part; of mask bytes 2^64 - 1 where they are more
-abbrev pub sizes_of : Buffers → Sizes
-sizes_of b = record { masks = min (length b.masks) (2 ^ 64 - 1); offsets = length b.offsets; bytes = length b.bytes }
-
--- so many items fit into buffers of so many
-abbrev pub sizes_fit : Sizes → ℕ → ℕ → ℕ → Bool
-sizes_fit sizes masks offsets bytes = nat_le sizes.masks masks && nat_le sizes.offsets offsets && nat_le sizes.bytes bytes
 
 -- the caller's buffers have room for these
 abbrev pub have_room : Buffers → Buffers → Bool

@@ -1,9 +1,6 @@
 -- What is due to a call: its value, or the first error.
 use Rattle.std.specs.Prelude.{ℕ, List, Result, Ok}
-use Rattle.std.specs.declared.alloc.Global.{Global}
-use Rattle.std.specs.declared.borrow.CowSlice.{CowSlice}
-use Rattle.zarrs_chunk.specs.Answer.{◌>>=◌, Answers}
-use Rattle.zarrs_array_bytes.specs.Held.{items_of}
+use Rattle.zarrs_chunk.specs.Answer.{◌>>=◌}
 use Rattle.zarrs_json.specs.KnownBytesCodec.{known_codecs}
 use Rattle.zarrs_codec.specs.declared.bytes_representation.BytesRepresentation.{BytesRepresentation}
 use Rattle.zarrs_chain_meaning.specs.Chain.{held_value}
@@ -11,9 +8,9 @@ use Rattle.zarrs_chain_meaning.specs.CodecMeaning.{chain_chunk, chain_representa
 use Rattle.zarrs_chain.specs.Reencode.{reencoded_value}
 use Rattle.zarrs_json.specs.Header.{Header, line_header, line_codecs}
 use Rattle.zarrs_c_calls.specs.Buffers.{Buffers}
-use Rattle.zarrs_c_calls.specs.Codes.{cause_memory, refusal_answer, codec_answer}
+use Rattle.zarrs_c_calls.specs.Codes.{refusal_answer, codec_answer}
 use Rattle.zarrs_c_calls.specs.Given.{elements_given}
-use Rattle.zarrs_c_calls.specs.Told.{Elements, TellsRepresentation}
+use Rattle.zarrs_c_calls.specs.Told.{Elements}
 use Rattle.zarrs_c_calls.specs.declared.cause.Cause.{Cause}
 use Rattle.zarrs_json.specs.declared.known_maker.KnownMaker.TheVariants.{Shipped}
 
@@ -27,21 +24,12 @@ represented text = do
   header ← header_given text
   codec_answer (chain_representation known_codecs header.chain header.sizes header.data_type header.fill)
 
--- The call returns how many bytes the value has; or it fails, and leaves both numbers as they were.
-abbrev pub TellsRepresented : List ℕ → ℕ → ℕ → ℕ → ℕ → ℕ → Type 0
-TellsRepresented text code kind_old kind_new size_old size_new =
-    TellsRepresentation (represented text) code kind_old kind_new size_old size_new
-
 -- the value that is written for the chunk of these elements
 abbrev pub encoded : List ℕ → Buffers → Result (List ℕ) Cause
 encoded text elements = do
   header ← header_given text
   held ← elements_given header.data_type elements
   codec_answer (held_value known_codecs header.chain header.sizes header.data_type header.fill held)
-
--- this value is answered, or the first cause
-abbrev pub GivesEncoded : List ℕ → Buffers → Result (CowSlice ℕ Global) Cause → Type 0
-GivesEncoded text elements result = Answers cause_memory items_of result (encoded text elements)
 
 -- the chunk that a value stands for
 abbrev pub decoded : List ℕ → List ℕ → Result Elements Cause

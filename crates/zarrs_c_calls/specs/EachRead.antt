@@ -1,13 +1,9 @@
 -- What reads of a list of selections give, before it is returned to C.
 use Rattle.std.specs.Prelude.{◌≡◌, ℕ, nat_le, true, Option, List, [], ◌∷◌, length, take, Vec, Result, is_ok}
 use Rattle.std.proofs.Common.{Global}
-use Rattle.zarrs_chunk.specs.Answer.{◌>>=◌, demand, memory, Answers, AnswersBy}
-use Rattle.zarrs_chunk.specs.Indexer.{selection_of}
+use Rattle.zarrs_chunk.specs.Answer.{◌>>=◌, demand, AnswersBy}
 use Rattle.zarrs_chunk.specs.Selection.{Selection}
-use Rattle.zarrs_chunk.specs.declared.codec_error.CodecError.{CodecError}
-use Rattle.zarrs_chunk.specs.declared.indexer.Indexer.{Indexer}
 use Rattle.zarrs_array_bytes.specs.Held.{Held}
-use Rattle.zarrs_array_bytes.specs.Validity.{Holds}
 use Rattle.zarrs_json.specs.KnownBytesCodec.{known_codecs, known_reads}
 use Rattle.zarrs_json.specs.declared.known_bytes_codec.KnownBytesCodec.{KnownBytesCodec}
 use Rattle.zarrs_chain_meaning.specs.ChunkForm.{ChunkForm}
@@ -20,10 +16,8 @@ use Rattle.zarrs_json.specs.Header.{Header}
 use Rattle.zarrs_json.specs.HeaderRead.{header_seen}
 use Rattle.zarrs_json.specs.declared.header.ChunkHeader.{ChunkHeader}
 use Rattle.zarrs_c_calls.specs.Codes.{cause_memory}
-use Rattle.zarrs_c_calls.specs.ManyReads.{HoldEach, front_read, many_read, selections_read}
-use Rattle.zarrs_c_calls.specs.Reads.{form_read, form_seen}
+use Rattle.zarrs_c_calls.specs.ManyReads.{HoldEach, selections_read}
 use Rattle.zarrs_c_calls.specs.Selections.{selection_given}
-use Rattle.zarrs_c_calls.specs.Told.{HoldsThese}
 use Rattle.zarrs_c_calls.specs.declared.cause.Cause.{Cause}
 use Rattle.zarrs_c_calls.specs.declared.cause.Cause.TheVariants.{Argument}
 use Rattle.zarrs_c_calls.specs.declared.sizes.SelectionSize.{SelectionSize}
@@ -47,23 +41,7 @@ FirstIsGiven header (size ∷ sizes) numbers = is_ok (front_given header size nu
 abbrev pub IsSourced : ChunkForm KnownBytesCodec → Option (List ℕ) → Type 0
 IsSourced form stored = is_ok (source_made known_codecs known_reads form stored) ≡ true
 
--- the elements that an indexer selects of what is stored are returned, or the first error
-abbrev pub ReadsForm : ChunkHeader → Option (List ℕ) → Indexer → Result Held CodecError → Type 0
-ReadsForm form stored indexer result = AnswersBy memory (Holds (header_seen form).data_type) result (form_read (form_seen form) stored (selection_of indexer))
-
--- containers of the elements that are due are answered, or the first cause
-abbrev pub GivesMany : List ℕ → Option (List ℕ) → List SelectionSize → List ℕ → Result (Vec Held Global) Cause → Type 0
-GivesMany text stored sizes numbers result = AnswersBy cause_memory (λ helds answers. HoldEach helds.items answers) result (many_read text stored sizes numbers)
-
--- so of a header that was read
+-- containers of the elements that are due, of the chunk of a header that was read, are answered, or the first cause
 abbrev pub GivesEach : ChunkHeader → Option (List ℕ) → List SelectionSize → List ℕ → Result (Vec Held Global) Cause → Type 0
 GivesEach form stored sizes numbers result =
     AnswersBy cause_memory (λ helds answers. HoldEach helds.items answers) result (selections_read (header_seen form) stored sizes numbers)
-
--- the indexer of such a selection is answered, or the first cause
-abbrev pub SelectsFront : ChunkHeader → SelectionSize → List ℕ → Result Indexer Cause → Type 0
-SelectsFront form size numbers result = Answers cause_memory selection_of result (front_given (header_seen form) size numbers)
-
--- and its elements
-abbrev pub GivesFront : ChunkHeader → Option (List ℕ) → SelectionSize → List ℕ → Result Held Cause → Type 0
-GivesFront form stored size numbers result = AnswersBy cause_memory HoldsThese result (front_read (header_seen form) stored size numbers)

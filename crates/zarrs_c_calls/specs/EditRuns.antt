@@ -1,10 +1,6 @@
 -- What edits of a caller's own value give, before it is returned to C.
 use Rattle.std.specs.Prelude.{◌≡◌, ℕ, suc, true, List, length, Some, IfNone, IfSome, OnErr, Result, Ok, Err}
-use Rattle.zarrs_chunk.specs.Answer.{Answers, Excused, memory, seen}
-use Rattle.zarrs_chunk.specs.Indexer.{selection_of}
-use Rattle.zarrs_chunk.specs.declared.codec_error.CodecError.{CodecError}
-use Rattle.zarrs_chunk.specs.declared.indexer.Indexer.{Indexer}
-use Rattle.zarrs_array_bytes.specs.Held.{Held}
+use Rattle.zarrs_chunk.specs.Answer.{Answers, Excused, seen}
 use Rattle.zarrs_json.specs.KnownBytesCodec.{known_codecs}
 use Rattle.zarrs_chain_meaning.specs.CodecMeaning.{chain_representation}
 use Rattle.zarrs_codec_chain.specs.PartialEncoder.{encoder_handle}
@@ -14,9 +10,8 @@ use Rattle.zarrs_json.specs.declared.header.ChunkHeader.{ChunkHeader}
 use Rattle.zarrs_c_calls.specs.BufferHandle.{buffer_bytes}
 use Rattle.zarrs_c_calls.specs.Buffers.{buffers}
 use Rattle.zarrs_c_calls.specs.Codes.{cause_memory}
-use Rattle.zarrs_c_calls.specs.Edits.{HasEdits, all_are_taken, edited, edits_left, edits_opened}
-use Rattle.zarrs_c_calls.specs.Reads.{form_seen}
-use Rattle.zarrs_c_calls.specs.Writes.{form_written, header_written}
+use Rattle.zarrs_c_calls.specs.Edits.{HasEdits, all_are_taken, edited, edits_left}
+use Rattle.zarrs_c_calls.specs.Writes.{header_written}
 use Rattle.zarrs_c_calls.specs.declared.buffer_handle.BufferHandle.{BufferHandle}
 use Rattle.zarrs_c_calls.specs.declared.cause.Cause.{Cause}
 use Rattle.zarrs_c_calls.specs.declared.edits.Edits.{Edits}
@@ -27,39 +22,29 @@ use Rattle.zarrs_c_calls.specs.declared.part_writes.Edit.{Edit}
 abbrev pub buffer_of : {B : Type 0} {h : _} {w : _} {b : _} → ArrayPartialEncoder BufferHandle B h w b → BufferHandle
 buffer_of encoder = encoder_handle encoder
 
+-- and its bytes
+abbrev pub bytes_of : {B : Type 0} {h : _} {w : _} {b : _} → ArrayPartialEncoder BufferHandle B h w b → List ℕ
+bytes_of encoder = buffer_bytes (buffer_of encoder)
+
 -- the edits take just all numbers and bytes
 abbrev pub AreTaken : Edits → Type 0
 AreTaken edits = all_are_taken edits.sizes.now (length edits.numbers.now) (length edits.bytes.now) ≡ true
-
--- the header whose chunk is edited is answered, or the first cause
-abbrev pub OpensEdits : List ℕ → ℕ → Edits → Result ChunkHeader Cause → Type 0
-OpensEdits text len edits result =
-    Answers cause_memory header_seen result (edits_opened text len edits.sizes.now (length edits.numbers.now) (length edits.bytes.now))
 
 -- the header's chain has a representation of its chunks
 abbrev pub IsRepresented : ChunkHeader → Type 0
 IsRepresented form =
     seen (λ _. tt {0}) (chain_representation known_codecs (header_seen form).chain (header_seen form).sizes (header_seen form).data_type (header_seen form).fill) ≡ Ok tt
 
--- new elements at an indexer leave in a buffer what they leave of its bytes, or the first error is returned, and the bytes stay as they were
-pub record LeavesNew {B : Type 0} {h : _} {w : _} {b : _} (form : ChunkHeader) (before after : ArrayPartialEncoder BufferHandle B h w b) (indexer : Indexer) (new : Held) (result : Result (Unit {0}) CodecError) : Type 0 where
-  pub left : Answers memory (λ _. buffer_bytes (buffer_of after)) result (form_written (form_seen form) (Some (buffer_bytes (buffer_of before))) (selection_of indexer) new)
-  pub kept : OnErr result (buffer_bytes (buffer_of after) ≡ buffer_bytes (buffer_of before))
-
 -- an edit leaves in a buffer what `zarrs_write` leaves of its bytes, or the first error is returned, and the bytes stay as they were
 pub record MakesEdit {B : Type 0} {h : _} {w : _} {b : _} (form : ChunkHeader) (before after : ArrayPartialEncoder BufferHandle B h w b) (edit : Edit) (result : Result (Unit {0}) Cause) : Type 0 where
-  pub made : Answers cause_memory (λ _. buffer_bytes (buffer_of after)) result (header_written (header_seen form) (Some (buffer_bytes (buffer_of before))) edit.tuples edit.numbers.now (buffers edit.masks.now edit.offsets.now edit.bytes.now))
-  pub kept : OnErr result (buffer_bytes (buffer_of after) ≡ buffer_bytes (buffer_of before))
+  pub made : Answers cause_memory (λ _. bytes_of after) result (header_written (header_seen form) (Some (bytes_of before)) edit.tuples edit.numbers.now (buffers edit.masks.now edit.offsets.now edit.bytes.now))
+  pub kept : OnErr result (bytes_of after ≡ bytes_of before)
 
 -- What edits of a value give: the value has the first `done` ones. Where none failed, these are all; else the next one failed for this cause, lack of memory aside.
 pub record RunsEdits (form : ChunkHeader) (before after : List ℕ) (edits : Edits) (outcome : EditsOutcome) : Type 0 where
   pub made : edits_left (header_seen form) edits.sizes.now edits.numbers.now edits.bytes.now before outcome.done ≡ Ok after
   pub all : IfNone outcome.refusal (outcome.done ≡ length edits.sizes.now)
   pub refused : IfSome outcome.refusal (λ cause. Excused (cause_memory cause) (edits_left (header_seen form) edits.sizes.now edits.numbers.now edits.bytes.now before (suc outcome.done) ≡ Err cause))
-
--- so of the buffer that an encoder writes
-abbrev pub EncoderRuns : {B : Type 0} {h : _} {w : _} {b : _} → ChunkHeader → (before after : ArrayPartialEncoder BufferHandle B h w b) → Edits → EditsOutcome → Type 0
-EncoderRuns form before after edits outcome = RunsEdits form (buffer_bytes (buffer_of before)) (buffer_bytes (buffer_of after)) edits outcome
 
 -- the same of the chunk of a header, which may be rejected before any edit is made
 pub record EditsValue (text : List ℕ) (before after : List ℕ) (edits : Edits) (outcome : EditsOutcome) : Type 0 where

@@ -5,8 +5,6 @@ use Rattle.zarrs_chunk.specs.declared.codec_error.CodecError.{CodecError}
 use Rattle.zarrs_json.specs.KnownBytesCodec.{known_codecs}
 use Rattle.zarrs_codec.specs.declared.bytes_representation.BytesRepresentation.{BytesRepresentation}
 use Rattle.zarrs_codec.specs.declared.bytes_representation.BytesRepresentation.TheVariants.{FixedSize, BoundedSize, UnboundedSize}
-use Rattle.zarrs_codec.specs.declared.capabilities.PartialEncoderCapability.{PartialEncoderCapability}
-use Rattle.zarrs_json.specs.declared.known_bytes_codec.KnownBytesCodec.{KnownBytesCodec}
 use Rattle.zarrs_chain_meaning.specs.Chain.{chain_writes}
 use Rattle.zarrs_chain_meaning.specs.CodecMeaning.{chain_representation}
 use Rattle.zarrs_json.specs.Header.{Header}
@@ -26,21 +24,17 @@ all_are_taken [] numbers bytes = numbers == 0 && bytes == 0
 all_are_taken (size ∷ sizes) numbers bytes =
     nat_le size.numbers numbers && (nat_le size.bytes bytes && all_are_taken sizes (numbers - size.numbers) (bytes - size.bytes))
 
--- the bytes-to-bytes codecs that a header names write nothing in part
-abbrev pub known_writes : KnownBytesCodec → PartialEncoderCapability
-known_writes codec = record { partial_encode = false }
-
 -- a value of so many bytes has all bytes of a chunk, of which there are always as many
 abbrev pub has_all_bytes : BytesRepresentation → ℕ → Bool
 has_all_bytes (FixedSize size) len = nat_le size len
 has_all_bytes (BoundedSize size) len = false
 has_all_bytes UnboundedSize len = false
 
--- edits are written where a value of so many bytes stands: all codecs of the chain write a part, and the value has all bytes of the chunk
+-- edits are written where a value of so many bytes stands: all codecs of the chain write a part, which no bytes-to-bytes codec does that a header names, and the value has all bytes of the chunk
 abbrev pub edits_in_place : Header → ℕ → Result Bool CodecError
 edits_in_place header len = do
   representation ← chain_representation known_codecs header.chain header.sizes header.data_type header.fill
-  Ok ((chain_writes known_writes header.chain).partial_encode && has_all_bytes representation len)
+  Ok ((chain_writes (λ _. record { partial_encode = false }) header.chain).partial_encode && has_all_bytes representation len)
 
 -- the header whose chunk is edited in a value of so many bytes, where the edits take just so many numbers and bytes
 abbrev pub edits_opened : List ℕ → ℕ → List EditSize → ℕ → ℕ → Result Header Cause

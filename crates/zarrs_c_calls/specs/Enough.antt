@@ -11,13 +11,9 @@ use Rattle.zarrs_c_calls.specs.Calls.{header_given}
 use Rattle.zarrs_c_calls.specs.Plans.{Planned, AreForPlan, planned}
 use Rattle.zarrs_c_calls.specs.Selections.{selection_given}
 
--- all bytes that a read of the selection plans to ask for are among the pieces
-abbrev pub HavePlanned : Header → Selection → List PlainPiece → Type 0
-HavePlanned header selection pieces = (numbers : List ℕ) × ArePlanned known_codecs (form_of header) selection numbers × (are_at_hand pieces numbers ≡ true)
-
--- Where ranges are returned for a plan, pieces that have all bytes of these ranges have all that are planned.
+-- Where ranges are returned for a plan, pieces that have all bytes of these ranges have all bytes that a read of the selection plans to ask for.
 abbrev pub PlanIsEnough : Type 0
 PlanIsEnough =
     (text : List ℕ) (tuples : ℕ) (numbers : List ℕ) (header : Header) (selection : Selection) (plan : Planned) (ranges : List ByteSpan) (pieces : List PlainPiece)
     → header_given text ≡ Ok header → selection_given (length header.sizes) tuples numbers ≡ Ok selection → planned text tuples numbers ≡ Ok plan → AreForPlan (Some ranges) plan
-    → ((number : ℕ) → have_number ranges number ≡ true → is_at_hand pieces number ≡ true) → HavePlanned header selection pieces
+    → ((number : ℕ) → have_number ranges number ≡ true → is_at_hand pieces number ≡ true) → (asked : List ℕ) × ArePlanned known_codecs (form_of header) selection asked × (are_at_hand pieces asked ≡ true)

@@ -1,18 +1,16 @@
 -- Pieces of a value as they cross: ranges, each a start and an end, and the bytes of all of them, joined.
 use Rattle.std.specs.Prelude.{◌≡◌, ◌⊎◌, ℕ, ◌-◌, ◌&&◌, ◌||◌, nat_le, Bool, true, false, is_ok, List, [], ◌∷◌, length, take, drop, Some, Vec, Result, Ok, Err, IfErr}
 use Rattle.std.specs.declared.alloc.Global.{Global}
-use Rattle.zarrs_chunk.specs.Answer.{◌>>=◌, demand, fault, is_fault, AnswersBy, memory_or_fault}
+use Rattle.zarrs_chunk.specs.Answer.{◌>>=◌, demand, fault, is_fault, AnswersBy}
 use Rattle.zarrs_chunk.specs.Indexer.{selection_of}
 use Rattle.zarrs_chunk.specs.Selection.{Selection, bounds_of}
 use Rattle.zarrs_chunk.specs.declared.codec_error.CodecError.{CodecError}
 use Rattle.zarrs_chunk.specs.declared.indexer.Indexer.{Indexer}
 use Rattle.zarrs_array_bytes.specs.Held.{Held}
-use Rattle.zarrs_array_bytes.specs.Validity.{Holds}
 use Rattle.zarrs_json.specs.KnownBytesCodec.{known_codecs}
 use Rattle.zarrs_codec.specs.StorageState.{StorageState}
 use Rattle.zarrs_json.specs.declared.refusal.Refusal.TheVariants.{Syntax, Making, Codec}
 use Rattle.zarrs_json.specs.Header.{Form, Header, form_of}
-use Rattle.zarrs_json.specs.HeaderRead.{header_seen}
 use Rattle.zarrs_json.specs.declared.header.ChunkHeader.{ChunkHeader}
 use Rattle.zarrs_lent_handles.specs.Pieces.{PlainPiece, HasPieces, are_apart, are_at_hand, pieces_seen}
 use Rattle.zarrs_lent_handles.specs.PiecesHandle.{pieces_state}
@@ -24,7 +22,7 @@ use Rattle.zarrs_c_calls.specs.Buffers.{Room, crossed}
 use Rattle.zarrs_c_calls.specs.Calls.{header_given}
 use Rattle.zarrs_c_calls.specs.Codes.{IsRefusal, cause_memory, codec_answer}
 use Rattle.zarrs_c_calls.specs.LackingByte.{LacksByte, apart_read}
-use Rattle.zarrs_c_calls.specs.Reads.{form_read, form_seen, part_read}
+use Rattle.zarrs_c_calls.specs.Reads.{form_seen, part_read}
 use Rattle.zarrs_c_calls.specs.Selections.{selection_given}
 use Rattle.zarrs_c_calls.specs.Told.{Elements, HoldsThese, ToldParts, TellsElements}
 use Rattle.zarrs_c_calls.specs.declared.cause.Cause.{Cause}
@@ -98,26 +96,16 @@ TellsOrLacks Lacking expected code old new =
     ((elements : Elements) × (held : Held) × (expected ≡ Ok elements) × HoldsThese held elements × ToldParts (crossed held) code old.parts new.parts new.needed)
     ⊎ ((IsRefusal expected code ⊎ ((code ≡ 11) × Lacking)) × (new.parts ≡ old.parts) × (new.needed ≡ old.needed))
 
--- For each value that has these pieces, where all bytes that are planned are among them, the call returns what a read of the value itself returns.
-abbrev pub TellsAlike : List ℕ → ℕ → List ℕ → List ℕ → ℕ → List ℕ → ℕ → Room → Room → Type 0
-TellsAlike text len ranges fetched tuples numbers code old new =
-    (value : List ℕ) → HasPlannedPieces text len ranges fetched tuples numbers value → TellsElements (part_read text (Some value) tuples numbers) code old new
-
 -- what a read of pieces returns: what is due of the value with zeros elsewhere, or a byte is lacking; and for each value that has these pieces, where they are enough, what a read of that value returns
 pub record TellsPieces (text : List ℕ) (len : ℕ) (ranges fetched : List ℕ) (tuples : ℕ) (numbers : List ℕ) (code : ℕ) (old new : Room) : Type 0 where
   pub told : TellsOrLacks (Lacks text len ranges fetched tuples numbers) (pieces_read text len ranges fetched tuples numbers) code old new
-  pub alike : TellsAlike text len ranges fetched tuples numbers code old new
+  pub alike : (value : List ℕ) → HasPlannedPieces text len ranges fetched tuples numbers value → TellsElements (part_read text (Some value) tuples numbers) code old new
 
 -- ---- before it is returned
 
 -- the pieces of a vector
 abbrev pub pieces_in : Vec Piece Global → List PlainPiece
 pieces_in pieces = pieces_seen pieces.items
-
--- a read over pieces answers the elements that are due of the value with zeros elsewhere; memory may be wanting, and a byte not at hand
-abbrev pub GivesPiecesRead : ChunkHeader → PiecesHandle → Indexer → Result Held CodecError → Type 0
-GivesPiecesRead form handle indexer result =
-    AnswersBy memory_or_fault (Holds (header_seen form).data_type) result (form_read (form_seen form) (pieces_state handle).value (selection_of indexer))
 
 -- where a read asks for a part of the value alone, no byte is lacking if the selection has an error, or if all bytes are at hand that it asks for
 pub record AsksSurely (form : Form) (state : StorageState) (selection : Selection) (failed : Bool) : Type 0 where
@@ -127,21 +115,6 @@ pub record AsksSurely (form : Form) (state : StorageState) (selection : Selectio
 abbrev pub ReadsSurelyInPart : ChunkHeader → PiecesHandle → Indexer → Result Held CodecError → Type 0
 ReadsSurelyInPart form handle indexer result =
     asks_in_part (form_seen form).chain.bytes_to_bytes (form_seen form).chain.array_to_bytes ≡ true → AsksSurely (form_seen form) (pieces_state handle) (selection_of indexer) (is_fault result)
-
--- the same of pieces that are given, where they stand apart
-abbrev pub GivesApartRead : ChunkHeader → ℕ → Vec Piece Global → Indexer → Result Held CodecError → Type 0
-GivesApartRead form len pieces indexer result =
-    AnswersBy memory_or_fault (Holds (header_seen form).data_type) result (apart_read (form_seen form) len (pieces_in pieces) (selection_of indexer))
-
--- no failure comes but where a byte is lacking
-abbrev pub FailsWhereLacking : ChunkHeader → ℕ → Vec Piece Global → Indexer → Result Held CodecError → Type 0
-FailsWhereLacking form len pieces indexer result =
-    is_fault result ≡ true → LacksByte (form_seen form) len (pieces_in pieces) (selection_of indexer)
-
--- the elements that are due to a read of what was fetched are answered
-abbrev pub GivesFetchedRead : List ℕ → Fetched → ℕ → List ℕ → Result Held Cause → Type 0
-GivesFetchedRead text fetched tuples numbers result =
-    AnswersBy memory_or_lack HoldsThese result (pieces_read text fetched.len fetched.ranges.now fetched.bytes.now tuples numbers)
 
 -- of each value that has the fetched pieces, where all bytes that are planned are among them, the answer is that of a read of the value
 abbrev pub ReadsAlike : List ℕ → Fetched → ℕ → List ℕ → Result Held Cause → Type 0

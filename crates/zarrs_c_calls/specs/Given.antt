@@ -1,12 +1,12 @@
 -- The container of elements that a caller gives.
 use Rattle.std.specs.Prelude.{ℕ, ◌==◌, ◌/◌, ◌%◌, ◌^◌, ◌-◌, nat_le, min, if◌then◌else◌, List, length, take, drop, Option, Some, None, ok_or, Result, Ok}
-use Rattle.zarrs_chunk.specs.Answer.{◌>>=◌, demand, AnswersValue}
+use Rattle.zarrs_chunk.specs.Answer.{◌>>=◌, demand}
 use Rattle.zarrs_data_type.specs.ElementType.{ElementType, fixed, text, bytes, optional, optional_levels}
 use Rattle.zarrs_array_bytes.specs.Held.{Held, flen}
 use Rattle.zarrs_array_bytes.specs.Offsets.{offsets_of}
 use Rattle.zarrs_array_bytes.specs.Parts.{with_offsets, with_mask}
 use Rattle.zarrs_c_calls.specs.Buffers.{Buffers}
-use Rattle.zarrs_c_calls.specs.Codes.{cause_memory, codec_answer}
+use Rattle.zarrs_c_calls.specs.Codes.{codec_answer}
 use Rattle.zarrs_c_calls.specs.declared.cause.Cause.{Cause}
 use Rattle.zarrs_c_calls.specs.declared.cause.Cause.TheVariants.{Argument}
 use Rattle.zarrs_chain_meaning.specs.vlen.VlenSteps.{lent_bytes}
@@ -41,11 +41,3 @@ abbrev pub elements_given : ElementType → Buffers → Result Held Cause
 elements_given type b = do
   each ← ok_or (mask_length (level_count type) (length b.masks)) Argument
   given_under type each b.masks b.offsets b.bytes
-
--- the container is answered, or the first cause
-abbrev pub GivesHeld : ElementType → Buffers → Result Held Cause → Type 0
-GivesHeld type b result = AnswersValue cause_memory result (elements_given type b)
-
--- so of one under masks of so many bytes each
-abbrev pub GivesHeldUnder : ElementType → ℕ → List ℕ → List ℕ → List ℕ → Result Held Cause → Type 0
-GivesHeldUnder type each masks offsets items result = AnswersValue cause_memory result (given_under type each masks offsets items)

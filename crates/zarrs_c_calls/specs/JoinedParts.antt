@@ -1,5 +1,5 @@
 -- Several containers as they cross to C: the parts of each behind those of the one before.
-use Rattle.std.specs.Prelude.{◌≡◌, ℕ, ◌+◌, ◌≤◌, ◌^◌, ◌-◌, min, if◌then◌else◌, List, [], ◌∷◌, ◌++◌, length}
+use Rattle.std.specs.Prelude.{◌≡◌, ℕ, ◌+◌, ◌^◌, ◌-◌, min, if◌then◌else◌, List, [], ◌∷◌, ◌++◌, length}
 use Rattle.zarrs_array_bytes.specs.Held.{Held}
 use Rattle.zarrs_c_calls.specs.Buffers.{Buffers, buffers, crossed, have_room, with_fronts}
 use Rattle.zarrs_c_calls.specs.declared.sizes.Sizes.{Sizes}
@@ -13,20 +13,6 @@ joined_parts (held ∷ more) =
 -- how many there are of each part; 2^64 - 1 where they are more
 abbrev pub joined_sizes : Buffers → Sizes
 joined_sizes b = record { masks = min (length b.masks) (2 ^ 64 - 1); offsets = min (length b.offsets) (2 ^ 64 - 1); bytes = min (length b.bytes) (2 ^ 64 - 1) }
-
--- so many items, and those that a container crosses as more
-abbrev pub with_crossed : Sizes → Held → Sizes
-with_crossed sizes held = record {
-  masks = min (sizes.masks + length (crossed held).masks) (2 ^ 64 - 1);
-  offsets = min (sizes.offsets + length (crossed held).offsets) (2 ^ 64 - 1);
-  bytes = min (sizes.bytes + length (crossed held).bytes) (2 ^ 64 - 1);
-}
-
--- the caller's buffers have room for these
-pub record HaveRoom (old parts : Buffers) : Type 0 where
-  pub masks : length parts.masks ≤ length old.masks
-  pub offsets : length parts.offsets ≤ length old.offsets
-  pub bytes : length parts.bytes ≤ length old.bytes
 
 -- The call returns containers: their parts are at the front of the buffers, joined, and the code is 0; or a buffer is too short and all stay as they were, and the code is 1. The number of items of each part is returned in either case.
 pub record ToldJoined (parts : Buffers) (code : ℕ) (old new : Buffers) (needed : Sizes) : Type 0 where

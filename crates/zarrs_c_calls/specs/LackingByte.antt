@@ -1,5 +1,5 @@
 -- Reads of a value of which pieces are at hand: which bytes they ask for, and where one is lacking.
-use Rattle.std.specs.Prelude.{◌≡◌, ℕ, ◌==◌, ◌&&◌, Bool, true, false, is_ok, if◌then◌else◌, Option, Some, None, List, [], ◌∷◌, length, Result}
+use Rattle.std.specs.Prelude.{◌≡◌, ℕ, ◌==◌, ◌&&◌, true, false, is_ok, if◌then◌else◌, Option, Some, None, List, [], ◌∷◌, length, Result}
 use Rattle.std.specs.List.{range_with_len}
 use Rattle.zarrs_chunk.specs.Answer.{◌>>=◌, demand}
 use Rattle.zarrs_chunk.specs.Selection.{Selection, bounds_of}
@@ -18,10 +18,6 @@ apart_read form len pieces selection = do
   _ ← demand (are_apart len 0 pieces) InvalidByteRange
   form_read form (Some (value_with len pieces)) selection
 
--- all bytes of a value of so many are at hand
-abbrev pub have_all : ℕ → List PlainPiece → Bool
-have_all len pieces = are_at_hand pieces (range_with_len 0 len)
-
 -- the value, where the first of pieces that stand apart has all of its bytes
 abbrev pub whole_value : ℕ → List PlainPiece → Option (List ℕ)
 whole_value len [] = if len == 0 then Some [] else None
@@ -36,5 +32,5 @@ pub record LacksAsked (form : Form) (len : ℕ) (pieces : List PlainPiece) (sele
 -- A byte is lacking: the pieces stand apart, and not all bytes of the value are at hand; where the read asks for a part of the value alone, not all bytes are that it asks for.
 pub record LacksByte (form : Form) (len : ℕ) (pieces : List PlainPiece) (selection : Selection) : Type 0 where
   pub stand_apart : are_apart len 0 pieces ≡ true
-  pub not_all : have_all len pieces ≡ false
+  pub not_all : are_at_hand pieces (range_with_len 0 len) ≡ false
   pub in_part : asks_in_part form.chain.bytes_to_bytes form.chain.array_to_bytes ≡ true → LacksAsked form len pieces selection

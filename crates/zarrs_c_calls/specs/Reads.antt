@@ -2,25 +2,23 @@
 use Rattle.std.specs.Prelude.{ℕ, Bool, if◌then◌else◌, List, length, Option, Some, None, Result, Ok}
 use Rattle.std.specs.Option.{option_map}
 use Rattle.std.proofs.Common.{Bor}
-use Rattle.zarrs_chunk.specs.Answer.{◌>>=◌, AnswersBy, memory}
-use Rattle.zarrs_chunk.specs.Indexer.{selection_of}
+use Rattle.zarrs_chunk.specs.Answer.{◌>>=◌, AnswersBy}
 use Rattle.zarrs_chunk.specs.Selection.{Selection}
 use Rattle.zarrs_chunk.specs.declared.codec_error.CodecError.{CodecError}
+use Rattle.zarrs_chunk.specs.Indexer.{selection_of}
 use Rattle.zarrs_chunk.specs.declared.indexer.Indexer.{Indexer}
 use Rattle.zarrs_data_type.specs.Element.{Chunk}
 use Rattle.zarrs_array_bytes.specs.Held.{Held}
 use Rattle.zarrs_array_bytes.specs.Validity.{Holds}
 use Rattle.zarrs_json.specs.KnownBytesCodec.{known_codecs, known_reads}
 use Rattle.zarrs_codec_chain.specs.MadeCoder.{made_read}
-use Rattle.zarrs_lent_handles.specs.LentHandle.{lent_value}
-use Rattle.zarrs_lent_handles.specs.declared.lent_handle.LentHandle.{LentHandle}
 use Rattle.zarrs_json.specs.Header.{Form, Header, form_of}
 use Rattle.zarrs_json.specs.HeaderRead.{header_seen}
 use Rattle.zarrs_json.specs.declared.header.ChunkHeader.{ChunkHeader}
 use Rattle.zarrs_c_calls.specs.Calls.{header_given}
-use Rattle.zarrs_c_calls.specs.Codes.{cause_memory, codec_answer}
+use Rattle.zarrs_c_calls.specs.Codes.{codec_answer}
 use Rattle.zarrs_c_calls.specs.Selections.{selection_given}
-use Rattle.zarrs_c_calls.specs.Told.{Elements, HoldsThese}
+use Rattle.zarrs_c_calls.specs.Told.{Elements}
 use Rattle.zarrs_c_calls.specs.declared.cause.Cause.{Cause}
 
 -- what is stored: these bytes, or nothing
@@ -52,11 +50,7 @@ part_read text stored tuples numbers = do
   header ← header_given text
   header_read header stored tuples numbers
 
--- a read of what is lent answers the elements that are due
-abbrev pub GivesFormRead : ChunkHeader → LentHandle → Indexer → Result Held CodecError → Type 0
-GivesFormRead form handle indexer result =
-    AnswersBy memory (Holds (header_seen form).data_type) result (form_read (form_seen form) (lent_value handle) (selection_of indexer))
-
--- and so of the chunk of a header
-abbrev pub GivesPartRead : List ℕ → Option (List ℕ) → ℕ → List ℕ → Result Held Cause → Type 0
-GivesPartRead text stored tuples numbers result = AnswersBy cause_memory HoldsThese result (part_read text stored tuples numbers)
+-- a read of what is stored answers the elements that are due; what `excuse` names may come at any time
+abbrev pub ReadsForm : (CodecError → Bool) → ChunkHeader → Option (List ℕ) → Indexer → Result Held CodecError → Type 0
+ReadsForm excuse form stored indexer result =
+    AnswersBy excuse (Holds (header_seen form).data_type) result (form_read (form_seen form) stored (selection_of indexer))

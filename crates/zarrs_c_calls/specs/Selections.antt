@@ -5,8 +5,6 @@ use Rattle.zarrs_chunk.specs.ArraySubset.{subset_of_start_shape}
 use Rattle.zarrs_chunk.specs.Indexer.{selection_of}
 use Rattle.zarrs_chunk.specs.Selection.{Selection, subset, indices}
 use Rattle.zarrs_chunk.specs.declared.indexer.Indexer.{Indexer}
-use Rattle.zarrs_json.specs.HeaderRead.{header_seen}
-use Rattle.zarrs_json.specs.declared.header.ChunkHeader.{ChunkHeader}
 use Rattle.zarrs_c_calls.specs.Codes.{cause_memory, codec_answer}
 use Rattle.zarrs_c_calls.specs.declared.cause.Cause.{Cause}
 use Rattle.zarrs_c_calls.specs.declared.cause.Cause.TheVariants.{Argument}
@@ -33,7 +31,6 @@ tuples_given axes count numbers = do
 abbrev pub selection_given : ℕ → ℕ → List ℕ → Result Selection Cause
 selection_given axes tuples numbers = if tuples == 2 ^ 64 - 1 then box_given numbers else tuples_given axes tuples numbers
 
--- the indexer of these numbers in a header's chunk is returned, or the first error
-abbrev pub GivesSelection : ChunkHeader → ℕ → List ℕ → Result Indexer Cause → Type 0
-GivesSelection form tuples numbers result =
-    Answers cause_memory selection_of result (selection_given (length (header_seen form).sizes) tuples numbers)
+-- the indexer of the selection that is due is returned, or the first error
+abbrev pub Selects : Result Indexer Cause → Result Selection Cause → Type 0
+Selects result expected = Answers cause_memory selection_of result expected

@@ -1,5 +1,5 @@
 -- What a call leaves in the caller's buffers.
-use Rattle.std.specs.Prelude.{◌≡◌, ◌⊎◌, ℕ, nat_le, nat_lt, if◌then◌else◌, List, [], ◌∷◌, ◌++◌, length, Result, Ok}
+use Rattle.std.specs.Prelude.{◌≡◌, ◌⊎◌, ℕ, nat_le, nat_lt, if◌then◌else◌, List, [], ◌∷◌, ◌++◌, length, Result, Ok, min, ◌^◌, ◌-◌}
 use Rattle.zarrs_data_type.specs.Element.{Chunk}
 use Rattle.zarrs_data_type.specs.ElementType.{ElementType}
 use Rattle.zarrs_array_bytes.specs.Held.{Held}
@@ -8,7 +8,7 @@ use Rattle.zarrs_array_bytes.specs.Update.{with_items_at}
 use Rattle.zarrs_array_bytes.specs.Validity.{Holds}
 use Rattle.zarrs_codec.specs.declared.bytes_representation.BytesRepresentation.{BytesRepresentation}
 use Rattle.zarrs_codec.specs.declared.bytes_representation.BytesRepresentation.TheVariants.{FixedSize, BoundedSize, UnboundedSize}
-use Rattle.zarrs_c_calls.specs.Buffers.{Buffers, Room, crossed, sizes_of, have_room, with_fronts}
+use Rattle.zarrs_c_calls.specs.Buffers.{Buffers, Room, crossed, have_room, with_fronts}
 use Rattle.zarrs_c_calls.specs.Codes.{IsRefusal}
 use Rattle.zarrs_c_calls.specs.declared.cause.Cause.{Cause}
 use Rattle.zarrs_c_calls.specs.declared.sizes.Sizes.{Sizes}
@@ -48,11 +48,11 @@ pub record HoldsThese (held : Held) (elements : Elements) : Type 0 where
   pub holds : Holds elements.0 held elements.1
   pub tight : IsTight elements.0 held
 
--- The call returns a container: its parts are at the front of the buffers, and the code is 0; or a buffer is too short and all stay as they were, and the code is 1. The number of items of each part is returned in either case.
+-- The call returns a container: its parts are at the front of the buffers, and the code is 0; or a buffer is too short and all stay as they were, and the code is 1. The number of items of each part is returned in either case; of mask bytes 2^64 - 1 where they are more.
 pub record ToldParts (parts : Buffers) (code : ℕ) (old new : Buffers) (needed : Sizes) : Type 0 where
   pub code_is : code ≡ (if have_room old parts then 0 else 1)
   pub buffers_are : new ≡ (if have_room old parts then with_fronts old parts else old)
-  pub needed_is : needed ≡ sizes_of parts
+  pub needed_is : needed ≡ record { masks = min (length parts.masks) (2 ^ 64 - 1); offsets = length parts.offsets; bytes = length parts.bytes }
 
 -- The call returns a container of the elements that are due; or it fails, and leaves the buffers and the counts as they were.
 abbrev pub TellsElements : Result Elements Cause → ℕ → Room → Room → Type 0
@@ -75,7 +75,7 @@ size_of (BoundedSize size) = size
 size_of UnboundedSize = 0
 
 -- The call returns the representation that is due, and the code is 0; or it fails, and leaves both numbers as they were.
-abbrev pub TellsRepresentation : Result BytesRepresentation Cause → ℕ → ℕ → ℕ → ℕ → ℕ → Type 0
-TellsRepresentation expected code kind_old kind_new size_old size_new =
+abbrev pub TellsRepresented : Result BytesRepresentation Cause → ℕ → ℕ → ℕ → ℕ → ℕ → Type 0
+TellsRepresented expected code kind_old kind_new size_old size_new =
     ((r : BytesRepresentation) × (expected ≡ Ok r) × (code ≡ 0) × (kind_new ≡ kind_of r) × (size_new ≡ size_of r))
     ⊎ (IsRefusal expected code × (kind_new ≡ kind_old) × (size_new ≡ size_old))

@@ -1,23 +1,17 @@
 -- What is due to a call that writes a chunk in part.
-use Rattle.std.specs.Prelude.{◌≡◌, ℕ, List, length, Option, Some, Result, Ok, Vec}
+use Rattle.std.specs.Prelude.{ℕ, List, length, Option, Result, Vec}
 use Rattle.std.proofs.Common.{Global}
-use Rattle.zarrs_chunk.specs.Answer.{◌>>=◌, Answers, AnswersItems, memory, seen}
-use Rattle.zarrs_chunk.specs.Indexer.{selection_of}
+use Rattle.zarrs_chunk.specs.Answer.{◌>>=◌, AnswersItems}
 use Rattle.zarrs_chunk.specs.Selection.{Selection}
 use Rattle.zarrs_chunk.specs.declared.codec_error.CodecError.{CodecError}
-use Rattle.zarrs_chunk.specs.declared.indexer.Indexer.{Indexer}
 use Rattle.zarrs_array_bytes.specs.Held.{Held}
-use Rattle.zarrs_codec.specs.MemoryHandle.{handle_value}
 use Rattle.zarrs_json.specs.KnownBytesCodec.{known_codecs}
-use Rattle.zarrs_codec.specs.declared.memory_handle.MemoryHandle.{MemoryHandle}
 use Rattle.zarrs_codec_chain.specs.MadeCoder.{made_written}
 use Rattle.zarrs_json.specs.Header.{Form, Header, form_of}
-use Rattle.zarrs_json.specs.declared.header.ChunkHeader.{ChunkHeader}
 use Rattle.zarrs_c_calls.specs.Buffers.{Buffers, buffers}
 use Rattle.zarrs_c_calls.specs.Calls.{header_given}
 use Rattle.zarrs_c_calls.specs.Codes.{cause_memory, codec_answer}
 use Rattle.zarrs_c_calls.specs.Given.{elements_given}
-use Rattle.zarrs_c_calls.specs.Reads.{form_seen}
 use Rattle.zarrs_c_calls.specs.Selections.{selection_given}
 use Rattle.zarrs_c_calls.specs.declared.cause.Cause.{Cause}
 use Rattle.zarrs_c_calls.specs.declared.part_writes.Edit.{Edit}
@@ -38,20 +32,6 @@ abbrev pub part_written : List ℕ → Option (List ℕ) → ℕ → List ℕ �
 part_written text stored tuples numbers elements = do
   header ← header_given text
   header_written header stored tuples numbers elements
-
--- the value with the new elements is stored afterwards, or the first error is returned
-abbrev pub StoresPart : Form → (before after : Option (List ℕ)) → Selection → Held → Result (Unit {0}) CodecError → Type 0
-StoresPart form before after selection new result =
-    Answers memory (λ _. after) result (seen (λ value. Some value) (form_written form before selection new))
-
--- so in a handle in memory
-abbrev pub StoresNew : ChunkHeader → (old new : MemoryHandle) → Indexer → Held → Result (Unit {0}) CodecError → Type 0
-StoresNew form old new indexer elements result =
-    StoresPart (form_seen form) (handle_value old) (handle_value new) (selection_of indexer) elements result
-
--- the value that such a handle has is answered
-abbrev pub GivesStored : MemoryHandle → Result (Vec ℕ Global) Cause → Type 0
-GivesStored handle result = (value : List ℕ) → handle_value handle ≡ Some value → AnswersItems cause_memory result (Ok value)
 
 -- the value that an edit leaves of what is stored is answered
 abbrev pub GivesPartWritten : List ℕ → Option (List ℕ) → Edit → Result (Vec ℕ Global) Cause → Type 0

@@ -1,8 +1,9 @@
 //! What the calls answer, before it is returned to C.
 ghost use Rattle.zarrs_chunk.specs.Answer.{Answers, AnswersBy, AnswersItems, AnswersValue};
+ghost use Rattle.zarrs_array_bytes.specs.Held.{items_of};
 ghost use Rattle.zarrs_json.specs.HeaderRead.{header_seen};
 ghost use Rattle.zarrs_c_calls.specs.Buffers.{buffers};
-ghost use Rattle.zarrs_c_calls.specs.Calls.{header_given, represented, GivesEncoded, decoded, reencoded};
+ghost use Rattle.zarrs_c_calls.specs.Calls.{header_given, represented, encoded, decoded, reencoded};
 ghost use Rattle.zarrs_c_calls.specs.Codes.{cause_memory};
 ghost use Rattle.zarrs_c_calls.specs.Told.{HoldsThese};
 
@@ -41,7 +42,9 @@ pub(crate) fn encode<'a>(
     offsets: &[u64],
     bytes: &'a [u8],
 ) -> Result<ArrayBytesRaw<'a>, Cause>
-    ensures answer { GivesEncoded text.now (buffers masks.now offsets.now bytes.now) result }
+    // Wide: a header's text and three buffers.
+    ensures answer { Answers cause_memory items_of result
+        (encoded text.now (buffers masks.now offsets.now bytes.now)) }
 {
     let form = form_given(alloc, text)?;
     let elements = elements_given(alloc, &form.data_type, masks, offsets, bytes)?;

@@ -1,12 +1,15 @@
 //! Edits of a chunk in a caller's own value, before their outcome is returned to C.
-ghost use Rattle.std.specs.Prelude.{◌≡◌, ◌≤◌, true, drop, length};
-ghost use Rattle.zarrs_chunk.specs.Answer.{AnswersValue, memory};
+ghost use Rattle.std.specs.Prelude.{◌≡◌, ◌≤◌, OnErr, Some, true, drop, length};
+ghost use Rattle.zarrs_chunk.specs.Answer.{memory, Answers, AnswersValue};
+ghost use Rattle.zarrs_chunk.specs.Indexer.{selection_of};
 ghost use Rattle.zarrs_json.specs.HeaderRead.{header_seen};
 ghost use Rattle.zarrs_codec_chain.specs.PartialEncoder.{encoder_form};
 ghost use Rattle.zarrs_c_calls.specs.BufferHandle.{buffer_bytes, buffer_is_stored, buffer_name};
-ghost use Rattle.zarrs_c_calls.specs.Edits.{all_are_taken, edits_in_place, has_all_bytes as has_all};
-ghost use Rattle.zarrs_c_calls.specs.EditRuns.{buffer_of, AreTaken, EditsValue, EncoderRuns, IsRepresented, LeavesNew, MakesEdit, OpensEdits, RunsEdits};
+ghost use Rattle.zarrs_c_calls.specs.Codes.{cause_memory};
+ghost use Rattle.zarrs_c_calls.specs.Edits.{all_are_taken, edits_in_place, edits_opened, has_all_bytes as has_all};
+ghost use Rattle.zarrs_c_calls.specs.EditRuns.{buffer_of, bytes_of, AreTaken, EditsValue, IsRepresented, MakesEdit, RunsEdits};
 ghost use Rattle.zarrs_c_calls.specs.Reads.{form_seen};
+ghost use Rattle.zarrs_c_calls.specs.Writes.{form_written};
 
 use crate::buffer_handle::BufferHandle;
 use crate::calls::form_given;
@@ -82,7 +85,9 @@ fn form_opened(
     len: usize,
     edits: &Edits<'_>,
 ) -> Result<ChunkHeader, Cause>
-    ensures answer { OpensEdits text.now len edits.now result }
+    // Wide: a header's text and the three parts of the edits.
+    ensures answer { Answers cause_memory header_seen result (edits_opened text.now len
+        edits.now.sizes.now (length edits.now.numbers.now) (length edits.now.bytes.now)) }
 {
     let form = form_given(alloc, text)?;
     if !take_all(edits.sizes, edits.numbers.len(), edits.bytes.len()) {
@@ -105,7 +110,10 @@ fn write_new(
     requires form { encoder_form encoder.old ≡ form_seen form.now }
     requires represented { IsRepresented form.now }
     requires stored { buffer_is_stored (buffer_of encoder.old) ≡ true }
-    ensures answer { LeavesNew form.now encoder.old encoder.new indexer.now new.now result }
+    // Wide: the header, the encoder before and after, the indexer and the new elements.
+    ensures answer { Answers memory (λ _. bytes_of encoder.new) result (form_written
+        (form_seen form.now) (Some (bytes_of encoder.old)) (selection_of indexer.now) new.now) }
+    ensures kept { OnErr result (bytes_of encoder.new ≡ bytes_of encoder.old) }
     ensures stored { buffer_is_stored (buffer_of encoder.new) ≡ true }
     ensures same_reference { buffer_name (buffer_of encoder.new) ≡ buffer_name (buffer_of encoder.old) }
     ensures form_kept { encoder_form encoder.new ≡ encoder_form encoder.old }
@@ -155,7 +163,7 @@ fn make_edits(
     requires represented { IsRepresented form.now }
     requires stored { buffer_is_stored (buffer_of encoder.old) ≡ true }
     requires taken { AreTaken edits.now }
-    ensures runs { EncoderRuns form.now encoder.old encoder.new edits.now result }
+    ensures runs { RunsEdits form.now (bytes_of encoder.old) (bytes_of encoder.new) edits.now result }
     ensures stored { buffer_is_stored (buffer_of encoder.new) ≡ true }
     ensures same_reference { buffer_name (buffer_of encoder.new) ≡ buffer_name (buffer_of encoder.old) }
 {

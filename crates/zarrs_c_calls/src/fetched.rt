@@ -1,13 +1,18 @@
 //! Reading a chunk of which pieces are at hand, before the elements are returned to C.
-ghost use Rattle.std.specs.Prelude.{◌≡◌, ◌-◌, IfOk, length};
+ghost use Rattle.std.specs.Prelude.{◌≡◌, ◌-◌, IfOk, length, true};
 ghost use Rattle.std.specs.Option.{option_map};
-ghost use Rattle.zarrs_chunk.specs.Answer.{Answers, seen};
+ghost use Rattle.zarrs_chunk.specs.Answer.{is_fault, memory_or_fault, seen, Answers, AnswersBy};
+ghost use Rattle.zarrs_chunk.specs.Indexer.{selection_of};
 ghost use Rattle.zarrs_array_bytes.specs.Tight.{IsTight};
+ghost use Rattle.zarrs_array_bytes.specs.Validity.{Holds};
 ghost use Rattle.zarrs_json.specs.HeaderRead.{header_seen};
 ghost use Rattle.zarrs_lent_handles.specs.Pieces.{pieces_seen};
+ghost use Rattle.zarrs_lent_handles.specs.PiecesHandle.{pieces_state};
 ghost use Rattle.zarrs_c_calls.specs.Codes.{cause_memory};
-ghost use Rattle.zarrs_c_calls.specs.Fetched.{front_bytes, pieces_in, pieces_given as pieces_of, FailsWhereLacking, GivesApartRead, GivesFetchedRead, GivesPiecesRead, LacksWhereAnswered, ReadsAlike, ReadsSurelyInPart};
-ghost use Rattle.zarrs_c_calls.specs.LackingByte.{whole_value as whole_of};
+ghost use Rattle.zarrs_c_calls.specs.Fetched.{front_bytes, memory_or_lack, pieces_in, pieces_given as pieces_of, pieces_read, LacksWhereAnswered, ReadsAlike, ReadsSurelyInPart};
+ghost use Rattle.zarrs_c_calls.specs.LackingByte.{apart_read, whole_value as whole_of, LacksByte};
+ghost use Rattle.zarrs_c_calls.specs.Reads.{form_seen, ReadsForm};
+ghost use Rattle.zarrs_c_calls.specs.Told.{HoldsThese};
 
 use crate::calls::form_given;
 use crate::cause::Cause;
@@ -64,7 +69,9 @@ fn read_pieces_part(
     handle: PiecesHandle<'_>,
     indexer: &Indexer,
 ) -> Result<ArrayBytes<'static>, CodecError>
-    ensures answer { GivesPiecesRead form.now handle.entry indexer.now result }
+    // Wide: the header, the handle's value and the indexer.
+    ensures answer { ReadsForm memory_or_fault form.now (pieces_state handle.entry).value
+        indexer.now result }
     ensures tight { IfOk result (IsTight (header_seen form.now).data_type) }
     ensures sure { ReadsSurelyInPart form.now handle.entry indexer.now result }
 {
@@ -104,9 +111,13 @@ fn read_apart(
     pieces: Vec<Piece<'_>>,
     indexer: &Indexer,
 ) -> Result<ArrayBytes<'static>, CodecError>
-    ensures answer { GivesApartRead form.now len pieces.entry indexer.now result }
+    // Wide: the header, the pieces and the indexer.
+    ensures answer { AnswersBy memory_or_fault (Holds form.now.data_type) result
+        (apart_read (form_seen form.now) len (pieces_in pieces.entry) (selection_of indexer.now)) }
     ensures tight { IfOk result (IsTight (header_seen form.now).data_type) }
-    ensures lacking { FailsWhereLacking form.now len pieces.entry indexer.now result }
+    // Wide: the header, the pieces and the indexer.
+    ensures lacking { is_fault result ≡ true
+        → LacksByte (form_seen form.now) len (pieces_in pieces.entry) (selection_of indexer.now) }
 {
     let whole = whole_value(len, pieces.as_slice());
     let handle = PiecesHandle::new(len, pieces)?;
@@ -132,7 +143,9 @@ pub(crate) fn read_fetched(
     tuples: u64,
     numbers: &[u64],
 ) -> Result<ArrayBytes<'static>, Cause>
-    ensures answer { GivesFetchedRead text.now fetched.now tuples numbers.now result }
+    // Wide: a header's text, the three parts of what was fetched, and the two of a selection.
+    ensures answer { AnswersBy memory_or_lack HoldsThese result (pieces_read text.now
+        fetched.now.len fetched.now.ranges.now fetched.now.bytes.now tuples numbers.now) }
     ensures alike { ReadsAlike text.now fetched.now tuples numbers.now result }
     ensures lacking { LacksWhereAnswered text.now fetched.now tuples numbers.now result }
 {

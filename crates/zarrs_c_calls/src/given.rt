@@ -5,7 +5,7 @@ ghost use Rattle.zarrs_data_type.specs.ElementType.{optional_levels};
 ghost use Rattle.zarrs_array_bytes.specs.Offsets.{offsets_of};
 ghost use Rattle.zarrs_c_calls.specs.Buffers.{buffers};
 ghost use Rattle.zarrs_c_calls.specs.Codes.{cause_memory, codec_answer};
-ghost use Rattle.zarrs_c_calls.specs.Given.{mask_length as mask_length_of, variable_given as variable_of, GivesHeldUnder, GivesHeld};
+ghost use Rattle.zarrs_c_calls.specs.Given.{mask_length as mask_length_of, variable_given as variable_of, given_under as under, elements_given as elements_of};
 
 use crate::cause::Cause;
 use std::alloc::Global;
@@ -66,7 +66,9 @@ fn given_under<'a>(
     offsets: &[u64],
     bytes: &'a [u8],
 ) -> Result<ArrayBytes<'a>, Cause>
-    ensures answer { GivesHeldUnder data_type.now each masks.now offsets.now bytes.now result }
+    // Wide: the type, the size of a mask, and three buffers.
+    ensures answer { AnswersValue cause_memory result
+        (under data_type.now each masks.now offsets.now bytes.now) }
 {
     if let Some(inner_type) = data_type.as_optional() {
         if masks.len() < each {
@@ -92,7 +94,9 @@ pub(crate) fn elements_given<'a>(
     offsets: &[u64],
     bytes: &'a [u8],
 ) -> Result<ArrayBytes<'a>, Cause>
-    ensures answer { GivesHeld data_type.now (buffers masks.now offsets.now bytes.now) result }
+    // Wide: the type and three buffers.
+    ensures answer { AnswersValue cause_memory result
+        (elements_of data_type.now (buffers masks.now offsets.now bytes.now)) }
 {
     let Some(each) = mask_length(level_count(data_type), masks.len()) else {
         return Err(Cause::Argument);

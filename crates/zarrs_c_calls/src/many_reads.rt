@@ -1,11 +1,16 @@
 //! Reading a list of selections of a chunk, before the elements are returned to C.
 ghost use Rattle.std.specs.Prelude.{◌≡◌, ◌≤◌, IfOk, drop, length};
+ghost use Rattle.zarrs_chunk.specs.Answer.{memory, AnswersBy};
 ghost use Rattle.zarrs_array_bytes.specs.Tight.{IsTight};
 ghost use Rattle.zarrs_json.specs.HeaderRead.{header_seen};
 ghost use Rattle.zarrs_codec_chain.specs.PartialDecoder.{form_of};
 ghost use Rattle.zarrs_lent_handles.specs.LentHandle.{lent_value};
-ghost use Rattle.zarrs_c_calls.specs.EachRead.{decoder_value, FirstIsGiven, GivesEach, GivesFront, GivesMany, IsSourced, ReadsForm, SelectsFront};
-ghost use Rattle.zarrs_c_calls.specs.Reads.{form_seen, stored_bytes};
+ghost use Rattle.zarrs_c_calls.specs.Codes.{cause_memory};
+ghost use Rattle.zarrs_c_calls.specs.EachRead.{decoder_value, front_given, FirstIsGiven, GivesEach, IsSourced};
+ghost use Rattle.zarrs_c_calls.specs.ManyReads.{front_read, many_read, HoldEach};
+ghost use Rattle.zarrs_c_calls.specs.Reads.{form_seen, stored_bytes, ReadsForm};
+ghost use Rattle.zarrs_c_calls.specs.Selections.{Selects};
+ghost use Rattle.zarrs_c_calls.specs.Told.{HoldsThese};
 
 use crate::calls::form_given;
 use crate::cause::Cause;
@@ -25,7 +30,7 @@ fn front_selection(
     size: &SelectionSize,
     numbers: &[u64],
 ) -> Result<Indexer, Cause>
-    ensures answer { SelectsFront form.now size.now numbers.now result }
+    ensures answer { Selects result (front_given (header_seen form.now) size.now numbers.now) }
     ensures count { IfOk result (λ _. size.now.numbers ≤ length numbers.now) }
 {
     if size.numbers > numbers.len() {
@@ -43,7 +48,7 @@ fn read_one(
 ) -> Result<ArrayBytes<'static>, CodecError>
     requires form { form_of decoder.old ≡ form_seen form.now }
     requires sourced { IsSourced (form_seen form.now) (decoder_value decoder.old) }
-    ensures answer { ReadsForm form.now (decoder_value decoder.old) indexer.now result }
+    ensures answer { ReadsForm memory form.now (decoder_value decoder.old) indexer.now result }
     ensures tight { IfOk result (IsTight (header_seen form.now).data_type) }
     ensures value_kept { decoder_value decoder.new ≡ decoder_value decoder.old }
     ensures form_kept { form_of decoder.new ≡ form_of decoder.old }
@@ -61,7 +66,9 @@ fn read_front(
 ) -> Result<ArrayBytes<'static>, Cause>
     requires form { form_of decoder.old ≡ form_seen form.now }
     requires sourced { IsSourced (form_seen form.now) (decoder_value decoder.old) }
-    ensures answer { GivesFront form.now (decoder_value decoder.old) size.now numbers.now result }
+    // Wide: the header, what is stored, and the two parts of a selection.
+    ensures answer { AnswersBy cause_memory HoldsThese result
+        (front_read (header_seen form.now) (decoder_value decoder.old) size.now numbers.now) }
     ensures count { IfOk result (λ _. size.now.numbers ≤ length numbers.now) }
     ensures value_kept { decoder_value decoder.new ≡ decoder_value decoder.old }
     ensures form_kept { form_of decoder.new ≡ form_of decoder.old }
@@ -138,7 +145,9 @@ pub(crate) fn read_many(
     sizes: &[SelectionSize],
     numbers: &[u64],
 ) -> Result<Vec<ArrayBytes<'static>>, Cause>
-    ensures answer { GivesMany text.now (stored_bytes stored.entry) sizes.now numbers.now result }
+    // Wide: a header's text, what is stored, and the two parts of a list of selections.
+    ensures answer { AnswersBy cause_memory (λ v. HoldEach v.items) result
+        (many_read text.now (stored_bytes stored.entry) sizes.now numbers.now) }
 {
     let form = form_given(alloc, text)?;
     if sizes.len() == 0 {

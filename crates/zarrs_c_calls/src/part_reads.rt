@@ -1,9 +1,12 @@
 //! Reading a chunk in part, before the elements are returned to C.
 ghost use Rattle.std.specs.Prelude.{◌≡◌, IfOk, false};
-ghost use Rattle.zarrs_chunk.specs.Answer.{is_fault};
+ghost use Rattle.zarrs_chunk.specs.Answer.{is_fault, memory, AnswersBy};
 ghost use Rattle.zarrs_array_bytes.specs.Tight.{IsTight};
 ghost use Rattle.zarrs_json.specs.HeaderRead.{header_seen};
-ghost use Rattle.zarrs_c_calls.specs.Reads.{stored_value, stored_bytes, GivesFormRead, GivesPartRead};
+ghost use Rattle.zarrs_lent_handles.specs.LentHandle.{lent_value};
+ghost use Rattle.zarrs_c_calls.specs.Codes.{cause_memory};
+ghost use Rattle.zarrs_c_calls.specs.Reads.{part_read, stored_value, stored_bytes, ReadsForm};
+ghost use Rattle.zarrs_c_calls.specs.Told.{HoldsThese};
 
 use crate::calls::form_given;
 use crate::cause::Cause;
@@ -29,7 +32,7 @@ pub(crate) fn read_part(
     handle: LentHandle<'_>,
     indexer: &Indexer,
 ) -> Result<ArrayBytes<'static>, CodecError>
-    ensures answer { GivesFormRead form.now handle.entry indexer.now result }
+    ensures answer { ReadsForm memory form.now (lent_value handle.entry) indexer.now result }
     ensures tight { IfOk result (IsTight (header_seen form.now).data_type) }
     ensures no_fault { is_fault result ≡ false }
 {
@@ -54,7 +57,9 @@ pub(crate) fn read(
     tuples: u64,
     numbers: &[u64],
 ) -> Result<ArrayBytes<'static>, Cause>
-    ensures answer { GivesPartRead text.now (stored_bytes stored.entry) tuples numbers.now result }
+    // Wide: a header's text, what is stored, and the two parts of a selection.
+    ensures answer { AnswersBy cause_memory HoldsThese result
+        (part_read text.now (stored_bytes stored.entry) tuples numbers.now) }
 {
     let form = form_given(alloc, text)?;
     let indexer = selection_given(alloc, &form, tuples, numbers)?;

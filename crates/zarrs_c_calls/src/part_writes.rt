@@ -1,10 +1,11 @@
 //! Writing a chunk in part, before the value is returned to C.
-ghost use Rattle.std.specs.Prelude.{Ok};
-ghost use Rattle.zarrs_chunk.specs.Answer.{Answers};
+ghost use Rattle.std.specs.Prelude.{◌≡◌, ℕ, List, Ok, Some};
+ghost use Rattle.zarrs_chunk.specs.Answer.{memory, seen, Answers, AnswersItems};
+ghost use Rattle.zarrs_chunk.specs.Indexer.{selection_of};
 ghost use Rattle.zarrs_codec.specs.MemoryHandle.{handle_value};
 ghost use Rattle.zarrs_c_calls.specs.Codes.{cause_memory};
-ghost use Rattle.zarrs_c_calls.specs.Reads.{stored_bytes};
-ghost use Rattle.zarrs_c_calls.specs.Writes.{StoresNew, GivesStored, GivesPartWritten};
+ghost use Rattle.zarrs_c_calls.specs.Reads.{form_seen, stored_bytes};
+ghost use Rattle.zarrs_c_calls.specs.Writes.{form_written, GivesPartWritten};
 
 use crate::calls::form_given;
 use crate::cause::Cause;
@@ -25,7 +26,9 @@ fn write_part(
     indexer: &Indexer,
     new: &ArrayBytes<'_>,
 ) -> Result<(), CodecError>
-    ensures answer { StoresNew form.now handle.old handle.new indexer.now new.now result }
+    // Wide: the header, the handle before and after, the indexer and the new elements.
+    ensures answer { Answers memory (λ _. handle_value handle.new) result (seen Some (form_written
+        (form_seen form.now) (handle_value handle.old) (selection_of indexer.now) new.now)) }
 {
     let chain = &form.chain;
     match chain.partial_encoder(
@@ -56,7 +59,9 @@ fn handle_with(alloc: Global, stored: Option<&[u8]>) -> Result<MemoryHandle, Cau
 
 /// What is stored after a write, which stores something.
 fn stored_after(handle: MemoryHandle) -> Result<Vec<u8>, Cause>
-    ensures answer { GivesStored handle result }
+    // Wide: it names the value that the handle has.
+    ensures answer { (value : List ℕ) → handle_value handle ≡ Some value
+        → AnswersItems cause_memory result (Ok value) }
 {
     match handle.into_value() {
         Some(value) => Ok(value),

@@ -1,8 +1,12 @@
 //! Which bytes a read plans to ask for, before the plan is returned to C.
-ghost use Rattle.std.specs.Prelude.{IfOk, IfErr, ◌≡◌};
+ghost use Rattle.std.specs.Prelude.{◌≡◌, IfErr, IfOk, List};
 ghost use Rattle.zarrs_chunk.specs.declared.codec_error.CodecError.TheVariants.{OutOfMemory};
+ghost use Rattle.zarrs_chunk.specs.Answer.{AnswersBy};
 ghost use Rattle.zarrs_chunk.specs.Indexer.{selection_of};
-ghost use Rattle.zarrs_c_calls.specs.PlanSeen.{AreNumbersOf, GivesPlan, PlansPart};
+ghost use Rattle.zarrs_codec.specs.ByteSpan.{ByteSpan};
+ghost use Rattle.zarrs_lent_handles.specs.Joined.{Joins};
+ghost use Rattle.zarrs_c_calls.specs.Codes.{cause_memory};
+ghost use Rattle.zarrs_c_calls.specs.PlanSeen.{IsPlanNumbers, PlansPart};
 ghost use Rattle.zarrs_c_calls.specs.Plans.{planned, range_numbers};
 ghost use Rattle.zarrs_c_calls.specs.Reads.{form_seen};
 
@@ -52,7 +56,9 @@ fn numbers_of(alloc: Global, ranges: &[ByteRange]) -> Result<Vec<u64>, AllocErro
 
 /// Ranges in order and joined, as numbers.
 fn joined_numbers(alloc: Global, ranges: Vec<ByteRange>) -> Result<Vec<u64>, CodecError>
-    ensures numbers { IfOk result (AreNumbersOf ranges.items) }
+    // Wide: the ranges in order and joined are none of the function's values.
+    ensures numbers { IfOk result (λ v. (joined : List ByteSpan)
+        × (v.items ≡ range_numbers joined) × Joins ranges.items joined) }
     ensures memory { IfErr result (λ error. error ≡ OutOfMemory) }
 {
     let joined = join_ranges(alloc, ranges)?;
@@ -66,7 +72,7 @@ pub(crate) fn plan(
     tuples: u64,
     numbers: &[u64],
 ) -> Result<Option<Vec<u64>>, Cause>
-    ensures answer { GivesPlan result (planned text.now tuples numbers.now) }
+    ensures answer { AnswersBy cause_memory IsPlanNumbers result (planned text.now tuples numbers.now) }
 {
     let form = form_given(alloc, text)?;
     let indexer = selection_given(alloc, &form, tuples, numbers)?;

@@ -1,10 +1,9 @@
 //! The indexer of numbers that a caller gives.
 ghost use Rattle.std.specs.Prelude.{◌≡◌, ◌*◌, Ok, length};
 ghost use Rattle.zarrs_chunk.specs.Answer.{Answers};
-ghost use Rattle.zarrs_chunk.specs.Indexer.{selection_of};
 ghost use Rattle.zarrs_array_to_array.specs.Boxes.{tuples_in};
 ghost use Rattle.zarrs_c_calls.specs.Codes.{cause_memory};
-ghost use Rattle.zarrs_c_calls.specs.Selections.{rows as rows_of, box_given as box_of, tuples_given as tuples_of, GivesSelection};
+ghost use Rattle.zarrs_c_calls.specs.Selections.{rows as rows_of, box_given as box_of, tuples_given as tuples_of, selection_given as selected, Selects};
 
 use crate::cause::Cause;
 use std::alloc::Global;
@@ -13,7 +12,7 @@ use zarrs_json::ChunkHeader;
 
 #[tactic(auto, using(std::proofs::lemmas::List::take_rest))]
 fn box_given(alloc: Global, numbers: &[u64]) -> Result<Indexer, Cause>
-    ensures answer { Answers cause_memory selection_of result (box_of numbers.now) }
+    ensures answer { Selects result (box_of numbers.now) }
 {
     if numbers.len() % 2 != 0 {
         return Err(Cause::Argument);
@@ -47,7 +46,7 @@ fn rows(
 }
 
 fn tuples_given(alloc: Global, axes: usize, count: u64, numbers: &[u64]) -> Result<Indexer, Cause>
-    ensures answer { Answers cause_memory selection_of result (tuples_of axes count numbers.now) }
+    ensures answer { Selects result (tuples_of axes count numbers.now) }
 {
     if axes as u128 * count as u128 != numbers.len() as u128 {
         return Err(Cause::Argument);
@@ -65,7 +64,7 @@ pub(crate) fn selection_given(
     tuples: u64,
     numbers: &[u64],
 ) -> Result<Indexer, Cause>
-    ensures answer { GivesSelection form.now tuples numbers.now result }
+    ensures answer { Selects result (selected (length form.now.shape) tuples numbers.now) }
 {
     if tuples == u64::MAX {
         return box_given(alloc, numbers);

@@ -1,7 +1,7 @@
 //! Answers written into the caller's buffers.
-ghost use Rattle.std.specs.Prelude.{◌≡◌, ◌+◌, ◌≤◌, length, min};
+ghost use Rattle.std.specs.Prelude.{◌≡◌, ◌+◌, ◌≤◌, length, min, nat_le, ◌&&◌};
 ghost use Rattle.zarrs_array_bytes.specs.Update.{with_items_at};
-ghost use Rattle.zarrs_c_calls.specs.Buffers.{buffers, crossed, sizes_fit};
+ghost use Rattle.zarrs_c_calls.specs.Buffers.{buffers, crossed};
 ghost use Rattle.zarrs_c_calls.specs.Told.{ToldBytes, ToldName, ToldParts, kind_of, size_of};
 
 use crate::sizes::Sizes;
@@ -160,7 +160,9 @@ pub(crate) fn write_offsets(starts: &[usize], out: &mut [u64])
 
 /// Whether so many items fit into buffers of so many.
 pub(crate) fn fit(sizes: &Sizes, masks: usize, offsets: usize, bytes: usize) -> bool
-    ensures value { result ≡ sizes_fit sizes.now masks offsets bytes }
+    // Wide: three parts.
+    ensures value { result ≡ (nat_le sizes.now.masks masks && nat_le sizes.now.offsets offsets
+        && nat_le sizes.now.bytes bytes) }
 {
     sizes.masks <= masks && sizes.offsets <= offsets && sizes.bytes <= bytes
 }

@@ -1,8 +1,8 @@
 //! Several answers written into the caller's buffers, one behind another.
-ghost use Rattle.std.specs.Prelude.{◌≡◌, ◌+◌, ◌≤◌, length};
+ghost use Rattle.std.specs.Prelude.{◌≡◌, ◌+◌, ◌≤◌, length, min};
 ghost use Rattle.zarrs_array_bytes.specs.Update.{with_items_at};
-ghost use Rattle.zarrs_c_calls.specs.Buffers.{buffers};
-ghost use Rattle.zarrs_c_calls.specs.JoinedParts.{joined_parts, joined_sizes, with_crossed, HaveRoom, ToldJoined};
+ghost use Rattle.zarrs_c_calls.specs.Buffers.{buffers, crossed};
+ghost use Rattle.zarrs_c_calls.specs.JoinedParts.{joined_parts, joined_sizes, ToldJoined};
 
 use crate::sizes::Sizes;
 use crate::tell::{
@@ -11,13 +11,15 @@ use crate::tell::{
 use zarrs_array_bytes::ArrayBytes;
 
 /// So many items, and those of one container more.
-fn with_container(sizes: Sizes, part: &ArrayBytes<'_>) -> Sizes
-    ensures value { result ≡ with_crossed sizes part.now }
+fn with_container(sum: Sizes, part: &ArrayBytes<'_>) -> Sizes
+    ensures masks { result.masks ≡ min (sum.masks + length (crossed part.now).masks) usize.MAX }
+    ensures offsets { result.offsets ≡ min (sum.offsets + length (crossed part.now).offsets) usize.MAX }
+    ensures bytes { result.bytes ≡ min (sum.bytes + length (crossed part.now).bytes) usize.MAX }
 {
     Sizes {
-        masks: sizes.masks.saturating_add(mask_count(part)),
-        offsets: sizes.offsets.saturating_add(inner_offsets(part).len()),
-        bytes: sizes.bytes.saturating_add(inner_bytes(part).len()),
+        masks: sum.masks.saturating_add(mask_count(part)),
+        offsets: sum.offsets.saturating_add(inner_offsets(part).len()),
+        bytes: sum.bytes.saturating_add(inner_bytes(part).len()),
     }
 }
 
@@ -46,7 +48,9 @@ fn write_offsets_at(out: &mut [u64], at: usize, starts: &[usize])
 
 /// Writes containers, the parts of each behind those of the one before.
 fn write_joined(parts: &[ArrayBytes<'_>], masks: &mut [u8], offsets: &mut [u64], bytes: &mut [u8])
-    requires room { HaveRoom (buffers masks.old offsets.old bytes.old) (joined_parts parts.now) }
+    requires masks { length (joined_parts parts.now).masks ≤ length masks.old }
+    requires offsets { length (joined_parts parts.now).offsets ≤ length offsets.old }
+    requires bytes { length (joined_parts parts.now).bytes ≤ length bytes.old }
     ensures masks { masks.new ≡ with_items_at masks.old 0 (joined_parts parts.now).masks }
     ensures offsets { offsets.new ≡ with_items_at offsets.old 0 (joined_parts parts.now).offsets }
     ensures bytes { bytes.new ≡ with_items_at bytes.old 0 (joined_parts parts.now).bytes }

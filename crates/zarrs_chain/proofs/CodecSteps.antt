@@ -48,7 +48,7 @@ packbits_held_value f settings sizes type fill held =
 
 -- ---- errors of a representation are no faults of a handle
 
-count_no_fault : (test : Bool) (n : ℕ) → is_fault {T = ℕ} (if test then Ok n else Err Overflow) ≡ false
+pub count_no_fault : (test : Bool) (n : ℕ) → is_fault {T = ℕ} (if test then Ok n else Err Overflow) ≡ false
 count_no_fault true n = refl
 count_no_fault false n = refl
 
@@ -68,7 +68,7 @@ packbits_no_fault settings sizes type fill =
 
 -- ---- one level of a codec's answers, as the code sees it
 
-same_answer : (r expected : Result BytesRepresentation CodecError) → r ≡ expected → Answers memory (λ x. x) r expected
+pub same_answer : (r expected : Result BytesRepresentation CodecError) → r ≡ expected → Answers memory (λ x. x) r expected
 same_answer (Ok x) expected e = sym e
 same_answer (Err cause) expected e = λ _. sym e
 

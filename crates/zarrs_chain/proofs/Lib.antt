@@ -1,4 +1,5 @@
 pub mod CodecSteps
+pub mod VlenV2Steps
 pub mod VlenKept
 pub mod VlenEncode
 pub mod VlenDecode

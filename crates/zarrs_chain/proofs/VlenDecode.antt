@@ -32,7 +32,7 @@ use Rattle.zarrs_chain_meaning.specs.CodecMeaning.{codec_chunk, chain_chunk, cod
 use Rattle.zarrs_chain_meaning.specs.Parts.{all_bytes, byte_type}
 use Rattle.zarrs_chain.specs.ChainView.{plain_chain, plain_vlen, plain_vlen_at}
 use Rattle.zarrs_chain_meaning.specs.vlen.VlenSettings.{is_wide, is_at_end}
-use Rattle.zarrs_chain_meaning.specs.vlen.VlenSteps.{data_part, read_offsets, index_offsets, content_bytes}
+use Rattle.zarrs_chain_meaning.specs.vlen.VlenSteps.{data_part, read_offsets, index_offsets}
 use Rattle.zarrs_chain.specs.declared.vlen.vlen_codec.VlenCodec.{VlenCodec, out-VlenCodec}
 use Rattle.zarrs_bytes.proofs.Coding.{ok, bind_ok}
 use Rattle.zarrs_chain_meaning.proofs.ArraySteps.{err, ok_is, ok_no_err, next_answer}
@@ -40,6 +40,10 @@ use Rattle.zarrs_chain_meaning.proofs.NestedParts.{vlen_cut}
 use Rattle.zarrs_chain_meaning.proofs.VlenOffsets.{numbers_in, numbers_long, zero_fits, fixed_held, rises_are}
 use Rattle.zarrs_chain_meaning.proofs.OptionalSteps.{chunk_long, part_long}
 use Rattle.zarrs_chain_meaning.proofs.ChainSteps.{next_err, held_chunk}
+
+-- the bytes, so many, that a data part stands for through a chain
+abbrev pub content_bytes : {B : Type 0} → BytesCodecs B → PlainChain B → ℕ → List ℕ → Result (List ℕ) CodecError
+content_bytes f chain count part = seen all_bytes (part_chunk (chain_chunk f chain) byte_type (0 ∷ []) count part)
 
 -- ---- rows through a chain
 
@@ -107,19 +111,19 @@ bind_same : {A C : Type 0} (r : Result A CodecError) (f g : A → Result C Codec
 bind_same (Ok x) f g h = h x
 bind_same (Err e) f g h = refl
 
-items_step : (s : Result Chunk CodecError) (g : List ℕ → Chunk) → s >>= (λ items. ok (g (all_bytes items))) ≡ s >>= (λ items. ok (all_bytes items)) >>= (λ items. ok (g items))
+items_step : (s : Result Chunk CodecError) (g : List ℕ → Chunk) → s >>= (λ items. ok (g (all_bytes items))) ≡ seen all_bytes s >>= (λ items. ok (g items))
 items_step (Ok items) g = refl
 items_step (Err e) g = refl
 
 rising_step : (test : Bool) (offsets : List ℕ) (content : ℕ → Result Chunk CodecError) (count : ℕ)
     → demand test InvalidOffsets >>= (λ _. content (last_of offsets) >>= (λ items. ok (slices count offsets (all_bytes items))))
-    ≡ demand test InvalidOffsets >>= (λ _. ok offsets) >>= (λ offsets. content (last_of offsets) >>= (λ items. ok (all_bytes items)) >>= (λ items. ok (slices count offsets items)))
+    ≡ demand test InvalidOffsets >>= (λ _. ok offsets) >>= (λ offsets. seen all_bytes (content (last_of offsets)) >>= (λ items. ok (slices count offsets items)))
 rising_step true offsets content count = items_step (content (last_of offsets)) (slices count offsets)
 rising_step false offsets content count = refl
 
 rows_step : (wide : Bool) (r : Result Chunk CodecError) (content : ℕ → Result Chunk CodecError) (count : ℕ)
     → r >>= (λ rows. demand (rises (offsets_in_chunk wide rows)) InvalidOffsets >>= (λ _. content (last_of (offsets_in_chunk wide rows)) >>= (λ items. ok (slices count (offsets_in_chunk wide rows) (all_bytes items)))))
-    ≡ r >>= (λ rows. demand (rises (offsets_in_chunk wide rows)) InvalidOffsets >>= (λ _. ok (offsets_in_chunk wide rows))) >>= (λ offsets. content (last_of offsets) >>= (λ items. ok (all_bytes items)) >>= (λ items. ok (slices count offsets items)))
+    ≡ r >>= (λ rows. demand (rises (offsets_in_chunk wide rows)) InvalidOffsets >>= (λ _. ok (offsets_in_chunk wide rows))) >>= (λ offsets. seen all_bytes (content (last_of offsets)) >>= (λ items. ok (slices count offsets items)))
 rows_step wide (Ok rows) content count = rising_step (rises (offsets_in_chunk wide rows)) (offsets_in_chunk wide rows) content count
 rows_step wide (Err e) content count = refl
 

@@ -23,13 +23,14 @@ use Rattle.zarrs_packbits.specs.NormalForm as packbits
 use Rattle.zarrs_packbits.specs.PackBitsCodec.{PackBitsStands, PackBitsWritten}
 use Rattle.zarrs_packbits.specs.PackBitsSettings.{PackBitsSettings, packed_layout}
 use Rattle.zarrs_packbits.proofs.CodecLaws.{written_stands}
+use Rattle.zarrs_vlen_v2.specs.declared.vlen_v2_codec.VlenV2Codec.{VlenV2Codec}
 use Rattle.zarrs_chain_meaning.specs.vlen.Vlen.{is_same_bytes, offset_bytes, offset_elements, offset_type}
 use Rattle.zarrs_chain_meaning.specs.CodecMeaning.{meaning}
 use Rattle.zarrs_chain.specs.ChainView.{plain_codec, plain_vlen_at, plain_optional_at}
-use Rattle.zarrs_chain_meaning.specs.PlainChain.{PlainChain, bytes_codec, packbits_codec, vlen_codec_of, optional_codec_of}
+use Rattle.zarrs_chain_meaning.specs.PlainChain.{PlainChain, bytes_codec, packbits_codec, vlen_v2_codec, vlen_codec_of, optional_codec_of}
 use Rattle.zarrs_chain_meaning.specs.vlen.VlenSteps.{lent_bytes, written_offsets, keeps_offsets, TakesOffsets}
 use Rattle.zarrs_chain.specs.declared.array_to_bytes_codec.ArrayToBytesCodec.{ArrayToBytesCodec}
-use Rattle.zarrs_chain.specs.declared.array_to_bytes_codec.ArrayToBytesCodec.TheVariants.{Bytes, PackBits, Vlen, Optional}
+use Rattle.zarrs_chain.specs.declared.array_to_bytes_codec.ArrayToBytesCodec.TheVariants.{Bytes, PackBits, VlenV2, Vlen, Optional}
 use Rattle.zarrs_chain.specs.declared.optional.optional_codec.OptionalCodec.{OptionalCodec}
 use Rattle.zarrs_chain.specs.declared.vlen.vlen_codec.VlenCodec.{VlenCodec}
 use Rattle.zarrs_chain_meaning.specs.Chain.{row_sizes}
@@ -130,6 +131,10 @@ kept_by_bytes : (B : Type 0) (order : Option Endianness) (wide : Bool) (offsets 
 unfolding meaning
 kept_by_bytes B order wide offsets = all_kept (λ element. element) (offset_elements wide (from_first offsets)) (λ element. refl)
 
+kept_by_vlen_v2 : (B : Type 0) (codec : VlenV2Codec) (wide : Bool) (offsets : List ℕ) → keeps_offsets {B = B} (vlen_v2_codec codec) wide offsets ≡ true
+unfolding meaning
+kept_by_vlen_v2 B codec wide offsets = all_kept (λ element. element) (offset_elements wide (from_first offsets)) (λ element. refl)
+
 kept_by_vlen : {B : Type 0} (index content : PlainChain B) (w at_end : Bool) (wide : Bool) (offsets : List ℕ) → keeps_offsets (vlen_codec_of index content w at_end) wide offsets ≡ true
 unfolding meaning
 kept_by_vlen index content w at_end wide offsets = all_kept _ (offset_elements wide (from_first offsets)) (λ element. refl)
@@ -141,6 +146,10 @@ kept_by_optional mask content wide offsets = all_kept _ (offset_elements wide (f
 pub bytes_keep : {B : Type 0} (codec : ArrayToBytesCodec B) (order : Option Endianness) (wide : Bool) (offsets : List ℕ) → codec ≡ Bytes order → keeps_offsets (plain_codec codec) wide offsets ≡ true
 unfolding plain_codec
 bytes_keep {B} codec order wide offsets e = ap (λ c. keeps_offsets (plain_codec c) wide offsets) e ∙ kept_by_bytes B order wide offsets
+
+pub vlen_v2_keeps : {B : Type 0} (codec : ArrayToBytesCodec B) (inner : VlenV2Codec) (wide : Bool) (offsets : List ℕ) → codec ≡ VlenV2 inner → keeps_offsets (plain_codec codec) wide offsets ≡ true
+unfolding plain_codec
+vlen_v2_keeps {B} codec inner wide offsets e = ap (λ c. keeps_offsets (plain_codec c) wide offsets) e ∙ kept_by_vlen_v2 B inner wide offsets
 
 pub vlen_keeps : {B : Type 0} (codec : ArrayToBytesCodec B) (inner : VlenCodec B) (wide : Bool) (offsets : List ℕ) → codec ≡ Vlen inner → keeps_offsets (plain_codec codec) wide offsets ≡ true
 unfolding plain_codec

@@ -1,12 +1,8 @@
 -- What contracts see of codecs that were made.
-use Rattle.std.specs.Prelude.{◌≡◌, map, option_map, Result}
-use Rattle.zarrs_chunk.specs.Answer.{seen}
-use Rattle.zarrs_metadata.specs.PluginCreateError.{Makes}
-use Rattle.zarrs_metadata.specs.declared.plugin_create_error.PluginCreateError.{PluginCreateError}
+use Rattle.std.specs.Prelude.{map, option_map}
 use Rattle.zarrs_array_to_array.specs.Mapping.{mapping_of}
 use Rattle.zarrs_chain.specs.ChainView.{plain_codec}
-use Rattle.zarrs_chain_meaning.specs.MadeChain.{CodecMade, array_made, to_bytes_made, outer_made, Gathered, with_codec}
-use Rattle.zarrs_chain.specs.declared.array_to_bytes_codec.ArrayToBytesCodec.{ArrayToBytesCodec}
+use Rattle.zarrs_chain_meaning.specs.MadeChain.{CodecMade, array_made, to_bytes_made, outer_made, Gathered}
 use Rattle.zarrs_chain.specs.declared.metadata.chain_parts.ChainParts.{ChainParts}
 use Rattle.zarrs_chain.specs.declared.metadata.chain_parts.MadeCodec.{MadeCodec}
 use Rattle.zarrs_chain.specs.declared.metadata.chain_parts.MadeCodec.TheVariants.{Array, ToBytes, Outer}
@@ -24,12 +20,3 @@ parts_seen parts = record {
   array_to_bytes = option_map plain_codec parts.array_to_bytes;
   bytes_to_bytes = parts.bytes_to_bytes.items;
 }
-
--- the codec joins the old parts, or the first error is answered
-abbrev pub AddsCodec : {B : Type 0} → MadeCodec B → ChainParts B → ChainParts B → Result (Unit {0}) PluginCreateError → Type 0
-AddsCodec codec old new result = Makes (λ _. parts_seen new) result (with_codec (made_seen codec) (parts_seen old))
-
--- the same of an array-to-bytes codec, which takes no memory
-abbrev pub AddsToBytes : {B : Type 0} → ArrayToBytesCodec B → ChainParts B → ChainParts B → Result (Unit {0}) PluginCreateError → Type 0
-AddsToBytes codec old new result =
-    seen (λ _. parts_seen new) result ≡ with_codec (made_seen (ToBytes codec)) (parts_seen old)

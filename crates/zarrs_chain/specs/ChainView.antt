@@ -7,9 +7,9 @@ use Rattle.zarrs_metadata.specs.declared.codec.vlen.VlenIndexDataType.{VlenIndex
 use Rattle.zarrs_metadata.specs.declared.codec.vlen.VlenIndexLocation.{VlenIndexLocation}
 use Rattle.zarrs_array_to_array.specs.Mapping.{mapping_of}
 use Rattle.zarrs_chain_meaning.specs.vlen.VlenSettings.{is_wide, is_at_end}
-use Rattle.zarrs_chain_meaning.specs.PlainChain.{PlainCodec, bytes_codec, packbits_codec, vlen_codec, optional_codec, PlainChain, vlen_codec_of, optional_codec_of, with_location}
+use Rattle.zarrs_chain_meaning.specs.PlainChain.{PlainCodec, bytes_codec, packbits_codec, vlen_v2_codec, vlen_codec, optional_codec, PlainChain, vlen_codec_of, optional_codec_of}
 use Rattle.zarrs_chain.specs.declared.array_to_bytes_codec.ArrayToBytesCodec.{ArrayToBytesCodec}
-use Rattle.zarrs_chain.specs.declared.array_to_bytes_codec.ArrayToBytesCodec.TheVariants.{Bytes, PackBits, Vlen, Optional}
+use Rattle.zarrs_chain.specs.declared.array_to_bytes_codec.ArrayToBytesCodec.TheVariants.{Bytes, PackBits, VlenV2, Vlen, Optional}
 use Rattle.zarrs_chain.specs.declared.codec_chain.CodecChain.{CodecChain}
 use Rattle.zarrs_chain.specs.declared.optional.optional_codec.OptionalCodec.{OptionalCodec, OptionalCodec', out-OptionalCodec, is-OptionalCodec', roll-OptionalCodec, rolls-OptionalCodec'}
 use Rattle.zarrs_chain.specs.declared.vlen.vlen_codec.VlenCodec.{VlenCodec, VlenCodec', out-VlenCodec, is-VlenCodec', roll-VlenCodec, rolls-VlenCodec'}
@@ -19,6 +19,7 @@ unfoldable mutual
   pub plain_codec : {B : Type 0} → ArrayToBytesCodec B → PlainCodec B
   plain_codec (Bytes order) = bytes_codec order
   plain_codec (PackBits settings) = packbits_codec settings
+  plain_codec (VlenV2 codec) = vlen_v2_codec codec
   plain_codec (Vlen codec) = plain_vlen codec
   plain_codec (Optional codec) = plain_optional codec
 
@@ -65,23 +66,10 @@ abbrev pub chain_of : {B : Type 0} → Vec ArrayToArrayCodec Global → ArrayToB
 chain_of arrays codec outer =
     record { array_to_array = map mapping_of arrays.items; array_to_bytes = plain_codec codec; bytes_to_bytes = outer.items }
 
--- the chain in a box
-abbrev pub boxed_chain : {B : Type 0} → Box (CodecChain B) Global → PlainChain B
-boxed_chain chain = plain_chain chain.value
-
 -- `vlen` with these chains inside and these settings
 abbrev pub vlen_of : {B : Type 0} → CodecChain B → CodecChain B → VlenIndexDataType → VlenIndexLocation → PlainCodec B
 vlen_of index content index_data_type index_location =
     vlen_codec_of (plain_chain index) (plain_chain content) (is_wide index_data_type) (is_at_end index_location)
-
--- the codec is the `vlen` with the chains of these boxes inside and these settings
-abbrev pub IsVlenOf : {B : Type 0} → Box (CodecChain B) Global → Box (CodecChain B) Global → VlenIndexDataType → VlenIndexLocation → VlenCodec B → Type 0
-IsVlenOf index content index_data_type index_location codec =
-    plain_vlen codec ≡ vlen_of index.value content.value index_data_type index_location
-
--- the codec with its index at this place
-abbrev pub with_index : {B : Type 0} → VlenIndexLocation → VlenCodec B → PlainCodec B
-with_index index_location codec = with_location (is_at_end index_location) (plain_vlen codec)
 
 -- `optional` with these chains inside
 abbrev pub optional_of : {B : Type 0} → CodecChain B → CodecChain B → PlainCodec B

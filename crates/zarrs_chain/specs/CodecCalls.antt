@@ -13,9 +13,8 @@ use Rattle.zarrs_array_to_array.specs.declared.array_to_array_codec.ArrayToArray
 use Rattle.zarrs_bytes.specs.BytesCodec.{bytes_chunk}
 use Rattle.zarrs_codec.specs.BytesToBytesCodec.{BytesCodecs}
 use Rattle.zarrs_codec.specs.CoordinateMap.{moved_chunk, inverse_map}
-use Rattle.zarrs_codec.specs.declared.bytes_representation.BytesRepresentation.{BytesRepresentation}
 use Rattle.zarrs_chain_meaning.specs.ArrayStages.{map_through}
-use Rattle.zarrs_chain_meaning.specs.CallAnswers.{IsTaken, GivesRepresentation, GivesCodecValue, GivesCodecChunk}
+use Rattle.zarrs_chain_meaning.specs.CallAnswers.{IsTaken, GivesCodecValue}
 use Rattle.zarrs_chain.specs.ChainView.{plain_codec}
 use Rattle.zarrs_chain.specs.declared.array_to_bytes_codec.ArrayToBytesCodec.{ArrayToBytesCodec}
 
@@ -23,18 +22,9 @@ use Rattle.zarrs_chain.specs.declared.array_to_bytes_codec.ArrayToBytesCodec.{Ar
 abbrev pub Takes : {B : Type 0} → BytesCodecs B → ArrayToBytesCodec B → List ℕ → ElementType → List ℕ → Type 0
 Takes f codec sizes type fill = IsTaken f (plain_codec codec) (form_of sizes type fill)
 
--- how many bytes the value of such a chunk has, or the first error
-abbrev pub Counts : {B : Type 0} → BytesCodecs B → ArrayToBytesCodec B → List ℕ → ElementType → List ℕ → Result BytesRepresentation CodecError → Type 0
-Counts f codec sizes type fill result = GivesRepresentation f (plain_codec codec) (form_of sizes type fill) result
-
 -- the value of the chunk that a container holds, or the first error
 abbrev pub Writes : {B : Type 0} → BytesCodecs B → ArrayToBytesCodec B → List ℕ → ElementType → List ℕ → Held → Result (CowSlice ℕ Global) CodecError → Type 0
 Writes f codec sizes type fill held result = GivesCodecValue f (plain_codec codec) (form_of sizes type fill) held result
-
--- a container of the chunk that a value stands for, of a codec that takes such chunks; or the first error
-abbrev pub Reads : {B : Type 0} → BytesCodecs B → ArrayToBytesCodec B → List ℕ → ElementType → List ℕ → CowSlice ℕ Global → Result Held CodecError → Type 0
-Reads f codec sizes type fill value result =
-    GivesCodecChunk f (plain_codec codec) (form_of sizes type fill) (items_of value) result
 
 -- A container of the chunk of these sizes that the value of `bytes` in this order stands for, as the array-to-array codecs decode it where they take such chunks; or the first error.
 abbrev pub ReadsBehind : Option Endianness → List ArrayToArrayCodec → List ℕ → ElementType → List ℕ → CowSlice ℕ Global → Result Held CodecError → Type 0

@@ -1,10 +1,13 @@
+ghost use Rattle.zarrs_array_bytes.specs.Held.{items_of};
 ghost use Rattle.zarrs_array_bytes.specs.Tight.{IsTight};
+ghost use Rattle.zarrs_data_type.specs.Form.{form_of};
+ghost use Rattle.zarrs_chain_meaning.specs.CallAnswers.{GivesRepresentation, GivesCodecChunk};
 ghost use Rattle.std.specs.Prelude.{◌≡◌, IfOk};
 ghost use Rattle.zarrs_chain_meaning.specs.Chain.{codec_reads as codec_reads_of, codec_writes as codec_writes_of};
 ghost use Rattle.zarrs_chain.specs.ChainView.{plain_codec};
 ghost use Rattle.zarrs_chain_meaning.specs.CodecMeaning.{HasMappings};
 ghost use Rattle.zarrs_chain_meaning.specs.MadeAgain.{HasRanges};
-ghost use Rattle.zarrs_chain.specs.CodecCalls.{Takes, Counts, Writes, Reads};
+ghost use Rattle.zarrs_chain.specs.CodecCalls.{Takes, Writes};
 
 use crate::optional::optional_codec::{
     OptionalCodec, optional_decode, optional_encode, optional_has_ranges, optional_is_sound,
@@ -24,6 +27,7 @@ use zarrs_codec::{
 };
 use zarrs_data_type::{DataType, FillValue};
 use zarrs_packbits::PackBitsCodec;
+use zarrs_vlen_v2::VlenV2Codec;
 
 /// A codec of chunks to bytes.
 #[cycle(chain)]
@@ -33,6 +37,8 @@ pub enum ArrayToBytesCodec<B> {
     Bytes(BytesCodec),
     /// Some bits of each component (codec `packbits`).
     PackBits(PackBitsCodec),
+    /// Elements of any length, each behind its length (codecs `vlen-utf8` and `vlen-bytes`).
+    VlenV2(VlenV2Codec),
     /// Elements of any length, with where each begins (codec `vlen`).
     Vlen(VlenCodec<B>),
     /// The present elements, and which ones are present (codec `optional`).
@@ -48,6 +54,7 @@ pub(crate) fn codec_is_sound<B>(codec: &ArrayToBytesCodec<B>)
     match codec {
         ArrayToBytesCodec::Bytes(_) => {}
         ArrayToBytesCodec::PackBits(_) => {}
+        ArrayToBytesCodec::VlenV2(_) => {}
         ArrayToBytesCodec::Vlen(codec) => vlen_is_sound(codec),
         ArrayToBytesCodec::Optional(codec) => optional_is_sound(codec),
     }
@@ -62,6 +69,7 @@ pub(crate) fn codec_has_ranges<B>(codec: &ArrayToBytesCodec<B>)
     match codec {
         ArrayToBytesCodec::Bytes(_) => {}
         ArrayToBytesCodec::PackBits(codec) => codec.is_sound(),
+        ArrayToBytesCodec::VlenV2(_) => {}
         ArrayToBytesCodec::Vlen(codec) => vlen_has_ranges(codec),
         ArrayToBytesCodec::Optional(codec) => optional_has_ranges(codec),
     }
@@ -69,7 +77,7 @@ pub(crate) fn codec_has_ranges<B>(codec: &ArrayToBytesCodec<B>)
 
 /// How many bytes the value of such a chunk has. Errors: the codec's own.
 #[cycle(representation)]
-#[tactic(auto, unfolding(crate::specs::ChainView::plain_codec), using(crate::proofs::CodecSteps::bytes_measured, crate::proofs::CodecSteps::packbits_measured, crate::proofs::CodecSteps::vlen_measured, crate::proofs::CodecSteps::packbits_no_fault))]
+#[tactic(auto, unfolding(crate::specs::ChainView::plain_codec), using(crate::proofs::CodecSteps::bytes_measured, crate::proofs::CodecSteps::packbits_measured, crate::proofs::VlenV2Steps::vlen_v2_measured, crate::proofs::VlenV2Steps::vlen_v2_no_fault, crate::proofs::CodecSteps::vlen_measured, crate::proofs::CodecSteps::packbits_no_fault))]
 pub(crate) fn codec_representation<B: BytesToBytesCodecTraits>(
     alloc: Global,
     codec: &ArrayToBytesCodec<B>,
@@ -77,13 +85,18 @@ pub(crate) fn codec_representation<B: BytesToBytesCodecTraits>(
     data_type: &DataType,
     fill_value: &FillValue,
 ) -> Result<BytesRepresentation, CodecError>
-    ensures answer { Counts B.functions codec.now shape.now data_type.now fill_value.now result }
+    // Wide: the form of a chunk is three parameters, as in the Rust crate.
+    ensures answer { GivesRepresentation B.functions (plain_codec codec.now)
+        (form_of shape.now data_type.now fill_value.now) result }
 {
     match codec {
         ArrayToBytesCodec::Bytes(codec) => {
             codec.encoded_representation(shape, data_type, fill_value)
         }
         ArrayToBytesCodec::PackBits(codec) => {
+            codec.encoded_representation(shape, data_type, fill_value)
+        }
+        ArrayToBytesCodec::VlenV2(codec) => {
             codec.encoded_representation(shape, data_type, fill_value)
         }
         ArrayToBytesCodec::Vlen(_) => vlen_representation(shape, data_type),
@@ -96,7 +109,7 @@ pub(crate) fn codec_representation<B: BytesToBytesCodecTraits>(
 /// The value of the chunk that `held` holds, where the codec takes such chunks. Errors: those of
 /// the codec's `encode` behind those of its `encoded_representation`.
 #[cycle(encode)]
-#[tactic(auto, unfolding(crate::specs::ChainView::plain_codec), using(crate::proofs::CodecSteps::bytes_held_value, crate::proofs::CodecSteps::packbits_held_value))]
+#[tactic(auto, unfolding(crate::specs::ChainView::plain_codec), using(crate::proofs::CodecSteps::bytes_held_value, crate::proofs::CodecSteps::packbits_held_value, crate::proofs::VlenV2Steps::vlen_v2_held_value))]
 pub(crate) fn codec_encode<'a, B: BytesToBytesCodecTraits>(
     alloc: Global,
     codec: &ArrayToBytesCodec<B>,
@@ -111,6 +124,7 @@ pub(crate) fn codec_encode<'a, B: BytesToBytesCodecTraits>(
     match codec {
         ArrayToBytesCodec::Bytes(codec) => { codec.encode(alloc, held, shape, kind, fill) }
         ArrayToBytesCodec::PackBits(codec) => { codec.encode(alloc, held, shape, kind, fill) }
+        ArrayToBytesCodec::VlenV2(codec) => { codec.encode(alloc, held, shape, kind, fill) }
         ArrayToBytesCodec::Vlen(codec) => { vlen_encode(alloc, codec, held, shape, kind, fill) }
         ArrayToBytesCodec::Optional(codec) => {
             optional_encode(alloc, codec, held, shape, kind, fill)
@@ -136,7 +150,7 @@ pub(crate) fn codec_taken_encode<'a, B: BytesToBytesCodecTraits>(
 /// The chunk that a value stands for, in the container that it fixes, where the codec takes such
 /// chunks. Errors: those of the codec's `decode` behind those of its `encoded_representation`.
 #[cycle(decode)]
-#[tactic(auto, unfolding(crate::specs::ChainView::plain_codec), using(crate::proofs::CodecSteps::bytes_chunk_at, crate::proofs::CodecSteps::packbits_chunk_at, crate::proofs::TakenTight::bytes_tight_at, crate::proofs::TakenTight::packbits_tight_at))]
+#[tactic(auto, unfolding(crate::specs::ChainView::plain_codec), using(crate::proofs::CodecSteps::bytes_chunk_at, crate::proofs::CodecSteps::packbits_chunk_at, crate::proofs::VlenV2Steps::vlen_v2_chunk_at, crate::proofs::TakenTight::bytes_tight_at, crate::proofs::TakenTight::packbits_tight_at, crate::proofs::VlenV2Steps::vlen_v2_tight_at))]
 pub fn codec_decode<'a, B: BytesToBytesCodecTraits>(
     alloc: Global,
     codec: &ArrayToBytesCodec<B>,
@@ -146,12 +160,15 @@ pub fn codec_decode<'a, B: BytesToBytesCodecTraits>(
     fill: &FillValue,
 ) -> Result<ArrayBytes<'a>, CodecError>
     requires taken { Takes B.functions codec.now shape.now kind.now fill.now }
-    ensures answer { Reads B.functions codec.now shape.now kind.now fill.now value.entry result }
+    // Wide: the three parameters of a form, the value and the answer.
+    ensures answer { GivesCodecChunk B.functions (plain_codec codec.now)
+        (form_of shape.now kind.now fill.now) (items_of value.entry) result }
     ensures tight { IfOk result (IsTight kind.now) }
 {
     match codec {
         ArrayToBytesCodec::Bytes(codec) => codec.decode(alloc, value, shape, kind, fill),
         ArrayToBytesCodec::PackBits(codec) => { codec.decode(alloc, value, shape, kind, fill) }
+        ArrayToBytesCodec::VlenV2(codec) => { codec.decode(alloc, value, shape, kind, fill) }
         ArrayToBytesCodec::Vlen(codec) => { vlen_decode(alloc, codec, value, shape, kind, fill) }
         ArrayToBytesCodec::Optional(codec) => {
             optional_decode(alloc, codec, value, shape, kind, fill)
@@ -171,6 +188,7 @@ pub(crate) fn codec_reads<B>(codec: &ArrayToBytesCodec<B>) -> PartialDecoderCapa
             partial_decode: true,
         },
         ArrayToBytesCodec::PackBits(codec) => codec.partial_decoder_capability(),
+        ArrayToBytesCodec::VlenV2(codec) => codec.partial_decoder_capability(),
         ArrayToBytesCodec::Vlen(codec) => vlen_reads(codec),
         ArrayToBytesCodec::Optional(_) => PartialDecoderCapability {
             partial_read: false,
@@ -189,6 +207,7 @@ pub(crate) fn codec_writes<B>(codec: &ArrayToBytesCodec<B>) -> PartialEncoderCap
             partial_encode: true,
         },
         ArrayToBytesCodec::PackBits(codec) => codec.partial_encoder_capability(),
+        ArrayToBytesCodec::VlenV2(codec) => codec.partial_encoder_capability(),
         ArrayToBytesCodec::Vlen(_) | ArrayToBytesCodec::Optional(_) => PartialEncoderCapability {
             partial_encode: false,
         },

@@ -1,3 +1,4 @@
+ghost use Rattle.std.specs.List.{list_all};
 ghost use Rattle.std.specs.Prelude.{◌≡◌, Ok, IfOk, None, All, map};
 ghost use Rattle.zarrs_array_bytes.specs.Tight.{IsTight};
 ghost use Rattle.zarrs_array_bytes.specs.Held.{items_of};
@@ -10,7 +11,7 @@ ghost use Rattle.zarrs_chain_meaning.specs.Chain.{outer_reads as outer_reads_of}
 ghost use Rattle.zarrs_chain.specs.ChainView.{plain_chain, plain_codec, chain_of};
 ghost use Rattle.zarrs_chain_meaning.specs.Laws.{IsChainOfMappings};
 ghost use Rattle.zarrs_chain_meaning.specs.MadeAgain.{HasRanges};
-ghost use Rattle.zarrs_chain.specs.ChainCalls.{Counts, outer_writes as outer_writes_of};
+ghost use Rattle.zarrs_chain.specs.ChainCalls.{Counts};
 
 use crate::array_to_bytes_codec::{
     ArrayToBytesCodec, codec_has_ranges, codec_is_sound, codec_reads, codec_writes,
@@ -218,7 +219,7 @@ fn outer_reads<B: BytesToBytesCodecTraits>(codecs: &[B]) -> PartialDecoderCapabi
 
 /// Whether all bytes-to-bytes codecs write in part.
 fn outer_writes<B: BytesToBytesCodecTraits>(codecs: &[B]) -> bool
-    ensures value { result ≡ outer_writes_of B.writes_in_part codecs.now }
+    ensures value { result ≡ list_all (λ one. (B.writes_in_part one).partial_encode) codecs.now }
 {
     match codecs {
         [] => true,

@@ -1,8 +1,13 @@
 //! The chunk that a value stands for, through a chain.
+ghost use Rattle.zarrs_chunk.specs.Answer.{GivesBy};
+ghost use Rattle.zarrs_array_bytes.specs.Held.{items_of};
 ghost use Rattle.zarrs_array_bytes.specs.Tight.{IsTight};
+ghost use Rattle.zarrs_array_bytes.specs.Validity.{Holds};
 ghost use Rattle.std.specs.Prelude.{◌≡◌, IfOk, true};
 ghost use Rattle.zarrs_data_type.specs.FillValue.{fill_fits};
-ghost use Rattle.zarrs_chain.specs.ChainCalls.{Reads, ReadsRow};
+ghost use Rattle.zarrs_chain_meaning.specs.CodecMeaning.{chain_chunk};
+ghost use Rattle.zarrs_chain_meaning.specs.Meaning.{part_chunk};
+ghost use Rattle.zarrs_chain.specs.ChainView.{plain_chain};
 
 use crate::array_to_bytes_codec::{ArrayToBytesCodec, codec_decode};
 use crate::bytes_decode::bytes_decode;
@@ -28,7 +33,9 @@ pub(crate) fn chain_decode<'a, B: BytesToBytesCodecTraits>(
     kind: &DataType,
     fill: &FillValue,
 ) -> Result<ArrayBytes<'a>, CodecError>
-    ensures exact { Reads B.functions chain.now shape.now kind.now fill.now value.entry result }
+    // Wide: the three parameters of a form, the value and the answer.
+    ensures exact { GivesBy (Holds kind.now) result (chain_chunk B.functions (plain_chain chain.now)
+        shape.now kind.now fill.now (items_of value.entry)) }
     ensures tight { IfOk result (IsTight kind.now) }
 {
     let taken = taken_form(alloc, chain, shape, kind, fill)?;
@@ -60,7 +67,9 @@ pub(crate) fn part_decode<'a, B: BytesToBytesCodecTraits>(
     fill: &FillValue,
 ) -> Result<ArrayBytes<'a>, CodecError>
     requires filling { fill_fits kind.now fill.now ≡ true }
-    ensures exact { ReadsRow B.functions chain.now count kind.now fill.now part.entry result }
+    // Wide: a row is its count, type and fill value; the part and the answer.
+    ensures exact { GivesBy (Holds kind.now) result (part_chunk (chain_chunk B.functions
+        (plain_chain chain.now)) kind.now fill.now count (items_of part.entry)) }
     ensures tight { IfOk result (IsTight kind.now) }
 {
     match row_of(alloc, count)? {

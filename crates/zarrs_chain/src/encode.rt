@@ -2,9 +2,11 @@
 ghost use Rattle.zarrs_chunk.specs.Answer.{Gives, is_fault, checked_u64};
 ghost use Rattle.std.specs.Prelude.{◌≡◌, Ok, false};
 ghost use Rattle.zarrs_chunk.specs.ChunkShape.{product};
+ghost use Rattle.zarrs_array_bytes.specs.Held.{items_of};
 ghost use Rattle.zarrs_array_bytes.specs.Validity.{validity};
-ghost use Rattle.zarrs_chain_meaning.specs.Chain.{row_sizes};
-ghost use Rattle.zarrs_chain.specs.ChainCalls.{Writes, WritesRow};
+ghost use Rattle.zarrs_chain_meaning.specs.CallAnswers.{GivesPartValue};
+ghost use Rattle.zarrs_chain_meaning.specs.Chain.{held_value, row_sizes};
+ghost use Rattle.zarrs_chain.specs.ChainView.{plain_chain};
 
 use crate::array_to_bytes_codec::codec_encode;
 use crate::codec_chain::CodecChain;
@@ -44,7 +46,9 @@ pub(crate) fn chain_encode<'a, B: BytesToBytesCodecTraits>(
     kind: &DataType,
     fill: &FillValue,
 ) -> Result<ArrayBytesRaw<'a>, CodecError>
-    ensures exact { Writes B.functions chain.now shape.now kind.now fill.now held.entry result }
+    // Wide: the three parameters of a form, the container and the answer.
+    ensures exact { Gives items_of result (held_value B.functions (plain_chain chain.now)
+        shape.now kind.now fill.now held.entry) }
 {
     let taken = taken_form(alloc, chain, shape, kind, fill)?;
     check_elements(&held, shape, kind)?;
@@ -71,7 +75,9 @@ pub(crate) fn part_encode<'a, B: BytesToBytesCodecTraits>(
     kind: &DataType,
     fill: &FillValue,
 ) -> Result<ArrayBytesRaw<'a>, CodecError>
-    ensures exact { WritesRow B.functions chain.now count kind.now fill.now held.entry result }
+    // Wide: a row is its count, type and fill value.
+    ensures exact { GivesPartValue B.functions (plain_chain chain.now)
+        count kind.now fill.now held.entry result }
 {
     match row_of(alloc, count)? {
         Some(row) => chain_encode(alloc, chain, held, &row, kind, fill),

@@ -1,8 +1,10 @@
 //! How many bytes the value of a chunk has, through a chain.
-ghost use Rattle.zarrs_chunk.specs.Answer.{checked_u64};
+ghost use Rattle.zarrs_chunk.specs.Answer.{Gives, checked_u64};
 ghost use Rattle.std.specs.Prelude.{◌≡◌, IfOk, Ok};
 ghost use Rattle.zarrs_chunk.specs.ChunkShape.{product};
-ghost use Rattle.zarrs_chain.specs.ChainCalls.{Counts, GivesTakenForm, MapsArrays};
+ghost use Rattle.zarrs_chain_meaning.specs.Chain.{taken_form as taken_form_of};
+ghost use Rattle.zarrs_chain.specs.ChainCalls.{Counts, MapsArrays};
+ghost use Rattle.zarrs_chain.specs.ChainView.{plain_chain};
 
 use crate::array_to_bytes_codec::codec_representation;
 use crate::codec_chain::CodecChain;
@@ -31,7 +33,9 @@ pub(crate) fn taken_form<B: BytesToBytesCodecTraits>(
     kind: &DataType,
     fill: &FillValue,
 ) -> Result<TakenForm, CodecError>
-    ensures answer { GivesTakenForm B.functions chain.now shape.now kind.now fill.now result }
+    // Wide: the three parameters of a form, and both fields of the answer.
+    ensures answer { Gives (λ taken. (taken.shape, taken.representation)) result
+        (taken_form_of B.functions (plain_chain chain.now) shape.now kind.now fill.now) }
     ensures map { MapsArrays chain.now kind.now shape.now result }
     ensures counted { IfOk result (λ _. checked_u64 (product shape.now) ≡ Ok (product shape.now)) }
 {

@@ -1,10 +1,12 @@
 //! The steps of which a chain is made: what its array-to-bytes codec gets, what the bytes-to-bytes
 //! codecs and the array-to-bytes codec make of a value, and what holds of the codecs. A reader of a
 //! part of a chunk takes some of them and leaves others.
-ghost use Rattle.zarrs_chunk.specs.Answer.{checked_u64};
+ghost use Rattle.zarrs_chunk.specs.Answer.{GivesValue, checked_u64};
 ghost use Rattle.std.specs.Prelude.{◌≡◌, IfOk, Ok};
 ghost use Rattle.zarrs_chunk.specs.ChunkShape.{product};
-ghost use Rattle.zarrs_chain.specs.ChainCalls.{GivesForm, MapsArrays};
+ghost use Rattle.zarrs_chain_meaning.specs.Chain.{taken_form as taken_form_of};
+ghost use Rattle.zarrs_chain.specs.ChainCalls.{MapsArrays};
+ghost use Rattle.zarrs_chain.specs.ChainView.{plain_chain};
 
 pub use crate::array_to_bytes_codec::codec_decode;
 use crate::codec_chain::CodecChain;
@@ -27,7 +29,9 @@ pub fn taken_form<B: BytesToBytesCodecTraits>(
     data_type: &DataType,
     fill_value: &FillValue,
 ) -> Result<(ChunkShape, BytesRepresentation), CodecError>
-    ensures answer { GivesForm B.functions chain.now shape.now data_type.now fill_value.now result }
+    // Wide: the form of a chunk is three parameters, as in the Rust crate.
+    ensures answer { GivesValue result (taken_form_of B.functions (plain_chain chain.now)
+        shape.now data_type.now fill_value.now) }
     ensures map { MapsArrays chain.now data_type.now shape.now result }
     ensures counted { IfOk result (λ _. checked_u64 (product shape.now) ≡ Ok (product shape.now)) }
 {

@@ -22,6 +22,7 @@ pub mod NestedRead
 pub mod NestedRoom
 pub mod LawfulCodec
 pub mod PlainLaws
+pub mod VlenV2Laws
 pub mod VlenLaws
 pub mod OptionalLaws
 pub mod CodecLaws

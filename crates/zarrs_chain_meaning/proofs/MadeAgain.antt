@@ -24,12 +24,14 @@ use Rattle.zarrs_array_to_array.proofs.MadeAgain.{mappings_made_again}
 use Rattle.zarrs_packbits.specs.PackBitsSettings.{PackBitsSettings, is_reversed}
 use Rattle.zarrs_packbits.specs.SettingsMetadata.{read_settings, write_settings}
 use Rattle.zarrs_packbits.proofs.MadeAgain.{made_again}
+use Rattle.zarrs_vlen_v2.specs.declared.vlen_v2_codec.VlenV2Codec.{VlenV2Codec}
+use Rattle.zarrs_vlen_v2.specs.declared.vlen_v2_codec.VlenV2Codec.TheVariants.{Utf8, Bytes}
 use Rattle.zarrs_chain_meaning.specs.vlen.VlenSettings.{is_wide, is_at_end, offset_type_of, index_place}
 use Rattle.zarrs_chain_meaning.specs.Laws.{IsChainOfMappings}
 use Rattle.zarrs_chain_meaning.specs.CodecMeaning.{HasMappings, meaning}
 use Rattle.zarrs_chain_meaning.specs.MadeAgain.{IsMadeAgain, HasRanges, HasOuter, HasBytesCodecs, ChainsAreMadeAgain}
 use Rattle.zarrs_chain_meaning.specs.MadeChain.{array_made, to_bytes_made, outer_made, vlen_of_parts, optional_of_chains, asked_maker, made_by_name, codec_made, joined, gathered, finished, chain_made}
-use Rattle.zarrs_chain_meaning.specs.PlainChain.{PlainCodec, bytes_codec, packbits_codec, vlen_codec, optional_codec, PlainChain, vlen_codec_of, optional_codec_of}
+use Rattle.zarrs_chain_meaning.specs.PlainChain.{PlainCodec, bytes_codec, packbits_codec, vlen_v2_codec, vlen_codec, optional_codec, PlainChain, vlen_codec_of, optional_codec_of}
 use Rattle.zarrs_chain_meaning.specs.WrittenMetadata.{codec_configuration, to_bytes_metadata, chain_metadatas}
 use Rattle.zarrs_chain_meaning.specs.MetadataFacts.{mapping_metadata, listed}
 use Rattle.zarrs_chain_meaning.proofs.MadeAlike.{chain_made_at}
@@ -153,6 +155,10 @@ packbits-again described makes settings range = record {
   made = ap (λ r. seen (λ s. to_bytes_made (packbits_codec s)) r) (made_again settings range);
 }
 
+vlen_v2-again : {B : Type 0} (described : B → Metadata) (makes : Metadata → Result (Option B) PluginCreateError) (codec : VlenV2Codec) → IsAgain described makes (vlen_v2_codec codec)
+vlen_v2-again described makes Utf8 = record { clean = refl; made = refl }
+vlen_v2-again described makes Bytes = record { clean = refl; made = refl }
+
 vlen-again : {B : Type 0} (described : B → Metadata) (makes : Metadata → Result (Option B) PluginCreateError) (ia : List ArrayMapping) (ix : PlainCodec B) (ib : List B) (da : List ArrayMapping) (dx : PlainCodec B) (db : List B) (wide at_end : Bool)
     → IsChainAgain described makes ia ix ib → IsChainAgain described makes da dx db → IsAgain described makes (vlen_codec ia ix ib da dx db wide at_end)
 vlen-again described makes ia ix ib da dx db wide at_end index content =
@@ -182,6 +188,7 @@ unfolding meaning
 codec-again described makes (bytes_codec order) m r o =
     record { clean = clean-order order; made = ap (λ r. seen (λ o. to_bytes_made (bytes_codec o)) r) (bytes-reads_back order) }
 codec-again described makes (packbits_codec settings) m r o = packbits-again described makes settings r
+codec-again described makes (vlen_v2_codec codec) m r o = vlen_v2-again described makes codec
 codec-again described makes (vlen_codec ia ix ib da dx db wide at_end) m r o =
     vlen-again described makes ia ix ib da dx db wide at_end
     (chain-again described makes ia ix ib m.0.0 (codec-again described makes ix m.0.1 r.0 o.0.0) o.0.1)

@@ -3,7 +3,7 @@ use Rattle.std.proofs.Common.{◌≡◌, ◌∙◌, ℕ, zero, suc, ◌<◌, ◌
 use Rattle.std.specs.Prelude.{Result}
 use Rattle.zarrs_chunk.specs.Answer.{◌>>=◌, seen}
 use Rattle.zarrs_chain_meaning.specs.declared.codec_name.KnownCodec.{KnownCodec}
-use Rattle.zarrs_chain_meaning.specs.declared.codec_name.KnownCodec.TheVariants.{Transpose, Reshape, Squeeze, Bytes, PackBits, Vlen, Optional}
+use Rattle.zarrs_chain_meaning.specs.declared.codec_name.KnownCodec.TheVariants.{Transpose, Reshape, Squeeze, Bytes, PackBits, VlenV2, Vlen, Optional}
 use Rattle.zarrs_metadata.specs.CodecMetadata.{made_of}
 use Rattle.zarrs_metadata.specs.Metadata.{Metadata}
 use Rattle.zarrs_metadata.specs.OptionalConfiguration.{OptionalChains, read_optional}
@@ -11,7 +11,7 @@ use Rattle.zarrs_metadata.specs.VlenConfiguration.{VlenParts, read_vlen}
 use Rattle.zarrs_metadata.specs.declared.plugin_create_error.PluginCreateError.{PluginCreateError}
 use Rattle.zarrs_chain_meaning.specs.vlen.VlenSettings.{is_wide, is_at_end}
 use Rattle.zarrs_chain_meaning.specs.CodecNames.{codec_named, is_vlen_name, is_optional_name}
-use Rattle.zarrs_chain_meaning.specs.MadeChain.{to_bytes_made, Gathered, location_or_start, vlen_of_parts, optional_of_chains, made_by_name, codec_made, joined, gathered, finished, nothing_gathered, depth_of, depth_all, chain_in, chain_made, ChainsAreMadeAlike}
+use Rattle.zarrs_chain_meaning.specs.MadeChain.{to_bytes_made, Gathered, location_or_start, vlen_of_parts, optional_of_chains, made_by_name, codec_made, joined, gathered, finished, nothing_gathered, depth_of, depth_all, chain_in, chain_made, chain_made_by}
 use Rattle.zarrs_chain_meaning.specs.PlainChain.{PlainChain, vlen_codec_of, optional_codec_of}
 use Rattle.zarrs_chain_meaning.proofs.MetadataDepth.{VlenWithin, vlen_within, OptionalWithin, optional_within}
 
@@ -51,6 +51,7 @@ named-alike f g makes m alike (Some Reshape) = refl
 named-alike f g makes m alike (Some Squeeze) = refl
 named-alike f g makes m alike (Some Bytes) = refl
 named-alike f g makes m alike (Some PackBits) = refl
+named-alike f g makes m alike (Some VlenV2) = refl
 named-alike f g makes m alike (Some Vlen) =
     ap (λ r. seen to_bytes_made r) (same_steps (made_of is_vlen_name read_vlen m) (vlen_of_parts f) (vlen_of_parts g) (weaker (made_of is_vlen_name read_vlen m) (VlenWithin (depth_of m)) (λ parts. vlen_of_parts f parts ≡ vlen_of_parts g parts) (parts-alike f g (depth_of m) alike) (vlen_within m)))
 named-alike f g makes m alike (Some Optional) =
@@ -70,7 +71,7 @@ chain_in-alike makes (suc n) zero ms a b = absurd (omega (arith, b))
 chain_in-alike makes (suc n) (suc k) ms a b =
     ap (λ r. r >>= finished) (gathered-alike (chain_in makes n) (chain_in makes k) makes (depth_all ms) (λ xs h. chain_in-alike makes n k xs (omega (arith, h, a)) (omega (arith, h, b))) ms nothing_gathered (omega arith))
 
-pub chain_made_at : {B : Type 0} → ChainsAreMadeAlike B
+pub chain_made_at : {B : Type 0} (makes : Metadata → Result (Option B) PluginCreateError) (metadatas : List Metadata) → chain_made makes metadatas ≡ chain_made_by (chain_made makes) makes metadatas
 unfolding chain_made
 chain_made_at makes ms =
     ap (λ r. r >>= finished) (gathered-alike (chain_in makes (depth_all ms)) (chain_made makes) makes (depth_all ms) (λ xs h. chain_in-alike makes (depth_all ms) (suc (depth_all xs)) xs h (omega arith)) ms nothing_gathered (omega arith))

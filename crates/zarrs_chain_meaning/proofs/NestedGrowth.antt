@@ -45,9 +45,6 @@ GoesByCount measure =
     → All (λ size. 0 < size) sizes → All (λ size. 0 < size) others → product sizes ≡ product others
     → measure sizes type fill ≡ Ok r → measure others type fill ≡ Ok s → r ≡ s
 
-pub le_of : (m n : ℕ) → m ≡ n → m ≤ n
-le_of m n e = omega (arith, e)
-
 -- ---- bytes and packbits
 
 abbrev size_of : ℕ → BytesRepresentation

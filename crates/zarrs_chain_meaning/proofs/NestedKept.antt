@@ -17,7 +17,7 @@ use Rattle.zarrs_array_to_array.proofs.CoordinateMaps.{length-moved}
 use Rattle.zarrs_bytes.specs.ByteOrder.{bytes_of}
 use Rattle.zarrs_packbits.specs.Laws.{HasBytes}
 use Rattle.zarrs_chain_meaning.specs.BytesStages.{outer_representation, OuterWritten}
-use Rattle.zarrs_chain_meaning.specs.vlen.Vlen.{chunk_offsets, offset_bytes, offset_elements, vlen_layout, offset_type, VlenWritten}
+use Rattle.zarrs_chain_meaning.specs.vlen.Vlen.{chunk_offsets, offset_bytes, offset_elements, offset_type, VlenWritten, arranged}
 use Rattle.zarrs_chain_meaning.specs.Parts.{length_bytes, byte_elements, all_bytes, byte_type}
 use Rattle.zarrs_chain_meaning.specs.optional.Optional.{flag_of, present_of, optional_layout, flag_type, blank_fill, bounded, both_representations, optional_representation, OptionalWrittenFor}
 use Rattle.zarrs_chain_meaning.specs.Meaning.{Measure, around_representation, Standing, PartWritten, WrittenThrough, Keeping}
@@ -133,7 +133,7 @@ part_within write measure law grows type fill part (x ∷ chunk) sizes s positiv
 
 -- ---- layouts
 
-layout_are : (at_end : Bool) (index items : List ℕ) → AreBytes index → AreBytes items → AreBytes (vlen_layout at_end index items)
+layout_are : (at_end : Bool) (index items : List ℕ) → AreBytes index → AreBytes items → AreBytes (arranged at_end (length_bytes index) index items)
 layout_are false index items i d = All-append is_byte (length_bytes index) (index ++ items) (length_are index) (All-append is_byte index items i d)
 layout_are true index items i d = All-append is_byte items (index ++ length_bytes index) d (All-append is_byte index (length_bytes index) i (length_are index))
 

@@ -7,7 +7,7 @@ use Rattle.std.proofs.lemmas.List.FromFn.{length-map-range_with_len}
 use Rattle.zarrs_chunk.specs.Answer.{demand, checked_u64}
 use Rattle.zarrs_chunk.specs.ChunkShape.{product}
 use Rattle.zarrs_chunk.specs.declared.codec_error.CodecError.TheVariants.{InvalidOffsets}
-use Rattle.zarrs_data_type.specs.ElementType.{ElementType, fixed, text, bytes, optional, is_variable}
+use Rattle.zarrs_data_type.specs.ElementType.{ElementType, optional, is_variable}
 use Rattle.zarrs_data_type.specs.Element.{Element, plain, Chunk, IsElement, AreElements}
 use Rattle.zarrs_array_bytes.specs.Elements.{cut}
 use Rattle.zarrs_array_bytes.specs.Offsets.{rises, last_of}
@@ -24,6 +24,7 @@ use Rattle.zarrs_chain_meaning.specs.Meaning.{Decoder, part_chunk, around_chunk,
 use Rattle.zarrs_chain_meaning.specs.vlen.Vlen.{offsets_in_chunk, slices, vlen_parts, vlen_chunk, offset_bytes, offset_type, VlenStands}
 use Rattle.zarrs_chain_meaning.specs.optional.Optional.{optional_parts, flags_in, count_set, under_flags, optional_chunk, flag_of, present_of, flag_type, blank_fill, OptionalStands}
 use Rattle.zarrs_chain_meaning.specs.Parts.{all_bytes, byte_type}
+use Rattle.zarrs_vlen_v2.proofs.Rows.{string_is}
 use Rattle.zarrs_chain_meaning.proofs.ArraySteps.{ok_is}
 use Rattle.zarrs_chain_meaning.proofs.NestedParts.{vlen_cut, optional_cut_found, flag_element, flags_found, flags_under, present_under, length_under, elements_under}
 use Rattle.zarrs_chain_meaning.proofs.NestedStages.{arrays_are_map, row_positive}
@@ -59,12 +60,6 @@ part_read stand decode law type fill (suc count) part chunk e =
     (row_stands stand type fill part count chunk long read.0, long, read.1.each)
 
 -- ---- codecs with chains inside
-
-string_is : (type : ElementType) (items : List ℕ) → is_variable type ≡ true → IsElement type (plain items)
-string_is (fixed width components sign) items v = absurd cc
-string_is text items v = tt
-string_is bytes items v = tt
-string_is (optional type) items v = absurd cc
 
 strings_are : (type : ElementType) (made : ℕ → List ℕ) (places : List ℕ) → is_variable type ≡ true → AreElements type (map (λ place. plain (made place)) places)
 strings_are type made [] v = All-nil (IsElement type)

@@ -86,7 +86,7 @@ packed_fits settings sizes (optional type) fill l e = absurd cc
 
 -- ---- vlen, optional
 
-row_room : (count : ℕ) → count + 1 < 2 ^ 64 → demand {E = CodecError} (nat_lt (count + 1) (2 ^ 64)) Overflow ≡ Ok tt
+pub row_room : (count : ℕ) → count + 1 < 2 ^ 64 → demand {E = CodecError} (nat_lt (count + 1) (2 ^ 64)) Overflow ≡ Ok tt
 row_room count l = let t : nat_lt (count + 1) (2 ^ 64) ≡ true = grind (arith, nat_tests) in rw t refl
 
 pub vlen_room : HasRoom vlen_representation

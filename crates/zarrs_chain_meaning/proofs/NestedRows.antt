@@ -3,16 +3,17 @@ use Rattle.std.proofs.Common.{◌≡◌, ℕ, suc, ◌+◌, ◌<◌, ◌≤◌, 
 use Rattle.std.proofs.lemmas.List.{ext_get_or, length-append}
 use Rattle.std.proofs.lemmas.List.FromFn.{length-map-range_with_len, get_or-map-range_with_len}
 use Rattle.std.proofs.lemmas.Nat.{from_le_bytes-to_le_bytes_8, from_le_bytes-to_le_bytes_4}
-use Rattle.zarrs_data_type.specs.ElementType.{ElementType, fixed, text, bytes, optional, is_variable}
-use Rattle.zarrs_data_type.specs.Element.{Element, plain, absent, present, Chunk, IsElement, AreElements}
+use Rattle.zarrs_data_type.specs.ElementType.{ElementType, is_variable}
+use Rattle.zarrs_data_type.specs.Element.{Element, plain, absent, Chunk, AreElements}
 use Rattle.zarrs_array_bytes.specs.Elements.{cut}
 use Rattle.zarrs_array_bytes.specs.Offsets.{rises, last_of}
 use Rattle.zarrs_array_bytes.specs.Pieces.{ends}
 use Rattle.zarrs_array_bytes.proofs.ElementLemmas.{cut_at, length_ends}
 use Rattle.zarrs_array_bytes.proofs.OffsetLemmas.{ends_rise, offsets_end}
 use Rattle.zarrs_bytes.specs.ByteOrder.{bytes_of}
+use Rattle.zarrs_vlen_v2.proofs.Rows.{plain_is}
 use Rattle.zarrs_chain_meaning.specs.Parts.{length_of, length_bytes, byte_elements, all_bytes}
-use Rattle.zarrs_chain_meaning.specs.vlen.Vlen.{offset_of, offsets_in_chunk, slices, chunk_offsets, offset_bytes, offset_elements, offset_fits, vlen_layout, arranged}
+use Rattle.zarrs_chain_meaning.specs.vlen.Vlen.{offset_of, offsets_in_chunk, slices, chunk_offsets, offset_bytes, offset_elements, offset_fits, arranged}
 use Rattle.zarrs_chunk.proofs.Inside.{from_lt_test, lt_test}
 
 -- ---- lengths
@@ -21,12 +22,8 @@ pub length_again : (part : List ℕ) → length part < 2 ^ 64 → length_of (len
 unfolding length_of length_bytes
 length_again part lt = from_le_bytes-to_le_bytes_8 (length part) lt
 
-pub layout_arranged : (at_end : Bool) (index items : List ℕ) → vlen_layout at_end index items ≡ arranged at_end (length_bytes index) index items
-layout_arranged false index items = refl
-layout_arranged true index items = refl
-
 -- the index is no longer than the value
-pub index_small : (at_end : Bool) (index items : List ℕ) → length (vlen_layout at_end index items) < 2 ^ 64 → length index < 2 ^ 64
+pub index_small : (at_end : Bool) (index items : List ℕ) → length (arranged at_end (length_bytes index) index items) < 2 ^ 64 → length index < 2 ^ 64
 index_small false index items lt = omega (arith, lt, length-append (length_bytes index) (index ++ items), length-append index items)
 index_small true index items lt = omega (arith, lt, length-append items (index ++ length_bytes index), length-append index (length_bytes index))
 
@@ -73,16 +70,6 @@ pub offsets_long : (wide : Bool) (chunk : Chunk) → length (offset_elements wid
 offsets_long wide chunk = omega (arith, elements_long wide (chunk_offsets chunk), length_ends 0 (map bytes_of chunk), bytes_long chunk)
 
 -- ---- elements
-
-plain_is : (type : ElementType) (element : Element) → is_variable type ≡ true → IsElement type element → plain (bytes_of element) ≡ element
-plain_is (fixed width components sign) element v h = absurd cc
-plain_is text (plain items) v h = refl
-plain_is text absent v h = absurd h
-plain_is text (present element) v h = absurd h
-plain_is bytes (plain items) v h = refl
-plain_is bytes absent v h = absurd h
-plain_is bytes (present element) v h = absurd h
-plain_is (optional type) element v h = absurd cc
 
 slice_again : (chunk : Chunk) (place : ℕ) → place < length chunk → cut (chunk_offsets chunk) (all_bytes chunk) place ≡ bytes_of (get_or chunk place absent)
 slice_again chunk place lt = rw add-one (cut_at bytes_of [] 0 chunk place absent refl lt)

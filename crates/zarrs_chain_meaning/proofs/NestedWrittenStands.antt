@@ -26,7 +26,7 @@ use Rattle.zarrs_chain_meaning.proofs.NestedFlags.{KeepsFlags, flags_stay}
 use Rattle.zarrs_chain_meaning.proofs.NestedForNormal.{IsStringKept, text_kept, bytes_kept, offsets_kept, all_kept, items_kept, flags_kept, present_kept}
 use Rattle.zarrs_chain_meaning.proofs.NestedKept.{KeepsSize, offsets_have, items_have, all_are, flags_have, present_have, length_long}
 use Rattle.zarrs_chain_meaning.proofs.NestedNormal.{KeepsTypes, KeepsAbsent, kept_byte, all_kept_are, kept_elements, kept_selected}
-use Rattle.zarrs_chain_meaning.proofs.NestedRows.{length_again, layout_arranged, index_small, offsets_again, offsets_rise, offsets_last, offsets_long, slices_again, items_again, items_long}
+use Rattle.zarrs_chain_meaning.proofs.NestedRows.{length_again, index_small, offsets_again, offsets_rise, offsets_last, offsets_long, slices_again, items_again, items_long}
 use Rattle.zarrs_chain_meaning.proofs.NestedStages.{all_selected, outer_opened, arrays_are_map, row_positive}
 
 -- what a chain writes stands for what is kept
@@ -77,7 +77,7 @@ string_stands wide at_end own keep iw cw is cs string ilaw claw k s type count v
       data_part = w.data_part;
       offset_chunk = rows;
       byte_chunk = kept_items;
-      parts = w.parts ∙ layout_arranged at_end w.index_part w.data_part;
+      parts = w.parts;
       head_size = length_long w.index_part;
       head_is = length_again w.index_part small;
       countable = countable;

@@ -3,7 +3,8 @@ use Rattle.std.proofs.Common.{◌≡◌, Bool, Option, Some, None, List, [], ◌
 use Rattle.zarrs_data_type.specs.declared.endianness.Endianness.{Endianness}
 use Rattle.zarrs_array_to_array.specs.ArrayToArrayCodec.{ArrayMapping}
 use Rattle.zarrs_chain_meaning.specs.PlainChain.{PlainCodec, bytes_codec, vlen_codec}
-use Rattle.zarrs_chain_meaning.specs.vlen.PlainVlen.{lone_bytes, PlainIsPlain}
+use Rattle.zarrs_chain_meaning.specs.CodecFacts.{facts, if_alone}
+use Rattle.zarrs_chain_meaning.specs.vlen.PlainVlen.{plain_codec_of, plain_form_of}
 use Rattle.zarrs_chain_meaning.specs.vlen.PlainForm.{PlainForm, form_of_chains}
 use Rattle.zarrs_array_to_array.proofs.AnswerSteps.{some_is}
 
@@ -13,7 +14,7 @@ record IsLone {B : Type 0} (arrays : List ArrayMapping) (codec : PlainCodec B) (
   pub codec_is : codec ≡ bytes_codec order
   pub outer_is : outer ≡ []
 
-lone : {B : Type 0} (arrays : List ArrayMapping) (codec : PlainCodec B) (outer : List B) (order : Option Endianness) → lone_bytes arrays codec outer ≡ Some order → IsLone arrays codec outer order
+lone : {B : Type 0} (arrays : List ArrayMapping) (codec : PlainCodec B) (outer : List B) (order : Option Endianness) → if_alone arrays (facts codec).order outer ≡ Some order → IsLone arrays codec outer order
 lone [] (bytes_codec found) [] order e = record { arrays_are = refl; codec_is = ap bytes_codec (some_is found order e); outer_is = refl }
 lone [] _ [] order e = absurd cc
 lone [] codec (b ∷ bs) order e = absurd cc
@@ -35,9 +36,9 @@ form_is (Some (Some order)) None wide at_end form e = absurd cc
 form_is (Some None) content wide at_end form e = absurd cc
 form_is None content wide at_end form e = absurd cc
 
-pub plain_is_plain : (B : Type 0) → PlainIsPlain B
+pub plain_is_plain : (B : Type 0) (codec : PlainCodec B) (form : PlainForm) → plain_form_of codec ≡ Some form → (content : Option Endianness) × (codec ≡ plain_codec_of form content)
 plain_is_plain B (vlen_codec ia ix ib da dx db wide at_end) form e =
-    let f = form_is (lone_bytes ia ix ib) (lone_bytes da dx db) wide at_end form e in
+    let f = form_is (if_alone ia (facts ix).order ib) (if_alone da (facts dx).order db) wide at_end form e in
     let i = lone ia ix ib (Some form.order) f.index_is in
     let d = lone da dx db f.inner f.content_is in
     (f.inner, λ k. vlen_codec (i.arrays_are k) (i.codec_is k) (i.outer_is k) (d.arrays_are k) (d.codec_is k) (d.outer_is k) (f.wide_is k) (f.at_end_is k))

@@ -22,7 +22,7 @@ use Rattle.zarrs_chain_meaning.proofs.PackedElements.{packed_bytes, element_is, 
 use Rattle.zarrs_chain_meaning.proofs.NestedFlags.{flag_by}
 use Rattle.zarrs_chain_meaning.proofs.NestedStages.{spelling_bytes}
 use Rattle.zarrs_chain_meaning.proofs.NestedWritten as writing
-use Rattle.zarrs_chain_meaning.proofs.NestedGrowth.{fixed_grows, bytes_grows, packed_grows, fixed_same, le_of}
+use Rattle.zarrs_chain_meaning.proofs.NestedGrowth.{fixed_grows, bytes_grows, packed_grows, fixed_same}
 use Rattle.zarrs_chain_meaning.proofs.NestedKept as keeping
 use Rattle.zarrs_chain_meaning.proofs.NestedForNormal as normal
 use Rattle.zarrs_chain_meaning.proofs.LawfulCodec.{IsLawfulCodec}
@@ -64,7 +64,7 @@ bytes_laws order = record {
   by_count = λ f has sizes others type fill r s p q h a b.
       let one = seen_ok FixedSize (bytes_length order (form_of sizes type fill)) r a in
       let two = seen_ok FixedSize (bytes_length order (form_of others type fill)) s b in
-      fixed_same one.0 two.0 r s one.2 two.2 (bytes_grows order sizes others type fill one.0 two.0 (le_of _ _ h) one.1 two.1) (bytes_grows order others sizes type fill two.0 one.0 (le_of _ _ (sym h)) two.1 one.1);
+      fixed_same one.0 two.0 r s one.2 two.2 (bytes_grows order sizes others type fill one.0 two.0 (omega (arith, h)) one.1 two.1) (bytes_grows order others sizes type fill two.0 one.0 (omega (arith, h)) two.1 one.1);
   sized = λ f lawful has sizes type fill value chunk r positive long each w e. record {
     each = subst AreBytes (sym w.value_is) (spelling_bytes order type chunk each);
     keeps = keeping.fixed_kept (bytes_length order (form_of sizes type fill)) r value e (λ len l. bytes_law.has_represented_length order sizes type fill value chunk len w l);
@@ -119,7 +119,7 @@ packbits_laws settings = record {
   by_count = λ f has sizes others type fill r s p q h a b.
       let one = seen_ok FixedSize (packbits_length settings (form_of sizes type fill)) r a in
       let two = seen_ok FixedSize (packbits_length settings (form_of others type fill)) s b in
-      fixed_same one.0 two.0 r s one.2 two.2 (packed_grows settings sizes others type fill one.0 two.0 (le_of _ _ h) one.1 two.1) (packed_grows settings others sizes type fill two.0 one.0 (le_of _ _ (sym h)) two.1 one.1);
+      fixed_same one.0 two.0 r s one.2 two.2 (packed_grows settings sizes others type fill one.0 two.0 (omega (arith, h)) one.1 two.1) (packed_grows settings others sizes type fill two.0 one.0 (omega (arith, h)) two.1 one.1);
   sized = λ f lawful has sizes type fill value chunk r positive long each w e. record {
     each = packed_bytes settings sizes type fill value chunk w;
     keeps = keeping.fixed_kept (packbits_length settings (form_of sizes type fill)) r value e (λ len l. packbits.has_represented_length settings sizes type fill value chunk len w l);

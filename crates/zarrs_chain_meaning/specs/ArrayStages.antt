@@ -1,14 +1,11 @@
 -- What the array-to-array codecs of a chain do, one after another.
 use Rattle.std.specs.Prelude.{ℕ, List, [], ◌∷◌, Result, Ok, IfOk, map}
-use Rattle.zarrs_chunk.specs.Answer.{◌>>=◌, AnswersBy, memory}
+use Rattle.zarrs_chunk.specs.Answer.{◌>>=◌}
 use Rattle.zarrs_chunk.specs.declared.codec_error.CodecError.{CodecError}
 use Rattle.zarrs_data_type.specs.ElementType.{ElementType}
 use Rattle.zarrs_codec.specs.CoordinateMap.{CoordinateMap, IsCoordinateMap, same_places, composition}
 use Rattle.zarrs_array_to_array.specs.ArrayToArrayCodec.{ArrayMapping, coordinates}
 use Rattle.zarrs_array_to_array.specs.CodecAnswers.{type_taken}
-use Rattle.zarrs_array_bytes.specs.Held.{Held}
-use Rattle.zarrs_array_bytes.specs.Validity.{Holds}
-use Rattle.zarrs_codec.specs.MappedChunk.{encoded_chunk, decoded_chunk}
 use Rattle.zarrs_array_to_array.specs.Mapping.{mapping_of}
 use Rattle.zarrs_array_to_array.specs.declared.array_to_array_codec.ArrayToArrayCodec.{ArrayToArrayCodec}
 
@@ -37,13 +34,3 @@ map_through type codecs sizes = arrays_map type (map mapping_of codecs) sizes
 -- what the given codecs do is a coordinate map, where they take such chunks
 abbrev pub IsMapThrough : ElementType → List ArrayToArrayCodec → List ℕ → Type 0
 IsMapThrough type codecs sizes = IsMapWhere type (map mapping_of codecs) sizes
-
--- the container of the chunk that the codecs make of the held one, where they take it
-abbrev pub EncodesThrough : ElementType → List ArrayToArrayCodec → List ℕ → Held → Result Held CodecError → Type 0
-EncodesThrough type codecs sizes held result =
-    IfOk (encoded_chunk (Ok tt) (map_through type codecs sizes) type sizes held) (λ moved. AnswersBy memory (Holds type) result (Ok moved))
-
--- and of the chunk that they make the held one of
-abbrev pub DecodesThrough : ElementType → List ArrayToArrayCodec → List ℕ → Held → Result Held CodecError → Type 0
-DecodesThrough type codecs sizes held result =
-    IfOk (decoded_chunk (Ok tt) (map_through type codecs sizes) type sizes held) (λ moved. AnswersBy memory (Holds type) result (Ok moved))

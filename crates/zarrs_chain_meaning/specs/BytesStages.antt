@@ -1,11 +1,8 @@
 -- What the bytes-to-bytes codecs of a chain do, one after another.
 use Rattle.std.specs.Prelude.{◌≡◌, ℕ, ◌<◌, ◌^◌, nat_lt, if◌then◌else◌, List, [], ◌∷◌, length, Result, Ok, Err}
-use Rattle.std.specs.declared.alloc.Global.{Global}
-use Rattle.std.specs.declared.borrow.CowSlice.{CowSlice}
-use Rattle.zarrs_chunk.specs.Answer.{◌>>=◌, Gives}
+use Rattle.zarrs_chunk.specs.Answer.{◌>>=◌}
 use Rattle.zarrs_chunk.specs.declared.codec_error.CodecError.{CodecError}
 use Rattle.zarrs_chunk.specs.declared.codec_error.CodecError.TheVariants.{OutOfMemory}
-use Rattle.zarrs_array_bytes.specs.Held.{items_of}
 use Rattle.zarrs_codec.specs.BytesToBytesCodec.{BytesCodecs}
 use Rattle.zarrs_codec.specs.declared.bytes_representation.BytesRepresentation.{BytesRepresentation}
 
@@ -26,14 +23,6 @@ outer_bytes f [] r value = Ok value
 outer_bytes f (codec ∷ codecs) r value = do
   above ← outer_bytes f codecs (f.representation codec r) value
   f.decoded_bytes codec r above
-
--- what the codecs make of these bytes is given: the last one's
-abbrev pub EncodesOuter : {B : Type 0} → BytesCodecs B → List B → CowSlice ℕ Global → Result (CowSlice ℕ Global) CodecError → Type 0
-EncodesOuter f codecs bytes result = Gives items_of result (outer_value f codecs (items_of bytes))
-
--- the bytes that the codecs made a value of are given, or the error of one of them
-abbrev pub DecodesOuter : {B : Type 0} → BytesCodecs B → List B → BytesRepresentation → CowSlice ℕ Global → Result (CowSlice ℕ Global) CodecError → Type 0
-DecodesOuter f codecs r value result = Gives items_of result (outer_bytes f codecs r (items_of value))
 
 -- how many bytes the last codec makes
 abbrev pub outer_representation : {B : Type 0} → BytesCodecs B → List B → BytesRepresentation → BytesRepresentation

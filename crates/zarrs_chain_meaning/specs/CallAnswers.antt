@@ -9,9 +9,8 @@ use Rattle.zarrs_array_bytes.specs.Held.{Held, items_of}
 use Rattle.zarrs_array_bytes.specs.Validity.{Holds}
 use Rattle.zarrs_codec.specs.BytesToBytesCodec.{BytesCodecs}
 use Rattle.zarrs_codec.specs.declared.bytes_representation.BytesRepresentation.{BytesRepresentation}
-use Rattle.zarrs_chain_meaning.specs.Chain.{codec_held_value, held_value, taken_chunk, held_part}
-use Rattle.zarrs_chain_meaning.specs.CodecMeaning.{chain_chunk, codec_chunk, chain_representation, codec_representation}
-use Rattle.zarrs_chain_meaning.specs.Meaning.{part_chunk}
+use Rattle.zarrs_chain_meaning.specs.Chain.{codec_held_value, taken_chunk, held_part}
+use Rattle.zarrs_chain_meaning.specs.CodecMeaning.{codec_chunk, chain_representation, codec_representation}
 use Rattle.zarrs_chain_meaning.specs.PlainChain.{PlainCodec, PlainChain}
 use Rattle.zarrs_data_type.specs.ElementType.{ElementType}
 
@@ -36,10 +35,6 @@ GivesChainRepresentation f chain form result =
 abbrev pub GivesCodecValue : {B : Type 0} → BytesCodecs B → PlainCodec B → Form → Held → Result (CowSlice ℕ Global) CodecError → Type 0
 GivesCodecValue f codec form held result = Gives items_of result (codec_held_value f codec form.sizes form.type form.fill held)
 
--- and a chain
-abbrev pub GivesChainValue : {B : Type 0} → BytesCodecs B → PlainChain B → Form → Held → Result (CowSlice ℕ Global) CodecError → Type 0
-GivesChainValue f chain form held result = Gives items_of result (held_value f chain form.sizes form.type form.fill held)
-
 -- a container of the chunk that a value stands for, of a codec that takes such chunks; or the first error
 abbrev pub GivesCodecChunk : {B : Type 0} → BytesCodecs B → PlainCodec B → Form → List ℕ → Result Held CodecError → Type 0
 GivesCodecChunk f codec form value result = GivesBy (Holds form.type) result (codec_chunk f codec form.sizes form.type form.fill value)
@@ -48,14 +43,6 @@ GivesCodecChunk f codec form value result = GivesBy (Holds form.type) result (co
 abbrev pub GivesTakenChunk : {B : Type 0} → BytesCodecs B → PlainCodec B → Form → List ℕ → Result Held CodecError → Type 0
 GivesTakenChunk f codec form value result = GivesBy (Holds form.type) result (taken_chunk f codec form.sizes form.type form.fill value)
 
--- and of a chain
-abbrev pub GivesChainChunk : {B : Type 0} → BytesCodecs B → PlainChain B → Form → List ℕ → Result Held CodecError → Type 0
-GivesChainChunk f chain form value result = GivesBy (Holds form.type) result (chain_chunk f chain form.sizes form.type form.fill value)
-
 -- the part that a chain writes of a row of so many elements that a container holds
 abbrev pub GivesPartValue : {B : Type 0} → BytesCodecs B → PlainChain B → ℕ → ElementType → List ℕ → Held → Result (CowSlice ℕ Global) CodecError → Type 0
 GivesPartValue f chain count type fill held result = Gives items_of result (held_part f chain count type fill held)
-
--- a container of the row of so many elements that a part stands for
-abbrev pub GivesPartChunk : {B : Type 0} → BytesCodecs B → PlainChain B → ℕ → ElementType → List ℕ → List ℕ → Result Held CodecError → Type 0
-GivesPartChunk f chain count type fill part result = GivesBy (Holds type) result (part_chunk (chain_chunk f chain) type fill count part)

@@ -6,7 +6,7 @@ use Rattle.zarrs_codec.specs.declared.capabilities.PartialDecoderCapability.{Par
 use Rattle.zarrs_codec.specs.declared.capabilities.PartialEncoderCapability.{PartialEncoderCapability}
 use Rattle.zarrs_array_to_array.specs.ArrayToArrayCodec.{ArrayMapping}
 use Rattle.zarrs_packbits.specs.PackBitsSettings.{PackBitsSettings, packed_layout}
-use Rattle.zarrs_chain_meaning.specs.PlainChain.{PlainCodec, bytes_codec, packbits_codec, vlen_codec, optional_codec}
+use Rattle.zarrs_chain_meaning.specs.PlainChain.{PlainCodec, bytes_codec, packbits_codec, vlen_v2_codec, vlen_codec, optional_codec}
 use Rattle.zarrs_chain_meaning.specs.vlen.PlainForm.{PlainForm, form_of_chains}
 
 -- What is read and what is written in part. Of `bytes` its byte order; of a plain `vlen` its form. Of `packbits`: it takes chunks of a form.
@@ -26,36 +26,6 @@ if_alone _ _ _ = None
 abbrev pub reads_all_if : Bool → PartialDecoderCapability
 reads_all_if test = record { partial_read = test; partial_decode = test }
 
--- those of `bytes`
-abbrev pub bytes_facts : Option Endianness → Facts
-bytes_facts order = record {
-  reads = reads_all_if true;
-  writes = record { partial_encode = true };
-  order = Some order;
-  plain = None;
-  Packs = λ form. Unit {0};
-}
-
--- those of `packbits`
-abbrev pub packbits_facts : PackBitsSettings → Facts
-packbits_facts settings = record {
-  reads = reads_all_if true;
-  writes = record { partial_encode = false };
-  order = None;
-  plain = None;
-  Packs = λ form. IsOk (packed_layout settings form);
-}
-
--- those of `vlen`, by the byte orders of its chains where each is `bytes` alone: it is read in part where it is plain
-abbrev pub vlen_facts : Bool → Bool → (index content : Option (Option Endianness)) → Facts
-vlen_facts wide at_end index content = record {
-  reads = reads_all_if (is_some (form_of_chains index content wide at_end));
-  writes = record { partial_encode = false };
-  order = None;
-  plain = form_of_chains index content wide at_end;
-  Packs = λ form. Unit {0};
-}
-
 -- those of a codec that is read and written whole
 abbrev pub whole_facts : Facts
 whole_facts = record {
@@ -66,9 +36,23 @@ whole_facts = record {
   Packs = λ form. Unit {0};
 }
 
+-- those of `bytes`
+abbrev pub bytes_facts : Option Endianness → Facts
+bytes_facts order = record whole_facts { reads = reads_all_if true; writes = record { partial_encode = true }; order = Some order }
+
+-- those of `packbits`
+abbrev pub packbits_facts : PackBitsSettings → Facts
+packbits_facts settings = record whole_facts { reads = reads_all_if true; Packs = λ form. IsOk (packed_layout settings form) }
+
+-- those of `vlen`, by the byte orders of its chains where each is `bytes` alone: it is read in part where it is plain
+abbrev pub vlen_facts : Bool → Bool → (index content : Option (Option Endianness)) → Facts
+vlen_facts wide at_end index content =
+    record whole_facts { reads = reads_all_if (is_some (form_of_chains index content wide at_end)); plain = form_of_chains index content wide at_end }
+
 -- those of an array-to-bytes codec: the one definition that goes by all of them
 abbrev pub facts : {B : Type 0} → PlainCodec B → Facts
 facts (bytes_codec order) = bytes_facts order
 facts (packbits_codec settings) = packbits_facts settings
+facts (vlen_v2_codec codec) = whole_facts
 facts (vlen_codec ia ix ib da dx db wide at_end) = vlen_facts wide at_end (if_alone ia (facts ix).order ib) (if_alone da (facts dx).order db)
 facts (optional_codec ma mx mb da dx db) = whole_facts

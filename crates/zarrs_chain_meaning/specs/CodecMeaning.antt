@@ -2,9 +2,10 @@
 use Rattle.std.specs.Prelude.{Ok, map, Option}
 use Rattle.zarrs_bytes.specs.BytesCodec.{bytes_length, BytesStands, BytesWritten, spelling, bytes_chunk}
 use Rattle.zarrs_chain_meaning.specs.Meaning.{Measure, Encoder, Decoder, Standing, Keeping, Meaning, through}
-use Rattle.zarrs_chain_meaning.specs.PlainChain.{PlainCodec, bytes_codec, packbits_codec, vlen_codec, optional_codec, PlainChain}
+use Rattle.zarrs_chain_meaning.specs.PlainChain.{PlainCodec, bytes_codec, packbits_codec, vlen_v2_codec, vlen_codec, optional_codec, PlainChain}
 use Rattle.zarrs_chain_meaning.specs.optional.Optional.{optional_meaning}
 use Rattle.zarrs_chain_meaning.specs.vlen.Vlen.{vlen_meaning}
+use Rattle.zarrs_chain_meaning.specs.vlen_v2.VlenV2.{vlen_v2_meaning}
 use Rattle.zarrs_chunk.specs.Answer.{◌>>=◌, seen}
 use Rattle.zarrs_codec.specs.BytesToBytesCodec.{BytesCodecs}
 use Rattle.zarrs_codec.specs.declared.bytes_representation.BytesRepresentation.TheVariants.{FixedSize}
@@ -30,19 +31,13 @@ bytes_meaning order = record {
   Written = λ f sizes type fill value chunk. BytesWritten order (form_of sizes type fill) value chunk;
 }
 
--- the kept bits of the components, packed
-abbrev pub packed_value : PackBitsSettings → Encoder
-packed_value settings sizes type fill chunk = do
-  l ← packed_layout settings (form_of sizes type fill)
-  Ok (value_with l (chunk_stream l chunk))
-
 -- what `packbits` means
 abbrev pub packbits_meaning : {B : Type 0} → PackBitsSettings → Meaning B
 packbits_meaning settings = record {
   Mapped = Unit {0};
   normal = packbits.normal_element settings;
   representation = λ f sizes type fill. seen FixedSize (packbits_length settings (form_of sizes type fill));
-  value = λ f. packed_value settings;
+  value = λ f sizes type fill chunk. packed_layout settings (form_of sizes type fill) >>= λ l. Ok (value_with l (chunk_stream l chunk));
   chunk = λ f sizes type fill value. packbits_chunk settings (form_of sizes type fill) value;
   Stands = λ f sizes type fill value chunk. PackBitsStands settings (form_of sizes type fill) value chunk;
   Written = λ f sizes type fill value chunk. PackBitsWritten settings (form_of sizes type fill) value chunk;
@@ -52,6 +47,7 @@ packbits_meaning settings = record {
 unfoldable pub meaning : {B : Type 0} → PlainCodec B → Meaning B
 meaning (bytes_codec order) = bytes_meaning order
 meaning (packbits_codec settings) = packbits_meaning settings
+meaning (vlen_v2_codec codec) = vlen_v2_meaning codec
 meaning (vlen_codec ia ix ib da dx db wide at_end) = vlen_meaning wide at_end (through ia (meaning ix) ib) (through da (meaning dx) db)
 meaning (optional_codec ma mx mb da dx db) = optional_meaning (through ma (meaning mx) mb) (through da (meaning dx) db)
 

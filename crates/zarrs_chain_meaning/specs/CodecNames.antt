@@ -2,8 +2,9 @@
 use Rattle.std.specs.Prelude.{ℕ, Bool, ◌||◌, List, Option, Some, None, codes, if◌then◌else◌}
 use Rattle.std.specs.Str.{bytes_eq}
 use Rattle.zarrs_chain_meaning.specs.declared.codec_name.KnownCodec.{KnownCodec}
-use Rattle.zarrs_chain_meaning.specs.declared.codec_name.KnownCodec.TheVariants.{Transpose, Reshape, Squeeze, Bytes, PackBits, Vlen, Optional}
+use Rattle.zarrs_chain_meaning.specs.declared.codec_name.KnownCodec.TheVariants.{Transpose, Reshape, Squeeze, Bytes, PackBits, VlenV2, Vlen, Optional}
 use Rattle.zarrs_metadata.specs.CodecMetadata.{is_transpose_name, is_reshape_name, is_squeeze_name, is_bytes_name, is_packbits_name}
+use Rattle.zarrs_vlen_v2.specs.VlenV2Metadata.{is_vlen_v2_name}
 
 -- vlen, which is written by the first of its names
 abbrev pub vlen_name : List ℕ
@@ -28,6 +29,7 @@ codec_named name =
     else if is_squeeze_name name then Some Squeeze
     else if is_bytes_name name then Some Bytes
     else if is_packbits_name name then Some PackBits
+    else if is_vlen_v2_name name then Some VlenV2
     else if is_vlen_name name then Some Vlen
     else if is_optional_name name then Some Optional
     else None

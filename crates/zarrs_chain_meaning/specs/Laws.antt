@@ -2,9 +2,8 @@
 use Rattle.std.specs.Prelude.{◌≡◌, ◌<◌, ◌↔◌, ℕ, List, Ok, All, ◌≤◌}
 use Rattle.zarrs_data_type.specs.ElementType.{ElementType}
 use Rattle.zarrs_chunk.specs.ChunkShape.{product}
-use Rattle.zarrs_data_type.specs.Element.{Chunk, AreElements}
+use Rattle.zarrs_data_type.specs.Element.{Chunk}
 use Rattle.zarrs_array_bytes.specs.Update.{update}
-use Rattle.zarrs_codec.specs.CoordinateMap.{CoordinateMap, moved_chunk}
 use Rattle.zarrs_codec.specs.BytesToBytesCodec.{BytesCodecs, IsLawful, KeepsTo, IsAtMost}
 use Rattle.zarrs_codec.specs.declared.bytes_representation.BytesRepresentation.{BytesRepresentation}
 use Rattle.zarrs_array_to_array.specs.ArrayToArrayCodec.{IsMapping}
@@ -58,18 +57,6 @@ ValueIsWritten {B} f =
     (chain : PlainChain B) (sizes : List ℕ) (type : ElementType) (fill value : List ℕ) (chunk : Chunk)
     → IsChainOfMappings chain → All (λ size. 0 < size) sizes → IsChunk type (product sizes) chunk
     → (chain_value f chain sizes type fill chunk ≡ Ok value) ↔ ChainWritten f chain sizes type fill value chunk
-
--- The normal form of a normal form is the same, for elements of the type.
-abbrev pub NormalTwice : Type 0 → Type 0
-NormalTwice B =
-    (codec : PlainCodec B) (type : ElementType) (chunk : Chunk)
-    → AreElements type chunk → normal_form codec type (normal_form codec type chunk) ≡ normal_form codec type chunk
-
--- The normal form of a chunk that array-to-array codecs move is the normal form moved.
-abbrev pub NormalMoved : Type 0 → Type 0
-NormalMoved B =
-    (codec : PlainCodec B) (type : ElementType) (m : CoordinateMap) (chunk : Chunk)
-    → normal_form codec type (moved_chunk m chunk) ≡ moved_chunk m (normal_form codec type chunk)
 
 -- The normal form of an updated chunk is the normal form updated with that of the new elements.
 abbrev pub NormalUpdated : Type 0 → Type 0

@@ -1,5 +1,6 @@
 pub mod optional
 pub mod vlen
+pub mod vlen_v2
 pub mod PlainChain
 pub mod CodecNames
 pub mod CodecFacts

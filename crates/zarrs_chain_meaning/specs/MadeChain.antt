@@ -1,8 +1,8 @@
 -- What is made of metadata: codecs, and chains of them.
-use Rattle.std.specs.Prelude.{◌≡◌, ℕ, ◌<◌, zero, suc, max, Bool, true, false, not, List, [], ◌∷◌, ◌++◌, Option, Some, None, is_some, ok_or, Result, Ok, Err}
+use Rattle.std.specs.Prelude.{ℕ, ◌<◌, zero, suc, max, Bool, true, false, not, List, [], ◌∷◌, ◌++◌, Option, Some, None, is_some, ok_or, Result, Ok, Err}
 use Rattle.zarrs_chunk.specs.Answer.{◌>>=◌, demand, seen}
 use Rattle.zarrs_chain_meaning.specs.declared.codec_name.KnownCodec.{KnownCodec}
-use Rattle.zarrs_chain_meaning.specs.declared.codec_name.KnownCodec.TheVariants.{Transpose, Reshape, Squeeze, Bytes, PackBits, Vlen, Optional}
+use Rattle.zarrs_chain_meaning.specs.declared.codec_name.KnownCodec.TheVariants.{Transpose, Reshape, Squeeze, Bytes, PackBits, VlenV2, Vlen, Optional}
 use Rattle.zarrs_metadata.specs.CodecMetadata.{made_of, members_of, bytes_made}
 use Rattle.zarrs_metadata.specs.Data.{members_depth}
 use Rattle.zarrs_metadata.specs.Metadata.{Metadata}
@@ -17,9 +17,10 @@ use Rattle.zarrs_metadata.specs.declared.plugin_create_error.PluginCreateError.T
 use Rattle.zarrs_array_to_array.specs.ArrayToArrayCodec.{ArrayMapping}
 use Rattle.zarrs_array_to_array.specs.MappingMetadata.{mapping_made}
 use Rattle.zarrs_packbits.specs.SettingsMetadata.{settings_made}
+use Rattle.zarrs_vlen_v2.specs.VlenV2Metadata.{vlen_v2_made}
 use Rattle.zarrs_chain_meaning.specs.vlen.VlenSettings.{is_wide, is_at_end}
 use Rattle.zarrs_chain_meaning.specs.CodecNames.{is_vlen_name, is_optional_name, codec_named}
-use Rattle.zarrs_chain_meaning.specs.PlainChain.{PlainCodec, bytes_codec, packbits_codec, PlainChain, vlen_codec_of, optional_codec_of}
+use Rattle.zarrs_chain_meaning.specs.PlainChain.{PlainCodec, bytes_codec, packbits_codec, vlen_v2_codec, PlainChain, vlen_codec_of, optional_codec_of}
 
 -- A codec that a metadata makes: one of chunks to chunks, one of chunks to bytes, one of bytes to bytes.
 pub data CodecMade (B : Type 0) : Type 0 where
@@ -89,6 +90,7 @@ made_by_name (Some Reshape) inside makes metadata = seen array_made (mapping_mad
 made_by_name (Some Squeeze) inside makes metadata = seen array_made (mapping_made metadata)
 made_by_name (Some Bytes) inside makes metadata = seen (λ order. to_bytes_made (bytes_codec order)) (bytes_made metadata)
 made_by_name (Some PackBits) inside makes metadata = seen (λ settings. to_bytes_made (packbits_codec settings)) (settings_made metadata)
+made_by_name (Some VlenV2) inside makes metadata = seen (λ codec. to_bytes_made (vlen_v2_codec codec)) (vlen_v2_made metadata)
 made_by_name (Some Vlen) inside makes metadata = seen to_bytes_made (vlen_made_by inside metadata)
 made_by_name (Some Optional) inside makes metadata = seen to_bytes_made (optional_made_by inside metadata)
 made_by_name None inside makes metadata = asked_maker (makes metadata)
@@ -157,12 +159,6 @@ chain_in makes (suc depth) metadatas = chain_made_by (chain_in makes depth) make
 -- the chain of a list, or the first cause why there is none; `makes` makes what the table of names doesn't know
 unfoldable pub chain_made : {B : Type 0} → (Metadata → Result (Option B) PluginCreateError) → List Metadata → Result (PlainChain B) PluginCreateError
 chain_made makes metadatas = chain_in makes (suc (depth_all metadatas)) metadatas
-
--- ---- laws
-
--- the chains inside a chain are made as the chain itself
-abbrev pub ChainsAreMadeAlike : Type 0 → Type 0
-ChainsAreMadeAlike B = (makes : Metadata → Result (Option B) PluginCreateError) (metadatas : List Metadata) → chain_made makes metadatas ≡ chain_made_by (chain_made makes) makes metadatas
 
 -- ---- by a maker of bytes-to-bytes codecs
 

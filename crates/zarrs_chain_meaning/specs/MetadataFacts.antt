@@ -11,8 +11,10 @@ use Rattle.zarrs_array_to_array.specs.ArrayToArrayCodec.{ArrayMapping}
 use Rattle.zarrs_array_to_array.specs.MappingMetadata.{mapping_name, mapping_configuration}
 use Rattle.zarrs_packbits.specs.PackBitsSettings.{PackBitsSettings, is_reversed}
 use Rattle.zarrs_packbits.specs.SettingsMetadata.{write_settings}
+use Rattle.zarrs_vlen_v2.specs.VlenV2Metadata.{vlen_v2_name, write_vlen_v2}
+use Rattle.zarrs_vlen_v2.specs.declared.vlen_v2_codec.VlenV2Codec.{VlenV2Codec}
 use Rattle.zarrs_chain_meaning.specs.CodecNames.{vlen_name, optional_name}
-use Rattle.zarrs_chain_meaning.specs.PlainChain.{PlainCodec, bytes_codec, packbits_codec, vlen_codec, optional_codec}
+use Rattle.zarrs_chain_meaning.specs.PlainChain.{PlainCodec, bytes_codec, packbits_codec, vlen_v2_codec, vlen_codec, optional_codec}
 use Rattle.zarrs_chain_meaning.specs.vlen.VlenSettings.{offset_type_of, index_place}
 
 -- The name and the configuration, where `described` writes bytes-to-bytes codecs. The bits that are kept, in all chains inside too, are ranges; and something holds of each bytes-to-bytes codec of all chains inside.
@@ -66,6 +68,15 @@ packbits_metadata settings = record {
   Outer = λ P. Unit {0};
 }
 
+-- those of `vlen-utf8` or `vlen-bytes`
+abbrev pub vlen_v2_metadata : {B : Type 0} → VlenV2Codec → MetadataFacts B
+vlen_v2_metadata codec = record {
+  name = vlen_v2_name codec;
+  configuration = λ described. write_vlen_v2;
+  Ranges = Unit {0};
+  Outer = λ P. Unit {0};
+}
+
 -- those of `vlen`: its configuration has the place of the index
 abbrev pub vlen_metadata : {B : Type 0} → Bool → Bool → ChainFacts B → ChainFacts B → MetadataFacts B
 vlen_metadata wide at_end index content = record {
@@ -96,5 +107,6 @@ optional_metadata mask content = record {
 abbrev pub metadata_facts : {B : Type 0} → PlainCodec B → MetadataFacts B
 metadata_facts (bytes_codec order) = bytes_metadata order
 metadata_facts (packbits_codec settings) = packbits_metadata settings
+metadata_facts (vlen_v2_codec codec) = vlen_v2_metadata codec
 metadata_facts (vlen_codec ia ix ib da dx db wide at_end) = vlen_metadata wide at_end (facts_through ia (metadata_facts ix) ib) (facts_through da (metadata_facts dx) db)
 metadata_facts (optional_codec ma mx mb da dx db) = optional_metadata (facts_through ma (metadata_facts mx) mb) (facts_through da (metadata_facts dx) db)

@@ -3,6 +3,7 @@ use Rattle.std.specs.Prelude.{Bool, Option, List}
 use Rattle.zarrs_data_type.specs.declared.endianness.Endianness.{Endianness}
 use Rattle.zarrs_array_to_array.specs.ArrayToArrayCodec.{ArrayMapping}
 use Rattle.zarrs_packbits.specs.PackBitsSettings.{PackBitsSettings}
+use Rattle.zarrs_vlen_v2.specs.declared.vlen_v2_codec.VlenV2Codec.{VlenV2Codec}
 
 -- An array-to-bytes codec. One that has chains inside has the parts of each of them: its array-to-array codecs, its array-to-bytes codec, its bytes-to-bytes codecs.
 pub data PlainCodec (B : Type 0) : Type 0 where
@@ -10,6 +11,8 @@ pub data PlainCodec (B : Type 0) : Type 0 where
   bytes_codec : Option Endianness → PlainCodec B
   -- where the padding byte stands, and which bits are kept
   packbits_codec : PackBitsSettings → PlainCodec B
+  -- `vlen-utf8` or `vlen-bytes`
+  vlen_v2_codec : VlenV2Codec → PlainCodec B
   -- the index chain, the data chain, whether offsets have 64 bits, whether the index stands at the end
   vlen_codec : List ArrayMapping → PlainCodec B → List B → List ArrayMapping → PlainCodec B → List B → Bool → Bool → PlainCodec B
   -- the mask chain, the data chain

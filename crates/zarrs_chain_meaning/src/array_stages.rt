@@ -1,12 +1,12 @@
 //! The array-to-array codecs of a chain, one after another.
-ghost use Rattle.std.specs.Prelude.{◌≡◌, IfOk, false};
+ghost use Rattle.std.specs.Prelude.{◌≡◌, IfOk, Ok, false};
 ghost use Rattle.zarrs_chunk.specs.Answer.{is_fault};
 ghost use Rattle.zarrs_array_bytes.specs.Tight.{KeepsTight};
 ghost use Rattle.zarrs_codec.specs.CoordinateMap.{MapsSizes};
-ghost use Rattle.zarrs_codec.specs.MappedChunk.{GivesSizes};
+ghost use Rattle.zarrs_codec.specs.MappedChunk.{GivesSizes, EncodesMoved, DecodesMoved};
 ghost use Rattle.zarrs_array_to_array.specs.ArrayToArrayCodec.{coordinates};
 ghost use Rattle.zarrs_array_to_array.specs.Mapping.{mapping_of};
-ghost use Rattle.zarrs_chain_meaning.specs.ArrayStages.{codec_map, map_through, IsMapThrough, EncodesThrough, DecodesThrough};
+ghost use Rattle.zarrs_chain_meaning.specs.ArrayStages.{codec_map, map_through, IsMapThrough};
 
 use std::alloc::Global;
 use zarrs_array_bytes::ArrayBytes;
@@ -61,7 +61,9 @@ pub fn encode_arrays<'a>(
     data_type: &DataType,
     fill_value: &FillValue,
 ) -> Result<ArrayBytes<'a>, CodecError>
-    ensures moved { EncodesThrough data_type.now codecs.now shape.now chunk.entry result }
+    // Wide: the codecs, the type, the shape and the container.
+    ensures moved { EncodesMoved (λ _. Ok tt) (map_through data_type.now codecs.now)
+        data_type.now shape.now chunk.entry result }
     ensures map { IfOk result (λ _. IsMapThrough data_type.now codecs.now shape.now) }
     ensures no_fault { is_fault result ≡ false }
 {
@@ -86,7 +88,9 @@ pub fn decode_arrays<'a>(
     data_type: &DataType,
     fill_value: &FillValue,
 ) -> Result<ArrayBytes<'a>, CodecError>
-    ensures moved { DecodesThrough data_type.now codecs.now shape.now chunk.entry result }
+    // Wide: the codecs, the type, the shape and the container.
+    ensures moved { DecodesMoved (λ _. Ok tt) (map_through data_type.now codecs.now)
+        data_type.now shape.now chunk.entry result }
     ensures tight { KeepsTight data_type.now chunk.entry result }
     ensures map { IfOk result (λ _. IsMapThrough data_type.now codecs.now shape.now) }
     ensures no_fault { is_fault result ≡ false }

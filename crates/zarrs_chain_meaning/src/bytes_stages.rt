@@ -1,6 +1,8 @@
 //! The bytes-to-bytes codecs of a chain, one after another.
 ghost use Rattle.std.specs.Prelude.{◌≡◌};
-ghost use Rattle.zarrs_chain_meaning.specs.BytesStages.{EncodesOuter, DecodesOuter, outer_representation as outer_representation_of};
+ghost use Rattle.zarrs_chunk.specs.Answer.{Gives};
+ghost use Rattle.zarrs_array_bytes.specs.Held.{items_of};
+ghost use Rattle.zarrs_chain_meaning.specs.BytesStages.{outer_value, outer_bytes, outer_representation as outer_representation_of};
 
 use std::alloc::Global;
 use zarrs_array_bytes::ArrayBytesRaw;
@@ -28,7 +30,8 @@ pub fn encode_bytes<'a, B: BytesToBytesCodecTraits>(
     codecs: &[B],
     bytes: ArrayBytesRaw<'a>,
 ) -> Result<ArrayBytesRaw<'a>, CodecError>
-    ensures answer { EncodesOuter B.functions codecs.now bytes.entry result }
+    ensures answer { Gives items_of result
+        (outer_value B.functions codecs.now (items_of bytes.entry)) }
 {
     match codecs {
         [] => Ok(bytes),
@@ -44,7 +47,9 @@ pub fn decode_bytes<'a, B: BytesToBytesCodecTraits>(
     representation: &BytesRepresentation,
     value: ArrayBytesRaw<'a>,
 ) -> Result<ArrayBytesRaw<'a>, CodecError>
-    ensures answer { DecodesOuter B.functions codecs.now representation.now value.entry result }
+    // Wide: the codecs, the representation and the value.
+    ensures answer { Gives items_of result
+        (outer_bytes B.functions codecs.now representation.now (items_of value.entry)) }
 {
     match codecs {
         [] => Ok(value),

@@ -4,6 +4,7 @@ ghost use Rattle.zarrs_metadata.specs.CodecMetadata.{is_bytes_name, is_squeeze_n
 ghost use Rattle.zarrs_chain_meaning.specs.CodecNames.{is_vlen_name, is_optional_name, codec_named as codec_named_of};
 
 use zarrs_chunk::CodecName;
+use zarrs_vlen_v2::VlenV2Codec;
 
 /// The name of `vlen` in errors.
 pub const VLEN: CodecName = CodecName {
@@ -28,6 +29,8 @@ pub enum KnownCodec {
     Bytes,
     /// `packbits`.
     PackBits,
+    /// `vlen-utf8` or `vlen-bytes`.
+    VlenV2,
     /// `zarrs.vlen`.
     Vlen,
     /// `zarrs.optional`.
@@ -82,6 +85,9 @@ pub fn codec_named(name: &str) -> Option<KnownCodec>
     }
     if name == "packbits" {
         return Some(KnownCodec::PackBits);
+    }
+    if VlenV2Codec::named(name).is_some() {
+        return Some(KnownCodec::VlenV2);
     }
     if is_vlen(name) {
         return Some(KnownCodec::Vlen);

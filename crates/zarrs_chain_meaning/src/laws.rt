@@ -1,10 +1,20 @@
 //! Laws over the definitions alone: each function's contract is one. They are of all chains, those
 //! with chains inside too.
+ghost use Rattle.std.specs.Prelude.{◌≡◌, List, Option, Some, Result};
+ghost use Rattle.zarrs_data_type.specs.Element.{Chunk, AreElements};
+ghost use Rattle.zarrs_data_type.specs.ElementType.{ElementType};
+ghost use Rattle.zarrs_data_type.specs.declared.endianness.Endianness.{Endianness};
+ghost use Rattle.zarrs_metadata.specs.Metadata.{Metadata};
+ghost use Rattle.zarrs_metadata.specs.declared.plugin_create_error.PluginCreateError.{PluginCreateError};
 ghost use Rattle.zarrs_codec.specs.BytesToBytesCodec.{BytesCodecs};
+ghost use Rattle.zarrs_codec.specs.CoordinateMap.{CoordinateMap, moved_chunk};
+ghost use Rattle.zarrs_chain_meaning.specs.CodecMeaning.{normal_form};
 ghost use Rattle.zarrs_chain_meaning.specs.MadeAgain.{ChainsAreMadeAgain};
-ghost use Rattle.zarrs_chain_meaning.specs.MadeChain.{ChainsAreMadeAlike};
-ghost use Rattle.zarrs_chain_meaning.specs.vlen.PlainVlen.{PlainIsPlain};
-ghost use Rattle.zarrs_chain_meaning.specs.Laws.{WrittenStands, StandsForOne, StandsIsAnswered, AnsweredStands, WrittenOnce, ValueIsWritten, NormalTwice, NormalMoved, NormalUpdated, WrittenForNormal, WrittenAlike, WrittenKeeps, SizesGoByCount, SizesGrow};
+ghost use Rattle.zarrs_chain_meaning.specs.MadeChain.{chain_made, chain_made_by};
+ghost use Rattle.zarrs_chain_meaning.specs.PlainChain.{PlainCodec};
+ghost use Rattle.zarrs_chain_meaning.specs.vlen.PlainForm.{PlainForm};
+ghost use Rattle.zarrs_chain_meaning.specs.vlen.PlainVlen.{plain_form_of, plain_codec_of};
+ghost use Rattle.zarrs_chain_meaning.specs.Laws.{WrittenStands, StandsForOne, StandsIsAnswered, AnsweredStands, WrittenOnce, ValueIsWritten, NormalUpdated, WrittenForNormal, WrittenAlike, WrittenKeeps, SizesGoByCount, SizesGrow};
 
 /// What is written for a chunk stands for its normal form.
 pub fn written_stands<B>()
@@ -38,13 +48,17 @@ pub fn value_is_written<B>()
 
 /// The normal form of a normal form is the same, and the same value is written for it.
 pub fn normal_twice<B>()
-    ensures law { NormalTwice B }
+    // Wide: the law's variables.
+    ensures law { (codec : PlainCodec B) (t : ElementType) (chunk : Chunk) → AreElements t chunk
+        → normal_form codec t (normal_form codec t chunk) ≡ normal_form codec t chunk }
     ensures written { (f : BytesCodecs B) → WrittenForNormal f }
 {}
 
 /// The normal form of a chunk that array-to-array codecs move is the normal form moved.
 pub fn normal_moved<B>()
-    ensures law { NormalMoved B }
+    // Wide: the law's variables.
+    ensures law { (codec : PlainCodec B) (t : ElementType) (m : CoordinateMap) (chunk : Chunk)
+        → normal_form codec t (moved_chunk m chunk) ≡ moved_chunk m (normal_form codec t chunk) }
 {}
 
 /// The normal form of an updated chunk is the normal form updated with that of the new elements.
@@ -71,12 +85,16 @@ pub fn sizes_go_by_count<B>()
 
 /// A codec that has a plain form is the plain `vlen` of this form, over some data chain.
 pub fn plain_is_plain<B>()
-    ensures law { PlainIsPlain B }
+    // Wide: the law's variables.
+    ensures law { (codec : PlainCodec B) (form : PlainForm) → plain_form_of codec ≡ Some form
+        → (content : Option Endianness) × (codec ≡ plain_codec_of form content) }
 {}
 
 /// The chains inside a chain are made of their metadata as the chain itself is.
 pub fn chains_are_made_alike<B>()
-    ensures law { ChainsAreMadeAlike B }
+    // Wide: the law's variables.
+    ensures law { (makes : Metadata → Result (Option B) PluginCreateError) (list : List Metadata)
+        → chain_made makes list ≡ chain_made_by (chain_made makes) makes list }
 {}
 
 /// What is written of a chain makes an equal one, where each bytes-to-bytes codec's metadata has a

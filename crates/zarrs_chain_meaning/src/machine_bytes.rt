@@ -1,7 +1,8 @@
 //! What holds of all bytes of a machine, and the laws of chains ask for: they are below 256.
-ghost use Rattle.std.specs.Prelude.{◌<◌, ℕ, slice_index};
+ghost use Rattle.std.specs.Prelude.{◌≡◌, ◌<◌, ℕ, List, slice_index};
 ghost use Rattle.zarrs_codec.specs.BytesToBytesCodec.{AreBytes};
-ghost use Rattle.zarrs_chain_meaning.specs.MachineBytes.{HeldHasBytes, FixedHasBytes, VariableHasBytes};
+ghost use Rattle.zarrs_array_bytes.specs.Held.{Raw, flen, vlen};
+ghost use Rattle.zarrs_chain_meaning.specs.MachineBytes.{HeldHasBytes};
 
 use zarrs_array_bytes::ArrayBytes;
 
@@ -19,7 +20,7 @@ pub fn bytes_are(bytes: &[u8])
 
 /// Those of elements of one size.
 fn fixed_are_bytes(elements: &ArrayBytes<'_>)
-    ensures fixed { FixedHasBytes elements.now }
+    ensures fixed { (raw : Raw) → elements.now ≡ flen raw → AreBytes raw.items }
 {
     if let Ok(bytes) = elements.as_fixed() {
         bytes_are(bytes);
@@ -28,7 +29,9 @@ fn fixed_are_bytes(elements: &ArrayBytes<'_>)
 
 /// Those of elements of any length.
 fn variable_are_bytes(elements: &ArrayBytes<'_>)
-    ensures variable { VariableHasBytes elements.now }
+    // Wide: such a container has two parts.
+    ensures variable { (raw : Raw) (offsets : List ℕ)
+        → elements.now ≡ vlen raw offsets → AreBytes raw.items }
 {
     if let Ok((bytes, _)) = elements.as_variable() {
         bytes_are(bytes);

@@ -1,4 +1,5 @@
-//! The codecs with chains inside, made in each way, and the name and the configuration that they have.
+//! The codecs of texts and of elements that may be absent, made in each way, and the name and the
+//! configuration that they have.
 
 use crate::checks::is;
 use crate::forms::{Chain, chain};
@@ -15,6 +16,7 @@ use zarrs_metadata::{
     MetadataV3, OptionalCodecConfiguration, PluginCreateError, VlenCodecConfiguration,
     VlenIndexDataType, VlenIndexLocation,
 };
+use zarrs_vlen_v2::VlenV2Codec;
 
 type Codec = ArrayToBytesCodec<SampleBytesCodec>;
 
@@ -45,6 +47,10 @@ const OPTIONAL_WRITTEN: &'static str =
 const OPTIONAL_TEXTS: &'static str =
     r#"{"configuration":{"data_codecs":[{"configuration":{"data_codecs":[{"configuration":{"endian":"little"},"name":"bytes"}],"index_codecs":[{"configuration":{"endian":"little"},"name":"bytes"}],"index_data_type":"uint32","index_location":"end"},"name":"zarrs.vlen"}],"mask_codecs":[{"configuration":{"endian":"little"},"name":"bytes"}]},"name":"zarrs.optional"}"#;
 
+const TEXTS_WRITTEN: &'static str = r#"{"configuration":{},"name":"vlen-utf8"}"#;
+
+const BYTE_STRINGS_WRITTEN: &'static str = r#"{"configuration":{},"name":"vlen-bytes"}"#;
+
 /// How a codec is made.
 enum Way {
     VlenByDefault,
@@ -53,6 +59,8 @@ enum Way {
     VlenConfigured,
     OptionalCreated,
     OptionalConfigured,
+    TextsNamed,
+    ByteStringsCreated,
     ByHand,
 }
 
@@ -93,6 +101,16 @@ const ROWS: &'static [Row] = &[
         name: "optional of a configuration",
         way: Way::OptionalConfigured,
         written: OPTIONAL_WRITTEN,
+    },
+    Row {
+        name: "vlen-utf8 by its name",
+        way: Way::TextsNamed,
+        written: TEXTS_WRITTEN,
+    },
+    Row {
+        name: "vlen-bytes of metadata",
+        way: Way::ByteStringsCreated,
+        written: BYTE_STRINGS_WRITTEN,
     },
     Row {
         name: "both of chains, by hand",
@@ -159,6 +177,19 @@ fn optional_configured(alloc: Global) -> Result<Codec, Refusal> {
     )?))
 }
 
+fn texts_named() -> Result<Codec, Refusal> {
+    let codec = VlenV2Codec::named("vlen-utf8").ok_or(PluginCreateError::UnknownName)?;
+    Ok(ArrayToBytesCodec::VlenV2(codec))
+}
+
+fn byte_strings_created(alloc: Global) -> Result<Codec, Refusal> {
+    let metadata = metadata(
+        alloc,
+        r#"{"name":"vlen-bytes","configuration":{"level":1}}"#,
+    )?;
+    Ok(ArrayToBytesCodec::VlenV2(VlenV2Codec::create(&metadata)?))
+}
+
 /// A codec of chunks to bytes alone, as a chain inside another codec.
 fn alone(alloc: Global, codec: Codec) -> Result<Box<Chain>, AllocError> {
     Ok(Box::new(
@@ -196,6 +227,8 @@ fn made_so(alloc: Global, way: &Way) -> Result<Codec, Refusal> {
         Way::VlenConfigured => vlen_configured(alloc),
         Way::OptionalCreated => optional_created(alloc),
         Way::OptionalConfigured => optional_configured(alloc),
+        Way::TextsNamed => texts_named(),
+        Way::ByteStringsCreated => byte_strings_created(alloc),
         Way::ByHand => optional_texts_by_hand(alloc),
     }
 }
@@ -220,7 +253,7 @@ fn is_written<C: CodecTraits>(
     is_shown(rt, about, alloc, &written, wanted)
 }
 
-/// The codec `vlen` or `optional` by itself.
+/// The codec by itself.
 fn alone_is_written(
     rt: &impl Abort,
     alloc: Global,
@@ -230,6 +263,7 @@ fn alone_is_written(
     match codec {
         ArrayToBytesCodec::Vlen(codec) => is_written(rt, row.name, alloc, codec, row.written),
         ArrayToBytesCodec::Optional(codec) => is_written(rt, row.name, alloc, codec, row.written),
+        ArrayToBytesCodec::VlenV2(codec) => is_written(rt, row.name, alloc, codec, row.written),
         _ => Err(Refusal::Syntax),
     }
 }
@@ -240,7 +274,7 @@ fn codec_is_written(rt: &impl Abort, alloc: Global, row: &Row) -> Result<(), Ref
 }
 
 #[test]
-fn codecs_with_chains_inside_are_written(rt: HostRuntime) -> Result<(), Fail> {
+fn codecs_made_in_each_way_are_written(rt: HostRuntime) -> Result<(), Fail> {
     for row in ROWS {
         codec_is_written(&rt, rt.alloc(), row)?;
     }

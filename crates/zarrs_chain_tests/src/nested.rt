@@ -1,5 +1,6 @@
-//! Each call of an array-to-bytes codec: of `vlen` and `optional` by themselves, of the
-//! `ArrayToBytesCodec` that is one of them, and of the chain that has no other codec.
+//! Each call of an array-to-bytes codec: of `vlen`, `optional`, `vlen-utf8` and `vlen-bytes` by
+//! themselves, of the `ArrayToBytesCodec` that is one of them, and of the chain that has no other
+//! codec.
 
 use crate::forms::{Case, ChunkForm, made};
 use crate::nested_rows::NESTED;
@@ -39,7 +40,7 @@ fn answers<C: ArrayToBytesCodecTraits + ArrayCodecTraits>(
     is_whole(rt, alloc, row.name, codec, &form.shape)
 }
 
-/// The codec `vlen` or `optional` by itself.
+/// The codec by itself.
 fn alone_answers(
     rt: &impl Abort,
     alloc: Global,
@@ -50,6 +51,7 @@ fn alone_answers(
     match codec {
         ArrayToBytesCodec::Vlen(codec) => answers(rt, alloc, codec, form, nested),
         ArrayToBytesCodec::Optional(codec) => answers(rt, alloc, codec, form, nested),
+        ArrayToBytesCodec::VlenV2(codec) => answers(rt, alloc, codec, form, nested),
         _ => Err(CodecError::ArrayBytesKind),
     }
 }
@@ -73,7 +75,7 @@ fn each_answers(rt: &impl Abort, alloc: Global, nested: &Nested) -> Result<(), R
 }
 
 #[test]
-fn codecs_with_chains_inside_answer_each_call(rt: HostRuntime) -> Result<(), Fail> {
+fn codecs_of_texts_and_options_answer_each_call(rt: HostRuntime) -> Result<(), Fail> {
     for nested in NESTED {
         each_answers(&rt, rt.alloc(), nested)?;
     }

@@ -56,6 +56,10 @@ const HI_AT_TWO_LEVELS: &'static [u8] = &[
     0, 0, 1, 0, 2, 0, 0, 0, 0, 0, 0, 0, 104, 105, 0, 0, 0, 0, 2, 0, 0, 0, 8, 0, 0, 0, 0, 0, 0, 0,
 ];
 
+const BC_AND_NOTHING: &'static [u8] = &[2, 0, 0, 0, 2, 0, 0, 0, 98, 99, 0, 0, 0, 0];
+
+const NO_BYTES_AND_A_BYTE: &'static [u8] = &[2, 0, 0, 0, 0, 0, 0, 0, 1, 0, 0, 0, 255];
+
 pub(crate) const NESTED: &'static [Nested] = &[
     Nested {
         row: Row {
@@ -241,6 +245,58 @@ pub(crate) const NESTED: &'static [Nested] = &[
                 bytes: b"hi",
                 ends: &[0, 2, 2, 2],
                 masks: &[&[1, 0, 0], &[1, 0, 1]],
+            }),
+        },
+        reads: false,
+        into: NOT_FOR_TEXTS,
+    },
+    Nested {
+        row: Row {
+            name: "bc and nothing, each behind its length",
+            codecs: r#"["vlen-utf8"]"#,
+            chunk: Chunk {
+                shape: &[2],
+                data_type: r#""string""#,
+                fill_value: &[],
+            },
+            size: Ok(UnboundedSize),
+            elements: Elements {
+                bytes: b"xbc",
+                ends: &[1, 3, 3],
+                masks: &[],
+            },
+            encoded: Ok(BC_AND_NOTHING),
+            value: BC_AND_NOTHING,
+            decoded: Ok(Elements {
+                bytes: b"bc",
+                ends: &[0, 2, 2],
+                masks: &[],
+            }),
+        },
+        reads: false,
+        into: NOT_FOR_TEXTS,
+    },
+    Nested {
+        row: Row {
+            name: "no bytes and a byte, each behind its length",
+            codecs: r#"["vlen-bytes"]"#,
+            chunk: Chunk {
+                shape: &[2],
+                data_type: r#""bytes""#,
+                fill_value: &[],
+            },
+            size: Ok(UnboundedSize),
+            elements: Elements {
+                bytes: &[255],
+                ends: &[0, 0, 1],
+                masks: &[],
+            },
+            encoded: Ok(NO_BYTES_AND_A_BYTE),
+            value: NO_BYTES_AND_A_BYTE,
+            decoded: Ok(Elements {
+                bytes: &[255],
+                ends: &[0, 0, 1],
+                masks: &[],
             }),
         },
         reads: false,

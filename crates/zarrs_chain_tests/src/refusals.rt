@@ -1,11 +1,14 @@
-//! Chunks that `vlen` and `optional` don't take, containers that hold another chunk, and values that
+//! Chunks that `vlen`, `optional`, `vlen-utf8` and `vlen-bytes` don't take, containers that hold another chunk, and values that
 //! stand for none.
 
 use crate::forms::{Chunk, Elements, OPTIONS, PAIR, TEXTS};
 use crate::whole_rows::Row;
 use zarrs_chain_meaning::codec_name::{OPTIONAL, VLEN};
-use zarrs_chunk::CodecError::{ArrayBytesKind, InvalidBytesLength, UnsupportedDataType};
+use zarrs_chunk::CodecError::{
+    ArrayBytesKind, ElementCount, InvalidBytesLength, UnsupportedDataType,
+};
 use zarrs_codec::BytesRepresentation::{BoundedSize, UnboundedSize};
+use zarrs_vlen_v2::{VLEN_BYTES, VLEN_UTF8};
 
 const STRINGS: Chunk = Chunk {
     shape: &[2],
@@ -124,5 +127,67 @@ pub(crate) const REFUSED: &'static [Row] = &[
             len: 15,
             expected: 16,
         }),
+    },
+    Row {
+        name: "vlen-bytes over texts",
+        codecs: r#"["vlen-bytes"]"#,
+        chunk: STRINGS,
+        size: Err(UnsupportedDataType(VLEN_BYTES)),
+        elements: Elements {
+            bytes: b"ab",
+            ends: &[0, 1, 2],
+            masks: &[],
+        },
+        encoded: Err(UnsupportedDataType(VLEN_BYTES)),
+        value: &[0; 3],
+        decoded: Err(UnsupportedDataType(VLEN_BYTES)),
+    },
+    Row {
+        name: "vlen-utf8 over elements of one size",
+        codecs: r#"["vlen-utf8"]"#,
+        chunk: PAIR,
+        size: Err(UnsupportedDataType(VLEN_UTF8)),
+        elements: Elements {
+            bytes: &[1, 2],
+            ends: &[],
+            masks: &[],
+        },
+        encoded: Err(UnsupportedDataType(VLEN_UTF8)),
+        value: &[0; 3],
+        decoded: Err(UnsupportedDataType(VLEN_UTF8)),
+    },
+    Row {
+        name: "elements of one size in place of texts, and three bytes",
+        codecs: r#"["vlen-utf8"]"#,
+        chunk: STRINGS,
+        size: Ok(UnboundedSize),
+        elements: Elements {
+            bytes: &[1, 2],
+            ends: &[],
+            masks: &[],
+        },
+        encoded: Err(ArrayBytesKind),
+        value: &[2, 0, 0],
+        decoded: Err(InvalidBytesLength {
+            len: 3,
+            expected: 4,
+        }),
+    },
+    Row {
+        name: "one text in place of two, here and in the value",
+        codecs: r#"["vlen-utf8"]"#,
+        chunk: STRINGS,
+        size: Ok(UnboundedSize),
+        elements: Elements {
+            bytes: b"a",
+            ends: &[0, 1],
+            masks: &[],
+        },
+        encoded: Err(InvalidBytesLength {
+            len: 2,
+            expected: 3,
+        }),
+        value: &[1, 0, 0, 0, 1, 0, 0, 0, 97],
+        decoded: Err(ElementCount),
     },
 ];

@@ -23,8 +23,8 @@ use Rattle.zarrs_bytes.specs.PartialWrite.{filled_chunk}
 use Rattle.zarrs_packbits.specs.Laws.{HasBytes}
 use Rattle.zarrs_chain_meaning.specs.ChunkForm.{ChunkForm}
 use Rattle.zarrs_codec_chain.specs.CodecPart.{order_in_place}
-use Rattle.zarrs_codec_chain.specs.ChunkWrite.{stored_written, value_left}
-use Rattle.zarrs_codec_chain.specs.Edits.{chunk_or_fill, edited_state, states_edited, edited_store, stores_edited, AcceptsEdits, edit_excuse, excuse_at, EditHasBytes, IsStoredFor, IsWritable, StateHasBytes}
+use Rattle.zarrs_codec_chain.specs.ChunkWrite.{stored_written, value_left, IsStoredFor}
+use Rattle.zarrs_codec_chain.specs.Edits.{chunk_or_fill, edited_state, states_edited, edited_store, stores_edited, AcceptsEdits, edit_excuse, excuse_at, EditHasBytes, StateHasBytes}
 use Rattle.zarrs_chain_meaning.specs.Laws.{IsChainOfMappings}
 use Rattle.zarrs_chain_meaning.specs.CodecMeaning.{normal_form, ChainWritten}
 use Rattle.zarrs_chain_meaning.specs.MachineBytes.{HeldHasBytes}
@@ -162,7 +162,7 @@ module _ {B : Type 0} (f : BytesCodecs B) (form : ChunkForm B) (encoded : List �
   edits_accepted (edit ∷ edits) stored after state here there is e =
       let a = bind_ok (edited_store f form stored edit) (stores_edited f form edits) after e in
       let s = found (edited_state form state edit) (IsNext a.0) (edited_step stored a.0 state edit here (All-head EditHasBytes edit edits there) is a.1) in
-      holds_at (edited_state form state edit) (λ next. IsWritable f form next × AcceptsEdits f form edits next) s.0 s.1
+      holds_at (edited_state form state edit) (λ next. ((stored : Option (List ℕ)) × IsStoredFor f form stored next) × AcceptsEdits f form edits next) s.0 s.1
       ((a.0, s.2.0), edits_accepted edits a.0 after s.0 s.2.1 (All-tail EditHasBytes edit edits there) s.2.0 a.2)
 
   -- where a value is written for the chunk with new elements, it is left of what is written for the chunk, or of nothing
@@ -188,7 +188,7 @@ module _ {B : Type 0} (f : BytesCodecs B) (form : ChunkForm B) (encoded : List �
   refused_step stored state Erase e here is refused accepts = absurd (not_refused None e refused)
   refused_step stored state (Encode indexer new) e here is refused accepts =
       let selection = selection_of indexer in
-      let a = made_at (data_places form.sizes form.type selection new) (λ places. with_elements form.type (chunk_or_fill form state) places new) (λ next. IsWritable f form next × AcceptsEdits f form [] next) accepts in
+      let a = made_at (data_places form.sizes form.type selection new) (λ places. with_elements form.type (chunk_or_fill form state) places new) (λ next. ((stored : Option (List ℕ)) × IsStoredFor f form stored next) × AcceptsEdits f form [] next) accepts in
       let v = written_value a.2.0.0 (with_elements form.type (chunk_or_fill form state) a.0 new) a.2.0.1 in
       let inside = data_inside form.sizes form.type selection new a.0 a.1 in
       let left = written_step stored state a.0 new v.0 here is inside.0 inside.1 v.1 in
@@ -204,7 +204,7 @@ module _ {B : Type 0} (f : BytesCodecs B) (form : ChunkForm B) (encoded : List �
       refused_step stored state edit e here is (subst (λ (v : Option (List ℕ)). edited_store f form v edit ≡ Err e) (sym (same_stored stored last ran)) refused) accepts
   edits_refused (first ∷ edits) edit stored last state e here there is ran refused accepts =
       let a = bind_ok (edited_store f form stored first) (stores_edited f form edits) last ran in
-      let s = both_found (edited_state form state first) (IsNext a.0) (λ next. IsWritable f form next × AcceptsEdits f form (edits ++ edit ∷ []) next) (edited_step stored a.0 state first here (All-head EditHasBytes first edits there) is a.1) accepts in
+      let s = both_found (edited_state form state first) (IsNext a.0) (λ next. ((stored : Option (List ℕ)) × IsStoredFor f form stored next) × AcceptsEdits f form (edits ++ edit ∷ []) next) (edited_step stored a.0 state first here (All-head EditHasBytes first edits there) is a.1) accepts in
       edits_refused edits edit a.0 last s.0 e s.1.1 (All-tail EditHasBytes first edits there) s.1.0 a.2 refused s.2.1
 
   -- the edit behind so many accepted ones

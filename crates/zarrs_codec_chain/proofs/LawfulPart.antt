@@ -29,7 +29,7 @@ use Rattle.zarrs_bytes.proofs.Alike as bytes_reads
 use Rattle.zarrs_packbits.specs.ReadPlan.{IsPlan, SameNumbers}
 use Rattle.zarrs_chain_meaning.specs.Meaning.{Decoder, Meaning}
 use Rattle.zarrs_chain_meaning.specs.CodecMeaning.{codec_chunk, codec_representation, meaning, bytes_meaning, packbits_meaning}
-use Rattle.zarrs_chain_meaning.specs.PlainChain.{PlainCodec, bytes_codec, packbits_codec, vlen_codec, optional_codec}
+use Rattle.zarrs_chain_meaning.specs.PlainChain.{PlainCodec, bytes_codec, packbits_codec, vlen_v2_codec, vlen_codec, optional_codec}
 use Rattle.zarrs_chain_meaning.specs.vlen.PlainVlen.{plain_form_of, is_plain}
 use Rattle.zarrs_chain_meaning.specs.vlen.PlainForm.{PlainForm}
 use Rattle.zarrs_bytes.proofs.Coding.{bind_ok, ok}
@@ -296,6 +296,7 @@ pub part_laws : {B : Type 0} (codec : PlainCodec B) → IsLawfulPart (meaning co
 unfolding meaning
 part_laws (bytes_codec order) = bytes_part_laws order
 part_laws (packbits_codec settings) = packbits_part_laws settings
+part_laws (vlen_v2_codec codec) = whole_part_laws (meaning (vlen_v2_codec codec))
 part_laws (vlen_codec ia ix ib da dx db wide at_end) = vlen_part_laws (vlen_codec ia ix ib da dx db wide at_end) refl
 part_laws (optional_codec ma mx mb da dx db) = whole_part_laws (meaning (optional_codec ma mx mb da dx db))
 

@@ -34,7 +34,7 @@ use Rattle.zarrs_chain_meaning.specs.BytesStages.{outer_bytes, OuterWritten}
 use Rattle.zarrs_codec_chain.specs.ChunkRead.{encoded_places}
 use Rattle.zarrs_chain_meaning.specs.ChunkForm.{ChunkForm}
 use Rattle.zarrs_codec_chain.specs.CodecPart.{order_in_place, part_of}
-use Rattle.zarrs_codec_chain.specs.ChunkWrite.{edited_value, EditStarts, selection_left, stored_written, StoresChunk, value_left, written_places}
+use Rattle.zarrs_codec_chain.specs.ChunkWrite.{edited_value, EditStarts, selection_left, stored_written, IsStoredFor, value_left, written_places}
 use Rattle.zarrs_chain_meaning.specs.Laws.{IsChainOfMappings}
 use Rattle.zarrs_chain_meaning.specs.CodecMeaning.{bytes_meaning, codec_representation, CodecStands, ChainStands, CodecWritten, ChainWritten, meaning}
 use Rattle.zarrs_chain_meaning.specs.Meaning.{Meaning}
@@ -281,13 +281,13 @@ module _ {B : Type 0} (f : BytesCodecs B) (form : ChunkForm B) (encoded : List �
 
   -- an accepted edit leaves what is written for the chunk with the new elements
   pub edit_found : {T : Type 0} (result : Result T CodecError) (stored after : Option (List ℕ)) (selection : Selection) (new : Held) → Answers memory_or_fault (λ _. after) result (seen (λ value. Some value) (stored_written f form stored selection new))
-      → OnOk result ((chunk : Chunk) → EditStarts f form stored chunk → IsOkAnd (edited_chunk form.sizes form.type chunk selection new) (StoresChunk f form after))
+      → OnOk result ((chunk : Chunk) → EditStarts f form stored chunk → IsOkAnd (edited_chunk form.sizes form.type chunk selection new) (λ edited. IsStoredFor f form after (Some edited)))
   edit_found (Ok x) stored after selection new answer = λ chunk starts.
       let v = seen_ok (λ value. Some value) (stored_written f form stored selection new) after answer in
       let a = bind_ok (data_places form.sizes form.type selection new) _ v.0 v.1 in
       let inside = data_inside form.sizes form.type selection new a.0 a.1 in
       let w = (left_by (order_in_place form.chain.bytes_to_bytes form.chain.array_to_bytes) refl stored chunk a.0 new starts inside.0 inside.1).0 v.0 a.2 in
-      edited_at (data_places form.sizes form.type selection new) (λ places. with_elements form.type chunk places new) (StoresChunk f form after) a.0 a.1 (subst (λ (x : Option (List ℕ)). StoresChunk f form x (with_elements form.type chunk a.0 new)) v.2 w)
+      edited_at (data_places form.sizes form.type selection new) (λ places. with_elements form.type chunk places new) (λ edited. IsStoredFor f form after (Some edited)) a.0 a.1 (subst (λ (x : Option (List ℕ)). IsStoredFor f form x (Some (with_elements form.type chunk a.0 new))) v.2 w)
   edit_found (Err e) stored after selection new answer = tt
 
   -- an edit of which a value is written is accepted, and leaves it

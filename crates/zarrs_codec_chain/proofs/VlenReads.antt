@@ -2,7 +2,7 @@
 use Rattle.std.proofs.Common.{◌≡◌, ℕ, ◌<◌, ◌^◌, nat_lt, if◌then◌else◌, Bool, true, false, Option, Some, None, List, map, Result, Ok, Err, IfOk, refl, ap, sym, ◌∙◌, subst}
 use Rattle.std.specs.Prelude.{is_ok, is_some, IsOkAnd}
 use Rattle.std.specs.List.{All}
-use Rattle.zarrs_chunk.specs.Answer.{◌>>=◌, Answers, AnswersBy, checked_u64, demand, memory, seen}
+use Rattle.zarrs_chunk.specs.Answer.{◌>>=◌, checked_u64, demand, seen}
 use Rattle.zarrs_chunk.specs.AnswerLaws.{demand_ok}
 use Rattle.zarrs_chunk.specs.ChunkShape.{product}
 use Rattle.zarrs_chunk.specs.Selection.{Selection, places_of}
@@ -91,17 +91,6 @@ pub vlen_held : {B : Type 0} (f : BytesCodecs B) (codec : VlenCodec B) (sizes : 
     → (codec_chunk f (plain_vlen codec) sizes type fill value ≡ ok (elements type (product sizes) held)) × (validity type (product sizes) held ≡ Ok tt)
 vlen_held f codec sizes type fill value held h =
     held_of type (product sizes) held (codec_chunk f (plain_vlen codec) sizes type fill value) (chunk_count f (plain_vlen codec) sizes type fill value) h
-
--- what is decoded, as the elements that a container holds
-pub vlen_decoded : {B : Type 0} (f : BytesCodecs B) (codec : VlenCodec B) (sizes : List ℕ) (type : ElementType) (fill value : List ℕ) (r : Result Held CodecError) → AnswersBy memory (Holds type) r (codec_chunk f (plain_vlen codec) sizes type fill value)
-    → Answers memory (elements type (product sizes)) r (codec_chunk f (plain_vlen codec) sizes type fill value)
-vlen_decoded f codec sizes type fill value (Ok held) h = (vlen_held f codec sizes type fill value held h).0
-vlen_decoded f codec sizes type fill value (Err e) h = h
-
-pub vlen_valid : {B : Type 0} (f : BytesCodecs B) (codec : VlenCodec B) (sizes : List ℕ) (type : ElementType) (fill value : List ℕ) (r : Result Held CodecError) → AnswersBy memory (Holds type) r (codec_chunk f (plain_vlen codec) sizes type fill value)
-    → IfOk r (λ held. validity type (product sizes) held ≡ Ok tt)
-vlen_valid f codec sizes type fill value (Ok held) h = (vlen_held f codec sizes type fill value held h).1
-vlen_valid f codec sizes type fill value (Err e) h = tt
 
 counted_same : (test : Bool) (n m : ℕ) → ok m ≡ (if test then ok n else Err Overflow) → m ≡ n
 counted_same true n m e = ok_is m n e

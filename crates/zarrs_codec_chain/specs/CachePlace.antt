@@ -34,8 +34,8 @@ cache_place codecs =
     greater (option_map suc (last_without (λ codec. codec.partial_decode) codecs)) (last_without (λ codec. codec.partial_read) codecs)
 
 -- a partial decoder of the chain has a cache
-abbrev pub has_cache_place : {B : Type 0} → (B → PartialDecoderCapability) → PlainChain B → Bool
-has_cache_place reads chain = is_some (cache_place (codecs_read reads chain))
+abbrev pub has_cache_place : {B : Type 0} → (B → PartialDecoderCapability) → CodecChain B → Bool
+has_cache_place reads chain = is_some (cache_place (codecs_read reads (plain_chain chain)))
 
 -- no failure of the handle comes where the cache of a chain has no place
 abbrev pub SureWithoutCache : {B T : Type 0} → (B → PartialDecoderCapability) → CodecChain B → Result T CodecError → Type 0

@@ -1,12 +1,12 @@
 -- Which bytes an edit through a chain replaces, and how often reads and edits ask their handle: `calls` says what the record of a handle is, `state` what it keeps.
-use Rattle.std.specs.Prelude.{◌≡◌, ℕ, Bool, true, false, Option, Some, None, List, Result, IfOk}
+use Rattle.std.specs.Prelude.{◌≡◌, ℕ, false, Option, Some, None, List, Result, IfOk}
 use Rattle.zarrs_chunk.specs.Selection.{Selection}
 use Rattle.zarrs_data_type.specs.ElementType.{ElementType}
 use Rattle.zarrs_data_type.specs.declared.endianness.Endianness.{Endianness}
 use Rattle.zarrs_codec.specs.Calls.{Calls, MakesReads, MakesWrite}
 use Rattle.zarrs_codec.specs.StorageState.{StorageState, value_indices}
 use Rattle.zarrs_bytes.specs.PartialRead.{place_bytes, place_size}
-use Rattle.zarrs_chain_meaning.specs.PlainChain.{PlainCodec}
+use Rattle.zarrs_chain_meaning.specs.PlainChain.{PlainChain}
 use Rattle.zarrs_codec_chain.specs.ChunkRead.{asks_in_part, ordered_places}
 use Rattle.zarrs_chain_meaning.specs.ChunkForm.{ChunkForm}
 
@@ -32,14 +32,7 @@ CountsEdit calls state form None selection before after result =
 CountsEdit calls state form (Some order) selection before after result =
     ReplacesSelected calls state form selection before after result
 
--- with a cache, or where this holds, the handle is left alone: it is the one that it was
-abbrev pub LeftAloneIf : {H : Type 0} → Bool → (before after : H) → Type 0
-LeftAloneIf cached before after = cached ≡ true → after ≡ before
-
--- where a read through such codecs asks for the whole value, an accepted one asks once
-abbrev pub AsksOnceForAll : {H E T B : Type 0} → (H → Option Calls) → List B → PlainCodec B → (before after : H) → Result T E → Type 0
-AsksOnceForAll calls outer codec before after result = asks_in_part outer codec ≡ false → MakesReads calls 1 before after result
-
--- the same of a read without a cache
-abbrev pub AsksOnceUncached : {H E T B : Type 0} → (H → Option Calls) → Bool → List B → PlainCodec B → (before after : H) → Result T E → Type 0
-AsksOnceUncached calls cached outer codec before after result = cached ≡ false → AsksOnceForAll calls outer codec before after result
+-- where a read through the chain asks for the whole value, an accepted one asks once
+abbrev pub WholeOnce : {H E T B : Type 0} → (H → Option Calls) → PlainChain B → (before after : H) → Result T E → Type 0
+WholeOnce calls chain before after result =
+    asks_in_part chain.bytes_to_bytes chain.array_to_bytes ≡ false → MakesReads calls 1 before after result

@@ -60,14 +60,6 @@ abbrev pub reads_places : {B : Type 0} → List B → PlainCodec B → Bool
 reads_places [] codec = codec_plans codec
 reads_places (first ∷ rest) codec = false
 
--- the same of a chain
-abbrev pub chain_reads_places : {B : Type 0} → PlainChain B → Bool
-chain_reads_places chain = reads_places chain.bytes_to_bytes chain.array_to_bytes
-
--- the same of a chain
-abbrev pub chain_in_place : {B : Type 0} → PlainChain B → Option (Option Endianness)
-chain_in_place chain = order_in_place chain.bytes_to_bytes chain.array_to_bytes
-
 -- and of the chunk that is read
 abbrev pub form_in_place : {B : Type 0} → ChunkForm B → Option (Option Endianness)
 form_in_place form = order_in_place form.chain.bytes_to_bytes form.chain.array_to_bytes
@@ -109,11 +101,6 @@ IsReadPlan f form _ _ = ⊥
 abbrev pub asks_in_part : {B : Type 0} → List B → PlainCodec B → Bool
 asks_in_part [] codec = (codec_reads codec).partial_decode
 asks_in_part (first ∷ rest) codec = false
-
--- no failure of the handle comes where a read through the chain asks for a part of the value alone
-abbrev pub SureInPart : {B T : Type 0} → CodecChain B → Result T CodecError → Type 0
-SureInPart chain result =
-    asks_in_part (plain_chain chain).bytes_to_bytes (plain_chain chain).array_to_bytes ≡ true → is_fault result ≡ false
 
 -- the numbers of the bytes that a read asks for, of what is stored, where it asks for a part alone; or the first error
 abbrev pub read_rests_on : {B : Type 0} → BytesCodecs B → ChunkForm B → Option (List ℕ) → Selection → Result (Option (List ℕ)) CodecError
@@ -160,14 +147,13 @@ chunk_form chain form = record { chain = chain; sizes = form.sizes; type = form.
 abbrev pub chunk_of : {B : Type 0} → CodecChain B → List ℕ → ElementType → List ℕ → ChunkForm B
 chunk_of chain sizes type fill = chunk_form (plain_chain chain) (form_of sizes type fill)
 
+-- what is made has the form of the chunk of these sizes, this type and this fill value, through the chain
+abbrev pub HasForm : {T E B : Type 0} → (T → ChunkForm B) → CodecChain B → List ℕ → ElementType → List ℕ → Result T E → Type 0
+HasForm view chain sizes type fill result = IfOk result (λ it. view it ≡ chunk_of chain sizes type fill)
+
 -- the codec takes such chunks
 abbrev pub TakenBy : {B : Type 0} → BytesCodecs B → PlainCodec B → Form → Type 0
 TakenBy f codec form = is_ok (codec_representation f codec form.sizes form.type form.fill) ≡ true
-
--- a container of the elements at the places of these runs, by the bytes that are there, or by none; or the first error
-abbrev pub GivesRuns : {B : Type 0} → BytesCodecs B → PlainCodec B → Form → Option (List ℕ) → List (ℕ × ℕ) → Result Held CodecError → Type 0
-GivesRuns f codec form stored runs result =
-    GivesBy (Holds form.type) result (codec_read f codec form.sizes form.type form.fill stored (joined_runs runs))
 
 -- the same of what a handle keeps, which may fail
 abbrev pub ReadsRuns : {B : Type 0} → BytesCodecs B → PlainCodec B → Form → StorageState → List (ℕ × ℕ) → Result Held CodecError → Type 0
@@ -179,14 +165,6 @@ abbrev pub SureRuns : {B T : Type 0} → PlainCodec B → Form → StorageState 
 SureRuns codec form before runs result =
     IfOk (codec_rests_on codec form.sizes form.type form.fill before.value (joined_runs runs)) (λ numbers. are_sure before.sure numbers ≡ true → is_fault result ≡ false)
 
--- a container of the fill element at each place of these runs
-abbrev pub FillsRuns : ElementType → List ℕ → List (ℕ × ℕ) → Result Held CodecError → Type 0
-FillsRuns type fill runs result = GivesBy (Holds type) result (Ok (map (λ _. fill_element type fill) (joined_runs runs)))
-
--- the bytes of a value, or none
-abbrev pub value_items : Option (Vec ℕ Global) → Option (List ℕ)
-value_items value = option_map (λ items. items.items) value
-
 -- the plan of a read of the selected places, or the first error
 abbrev pub PlansRead : {B : Type 0} → BytesCodecs B → ChunkForm B → Selection → Result (Option (Vec ByteSpan Global)) CodecError → Type 0
 PlansRead f form selection result =
@@ -197,5 +175,5 @@ abbrev pub form_places : {B : Type 0} → ChunkForm B → Selection → Result (
 form_places form selection = encoded_places form.type form.chain.array_to_array form.sizes selection
 
 -- all codecs decode a part
-abbrev pub form_decodes_parts : {B : Type 0} → (B → PartialDecoderCapability) → ChunkForm B → Bool
-form_decodes_parts reads form = (chain_reads reads form.chain).partial_decode
+abbrev pub decodes_parts : {B : Type 0} → (B → PartialDecoderCapability) → ChunkForm B → Bool
+decodes_parts reads form = (chain_reads reads form.chain).partial_decode

@@ -1,7 +1,6 @@
 -- What a partial decoder's answers rest on, and what of it a cache keeps.
-use Rattle.std.specs.Prelude.{◌≡◌, ℕ, suc, ◌-◌, ◌^◌, ◌&&◌, not, nat_le, min, Bool, true, false, if◌then◌else◌, Option, Some, None, option_map, List, [], ◌∷◌, length, map, take, drop, is_ok, is_some, Result, Ok, IfOk, IsOkAnd, Vec}
-use Rattle.std.proofs.Common.{Global}
-use Rattle.zarrs_chunk.specs.Answer.{◌>>=◌, Answers, GivesBy, GivesItems, is_fault, memory_or_fault}
+use Rattle.std.specs.Prelude.{◌≡◌, ℕ, suc, ◌-◌, ◌^◌, ◌&&◌, not, nat_le, min, Bool, true, false, if◌then◌else◌, Option, Some, None, option_map, List, [], ◌∷◌, length, map, take, drop, is_ok, is_some, Result, Ok}
+use Rattle.zarrs_chunk.specs.Answer.{◌>>=◌, Answers, memory_or_fault}
 use Rattle.zarrs_chunk.specs.Selection.{Selection}
 use Rattle.zarrs_chunk.specs.declared.codec_error.CodecError.{CodecError}
 use Rattle.zarrs_data_type.specs.Element.{Chunk, fill_element}
@@ -92,12 +91,16 @@ stage_fits reads codecs stage.Chunk = true
 abbrev pub opened_chunk : {B : Type 0} → BytesCodecs B → PlainChain B → List ℕ → ElementType → List ℕ → BytesRepresentation → List ℕ → Result Chunk CodecError
 opened_chunk f chain encoded type fill r value = outer_bytes f chain.bytes_to_bytes r value >>= codec_chunk f chain.array_to_bytes encoded type fill
 
+-- the bytes of a value above so many of the first bytes-to-bytes codecs, or the error of what decodes them
+abbrev pub upper_bytes : {B : Type 0} → BytesCodecs B → List B → ℕ → BytesRepresentation → List ℕ → Result (List ℕ) CodecError
+upper_bytes f codecs below r value = outer_bytes f (drop below codecs) (outer_representation f (take below codecs) r) value
+
 -- what answers rest on, of what is stored when a decoder is made, where its cache stands here; or the error of what decodes it: the bytes-to-bytes codecs, the last of them first, and then the array-to-bytes codec
 abbrev pub source_at : {B : Type 0} → BytesCodecs B → PlainChain B → List ℕ → ElementType → List ℕ → BytesRepresentation → CacheStage → Option (List ℕ) → Result Source CodecError
 source_at f chain encoded type fill r stage.Nowhere stored = Ok (bytes_above (length chain.bytes_to_bytes) stored)
 source_at f chain encoded type fill r (stage.Bytes below) None = Ok (bytes_above below None)
 source_at f chain encoded type fill r (stage.Bytes below) (Some value) = do
-  bytes ← outer_bytes f (drop below chain.bytes_to_bytes) (outer_representation f (take below chain.bytes_to_bytes) r) value
+  bytes ← upper_bytes f chain.bytes_to_bytes below r value
   Ok (bytes_above below (Some bytes))
 source_at f chain encoded type fill r stage.Chunk None = Ok (chunk_below None)
 source_at f chain encoded type fill r stage.Chunk (Some value) = do
@@ -163,53 +166,22 @@ IsSizeOf type (chunk_below (Some chunk)) size = (held : Held) × Holds type held
 
 -- ---- what calls give
 
--- the container of the chunk that the array-to-bytes codec reads of a value, or the first error
-abbrev pub OpensChunk : {B : Type 0} → BytesCodecs B → PlainChain B → Form → BytesRepresentation → List ℕ → Result Held CodecError → Type 0
-OpensChunk f chain form r value result = GivesBy (Holds form.type) result (opened_chunk f chain form.sizes form.type form.fill r value)
-
--- the bytes of a value above so many of the first bytes-to-bytes codecs, or the error of what decodes them
-abbrev pub upper_bytes : {B : Type 0} → BytesCodecs B → List B → ℕ → BytesRepresentation → List ℕ → Result (List ℕ) CodecError
-upper_bytes f codecs below r value = outer_bytes f (drop below codecs) (outer_representation f (take below codecs) r) value
-
--- these are given, or the first error
-abbrev pub OpensBytes : {B : Type 0} → BytesCodecs B → List B → ℕ → BytesRepresentation → List ℕ → Result (Vec ℕ Global) CodecError → Type 0
-OpensBytes f codecs below r value result = GivesItems result (upper_bytes f codecs below r value)
-
 -- the stage is one of the chain
 abbrev pub is_stage_of : {B : Type 0} → PlainChain B → CacheStage → Bool
 is_stage_of chain stage = stage_fits (codec_reads chain.array_to_bytes) (length chain.bytes_to_bytes) stage
 
 -- the cache is one of the chunks that the chain's array-to-bytes codec gets
-abbrev pub is_cache_of : {B : Type 0} → PlainChain B → List ℕ → ElementType → Cache → Bool
-is_cache_of chain encoded type cache = cache_fits (codec_reads chain.array_to_bytes) type (product encoded) (length chain.bytes_to_bytes) cache
-
--- a cache that is made is one of these
-abbrev pub GivesCacheOf : {B : Type 0} → CodecChain B → List ℕ → ElementType → Result Cache CodecError → Type 0
-GivesCacheOf chain encoded type result = IfOk result (λ cache. is_cache_of (plain_chain chain) encoded type cache ≡ true)
+abbrev pub is_cache_of : {B : Type 0} → CodecChain B → List ℕ → ElementType → Cache → Bool
+is_cache_of chain encoded type cache =
+    cache_fits (codec_reads (plain_chain chain).array_to_bytes) type (product encoded) (length (plain_chain chain).bytes_to_bytes) cache
 
 -- a cache at this stage, filled from what is stored, or the error of what decodes it
 abbrev pub FillsCache : {B : Type 0} → BytesCodecs B → PlainChain B → BytesRepresentation → CacheStage → Form → Option (List ℕ) → Result Cache CodecError → Type 0
 FillsCache f chain r stage form stored result =
     Answers memory_or_fault (source_of form.type (product form.sizes) (length chain.bytes_to_bytes) stored) result (source_at f chain form.sizes form.type form.fill r stage stored)
 
--- the cache of a decoder that was made of what was stored then has so many bytes
-abbrev pub IsCacheSize : {B : Type 0} → BytesCodecs B → (B → PartialDecoderCapability) → ChunkForm B → Option (List ℕ) → ℕ → Type 0
-IsCacheSize f reads form stored size = IsOkAnd (source_made f reads form stored) (λ source. IsSizeOf form.type source size)
-
--- the chain wants a cache
-abbrev pub wants_cache : {B : Type 0} → (B → PartialDecoderCapability) → PlainChain B → Bool
-wants_cache reads chain = has_cache (cache_stage reads chain)
-
--- no failure of the handle comes where the chain's cache stands nowhere
-abbrev pub SureUncached : {B T : Type 0} → (B → PartialDecoderCapability) → CodecChain B → Result T CodecError → Type 0
-SureUncached reads chain result = cache_stage reads (plain_chain chain) ≡ stage.Nowhere → is_fault result ≡ false
-
 -- ---- how often the handle is asked: `calls` says what the record of a handle is
 
--- how many reading calls fill a cache: one; where there is none, none
-abbrev pub filling_reads : Bool → ℕ
-filling_reads cached = if cached then 1 else 0
-
--- a cache was made by so many reading calls
-abbrev pub FillsByReads : {H : Type 0} → (H → Option Calls) → (before after : H) → Result Cache CodecError → Type 0
-FillsByReads calls before after result = IfOk result (λ cache. calls after ≡ after_reads (filling_reads (is_kept cache)) (calls before))
+-- a cache, where there is one, was filled by one reading call; where there is none, by none
+abbrev pub FilledOnce : {H : Type 0} → (H → Option Calls) → Bool → (before after : H) → Type 0
+FilledOnce calls cached before after = calls after ≡ after_reads (if cached then 1 else 0) (calls before)

@@ -1,13 +1,11 @@
 -- What a write in part leaves through a chain.
 use Rattle.zarrs_codec.specs.StorageState.{StorageState}
 use Rattle.std.specs.Prelude.{◌≡◌, ℕ, Bool, false, Option, Some, None, List, length, map, Result, Ok, Err, IfErr, OnOk, IsOkAnd, ◌+◌, ◌≤◌, All, Vec}
-use Rattle.zarrs_chunk.specs.Answer.{◌>>=◌, Answers, memory, memory_or_fault, seen, Gives}
+use Rattle.zarrs_chunk.specs.Answer.{◌>>=◌, Answers, memory, memory_or_fault, seen}
 use Rattle.zarrs_chunk.specs.ChunkShape.{product}
-use Rattle.zarrs_chunk.specs.Indexer.{selection_of}
 use Rattle.zarrs_chunk.specs.Region.{Region}
 use Rattle.zarrs_chunk.specs.Selection.{Selection, bounds_of}
 use Rattle.zarrs_chunk.specs.declared.codec_error.CodecError.{CodecError}
-use Rattle.zarrs_chunk.specs.declared.indexer.Indexer.{Indexer}
 use Rattle.zarrs_data_type.specs.Form.{form_of}
 use Rattle.zarrs_data_type.specs.Element.{Chunk}
 use Rattle.zarrs_data_type.specs.declared.endianness.Endianness.{Endianness}
@@ -85,14 +83,15 @@ abbrev pub EditStarts : {B : Type 0} → BytesCodecs B → ChunkForm B → Optio
 EditStarts f form None chunk = chunk ≡ filled_chunk form.sizes form.type form.fill
 EditStarts f form (Some value) chunk = ChainStands f form.chain form.sizes form.type form.fill value chunk
 
--- what is stored is the value that is written for this chunk
-abbrev pub StoresChunk : {B : Type 0} → BytesCodecs B → ChunkForm B → Option (List ℕ) → Chunk → Type 0
-StoresChunk f form None chunk = ⊥
-StoresChunk f form (Some value) chunk = ChainWritten f form.chain form.sizes form.type form.fill value chunk
+-- the value is written for the chunk; nothing for nothing
+abbrev pub IsStoredFor : {B : Type 0} → BytesCodecs B → ChunkForm B → Option (List ℕ) → Option Chunk → Type 0
+IsStoredFor f form None None = Unit {0}
+IsStoredFor f form (Some value) (Some chunk) = ChainWritten f form.chain form.sizes form.type form.fill value chunk
+IsStoredFor f form _ _ = ⊥
 
 -- Where an edit of what is stored starts from a chunk, it is accepted exactly where the selection is in bounds, the new elements fit it and a value is written for the chunk with these; the value afterwards is that one, the last write of a place standing. Else the first error is answered. Only a lack of memory or a failure of the handle may come in its place, a failure behind the errors of the selection and of the elements, which leave the handle as it was.
 pub record EditsChunk {B : Type 0} (f : BytesCodecs B) (form : ChunkForm B) (before after : StorageState) (selection : Selection) (new : Held) (result : Result (Unit {0}) CodecError) : Type 0 where
-  pub found : OnOk result ((chunk : Chunk) → EditStarts f form before.value chunk → IsOkAnd (edited_chunk form.sizes form.type chunk selection new) (StoresChunk f form after.value))
+  pub found : OnOk result ((chunk : Chunk) → EditStarts f form before.value chunk → IsOkAnd (edited_chunk form.sizes form.type chunk selection new) (λ edited. IsStoredFor f form after.value (Some edited)))
   pub only : (chunk : Chunk) (value : List ℕ) → EditStarts f form before.value chunk → IsOkAnd (edited_chunk form.sizes form.type chunk selection new) (ChainWritten f form.chain form.sizes form.type form.fill value)
       → Answers memory_or_fault (λ _. after.value) result (Ok (Some value))
   pub exact : Answers memory_or_fault (λ _. after.value) result (seen Some (stored_written f form before.value selection new))
@@ -111,8 +110,8 @@ abbrev pub form_written : {B : Type 0} → ChunkForm B → Selection → Held �
 form_written form selection new = written_places form.type form.chain.array_to_array form.sizes selection new
 
 -- all codecs encode a part
-abbrev pub form_encodes_parts : {B : Type 0} → (B → PartialEncoderCapability) → ChunkForm B → Bool
-form_encodes_parts writes form = (chain_writes writes form.chain).partial_encode
+abbrev pub encodes_parts : {B : Type 0} → (B → PartialEncoderCapability) → ChunkForm B → Bool
+encodes_parts writes form = (chain_writes writes form.chain).partial_encode
 
 -- each run ends within the chunk
 abbrev pub RunsInside : {B : Type 0} → ChunkForm B → List (ℕ × ℕ) → Type 0
@@ -125,14 +124,6 @@ FitsRuns form runs new = data_fit form.type (length (joined_runs runs)) new ≡ 
 -- there is one new element of the type for each place of a vector of runs
 abbrev pub FitsPlacesIn : ElementType → Held → Vec (ℕ × ℕ) Global → Type 0
 FitsPlacesIn type new runs = data_fit type (length (places_in runs)) new ≡ Ok tt
-
--- runs of the places that the indexer selects, where there is one new element of the type for each; or the first error
-abbrev pub GivesDataPlaces : Indexer → List ℕ → ElementType → Held → Result (Vec (ℕ × ℕ) Global) CodecError → Type 0
-GivesDataPlaces indexer sizes type new result = Gives places_in result (data_places sizes type (selection_of indexer) new)
-
--- a container of such a chunk
-abbrev pub IsWhole : {B : Type 0} → ChunkForm B → Held → Type 0
-IsWhole form held = validity form.type (product form.sizes) held ≡ Ok tt
 
 -- the value afterwards is the one that new elements at a selection leave, in place or by the whole value; or the first error is answered
 abbrev pub WritesSelection : {B : Type 0} → BytesCodecs B → ChunkForm B → Option (Option Endianness) → (before after : StorageState) → Selection → Held → Result (Unit {0}) CodecError → Type 0

@@ -11,9 +11,8 @@ use Rattle.zarrs_codec.specs.StorageState.{StorageState, count_if}
 use Rattle.zarrs_bytes.specs.PartialWrite.{filled_chunk}
 use Rattle.zarrs_packbits.specs.Laws.{HasBytes}
 use Rattle.zarrs_chain_meaning.specs.ChunkForm.{ChunkForm}
-use Rattle.zarrs_codec_chain.specs.ChunkWrite.{stored_written}
+use Rattle.zarrs_codec_chain.specs.ChunkWrite.{IsStoredFor, stored_written}
 use Rattle.zarrs_chain_meaning.specs.MachineBytes.{HeldHasBytes}
-use Rattle.zarrs_chain_meaning.specs.CodecMeaning.{ChainWritten}
 use Rattle.zarrs_codec_chain.specs.declared.partial_encoder.edits.Edit.{Edit}
 use Rattle.zarrs_codec_chain.specs.declared.partial_encoder.edits.Edit.TheVariants.{Encode, Erase}
 use Rattle.zarrs_codec_chain.specs.declared.partial_encoder.edits.EditOutcome.{EditOutcome}
@@ -34,12 +33,6 @@ edited_state form state Erase = Ok None
 abbrev pub states_edited : {B : Type 0} → ChunkForm B → List Edit → Option Chunk → Result (Option Chunk) CodecError
 states_edited form [] state = Ok state
 states_edited form (edit ∷ edits) state = edited_state form state edit >>= states_edited form edits
-
--- the value is written for the chunk; nothing for nothing
-abbrev pub IsStoredFor : {B : Type 0} → BytesCodecs B → ChunkForm B → Option (List ℕ) → Option Chunk → Type 0
-IsStoredFor f form None None = Unit {0}
-IsStoredFor f form (Some value) (Some chunk) = ChainWritten f form.chain form.sizes form.type form.fill value chunk
-IsStoredFor f form _ _ = ⊥
 
 -- the chunk, if there is one, is made of bytes
 abbrev pub StateHasBytes : Option Chunk → Type 0
@@ -74,15 +67,11 @@ LeavesWritten f form edits before after =
 
 -- ---- which edits are accepted
 
--- a value is written for the chunk; for nothing there is none
-abbrev pub IsWritable : {B : Type 0} → BytesCodecs B → ChunkForm B → Option Chunk → Type 0
-IsWritable f form state = (stored : Option (List ℕ)) × IsStoredFor f form stored state
-
 -- Each of these edits in turn can be made of the state: an erase always; new elements where the indexer is in bounds, the elements fit its places, and a value is written for the chunk with them.
 abbrev pub AcceptsEdits : {B : Type 0} → BytesCodecs B → ChunkForm B → List Edit → Option Chunk → Type 0
 AcceptsEdits f form [] state = Unit {0}
 AcceptsEdits f form (edit ∷ edits) state =
-    IsOkAnd (edited_state form state edit) (λ next. IsWritable f form next × AcceptsEdits f form edits next)
+    IsOkAnd (edited_state form state edit) (λ next. ((stored : Option (List ℕ)) × IsStoredFor f form stored next) × AcceptsEdits f form edits next)
 
 -- what may come in place of an edit's answer: of new elements a lack of memory or a failure of the handle; of an erase, which takes no memory, a failure alone
 abbrev pub edit_excuse : Edit → CodecError → Bool

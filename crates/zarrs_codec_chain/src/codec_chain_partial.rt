@@ -1,10 +1,17 @@
 //! The coders of a chunk in part that a chain makes.
-ghost use Rattle.std.specs.Prelude.{◌≡◌, IfOk, IfErr};
-ghost use Rattle.zarrs_codec_chain.specs.CachePlace.{SureWithoutCache};
-ghost use Rattle.zarrs_codec_chain.specs.ChunkRead.{SureInPart};
-ghost use Rattle.zarrs_codec_chain.specs.CodersMade.{CachesAsPlaced, ChainFirst, DecoderHasForm, DecoderMade, EncoderHasForm, EncoderMade, HandsBackRead, MadeByReads, MadeOver};
-ghost use Rattle.zarrs_codec_chain.specs.PartialDecoder.{made};
-ghost use Rattle.zarrs_codec_chain.specs.PartialEncoder.{encoder_handle};
+ghost use Rattle.std.specs.Prelude.{◌≡◌, IfOk, IfErr, true, false};
+ghost use Rattle.zarrs_codec_chain.specs.CachePlace.{SureWithoutCache, has_cache_place};
+ghost use Rattle.zarrs_codec_chain.specs.ChunkRead.{HasForm, asks_in_part};
+ghost use Rattle.zarrs_codec_chain.specs.ChunkSource.{FilledOnce};
+ghost use Rattle.zarrs_codec_chain.specs.CodersMade.{DecoderMade, MadeOver};
+ghost use Rattle.zarrs_codec_chain.specs.PartialDecoder.{form_of, handle_of, is_cached, made};
+ghost use Rattle.zarrs_codec_chain.specs.PartialEncoder.{encoder_form, encoder_handle};
+ghost use Rattle.zarrs_chain.specs.ChainView.{plain_chain};
+ghost use Rattle.zarrs_chunk.specs.Answer.{is_fault, GivesValue, seen};
+ghost use Rattle.zarrs_codec_chain.specs.RefusedFirst.{RefusedFirst};
+ghost use Rattle.zarrs_chain_meaning.specs.CodecMeaning.{chain_representation};
+ghost use Rattle.zarrs_codec.specs.StorageState.{after_reading};
+ghost use Rattle.zarrs_codec.specs.Refused.{outcome};
 
 use crate::chunk_coder::ChunkCoder;
 use crate::partial_decoder::array_partial_decoder::ArrayPartialDecoder;
@@ -67,16 +74,24 @@ impl<B: BytesToBytesCodecTraits> CodecChainPartialTraits<B> for CodecChain<B> {
         fill_value: &FillValue,
     ) -> Result<ArrayPartialDecoder<'a, H, B>, Refused<H>>
         ensures answer { DecoderMade self.now shape.now data_type.now fill_value.now handle result }
-        ensures form { DecoderHasForm self.now shape.now data_type.now fill_value.now result }
-        ensures cached { CachesAsPlaced B.reads_in_part self.now result }
+        ensures form { HasForm form_of self.now shape.now data_type.now fill_value.now result }
+        ensures cached { IfOk result
+            (λ it. is_cached it ≡ has_cache_place B.reads_in_part self.now) }
         ensures over_state { MadeOver H.state handle result }
-        ensures counted { MadeByReads H.calls handle result }
+        ensures counted { IfOk result
+            (λ it. FilledOnce H.calls (is_cached it) handle (handle_of it)) }
         ensures over_reference { MadeOver H.lent handle result }
-        ensures handed_left { HandsBackRead H.state handle result }
+        // Wide: no other clause says this, so it is written out.
+        ensures handed_left { IfErr result
+            (λ refused. H.state refused.handle ≡ after_reading (made result) (H.state handle)) }
         ensures handed_reference { IfErr result (λ refused. H.lent refused.handle ≡ H.lent handle) }
         ensures no_fault_if_uncached { SureWithoutCache B.reads_in_part self.now (made result) }
-        ensures measured_first { ChainFirst self.now shape.now data_type.now fill_value.now result }
-        ensures no_fault_if_in_part { SureInPart self.now (made result) }
+        // Wide: no other clause says this, so it is written out.
+        ensures measured_first { RefusedFirst (chain_representation B.functions
+            (plain_chain self.now) shape.now data_type.now fill_value.now) (made result) }
+        // Wide: no other clause says this, so it is written out.
+        ensures no_fault_if_in_part { asks_in_part (plain_chain self.now).bytes_to_bytes
+            (plain_chain self.now).array_to_bytes ≡ true → is_fault (made result) ≡ false }
     {
         let mut handle = handle;
         match ChunkCoder::new(alloc, self, &mut handle, shape, data_type, fill_value) {
@@ -95,8 +110,10 @@ impl<B: BytesToBytesCodecTraits> CodecChainPartialTraits<B> for CodecChain<B> {
         data_type: &DataType,
         fill_value: &FillValue,
     ) -> Result<ArrayPartialEncoder<'a, H, B>, Refused<H>>
-        ensures answer { EncoderMade self.now shape.now data_type.now fill_value.now result }
-        ensures form { EncoderHasForm self.now shape.now data_type.now fill_value.now result }
+        // Wide: no other clause says this, so it is written out.
+        ensures answer { GivesValue (outcome result) (seen (λ _. tt) (chain_representation
+            B.functions (plain_chain self.now) shape.now data_type.now fill_value.now)) }
+        ensures form { HasForm encoder_form self.now shape.now data_type.now fill_value.now result }
         ensures over { IfOk result (λ encoder. encoder_handle encoder ≡ handle) }
         ensures handed_back { IfErr result (λ refused. refused.handle ≡ handle) }
     {

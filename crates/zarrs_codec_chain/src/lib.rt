@@ -54,3 +54,4 @@ pub use zarrs_metadata::{
     VlenCodecConfigurationV0, VlenCodecConfigurationV0_1, VlenIndexDataType, VlenIndexLocation,
 };
 pub use zarrs_packbits::{PACKBITS, PackBitsCodec, PackBitsPartialDecoder};
+pub use zarrs_vlen_v2::{VLEN_BYTES, VLEN_UTF8, VlenV2Codec};

@@ -164,6 +164,22 @@ const THROUGH_CHAINS: &'static [Row] = &[
         refusal: FENCED,
     },
     Row {
+        name: "a text behind its length, of a value whose last byte is held back",
+        chunk: r#"{"shape":[2],"data_type":"string","fill_value":"","codecs":["vlen-utf8"]}"#,
+        value: b"\x02\0\0\0\x01\0\0\0a\x02\0\0\0bc",
+        inside: &[(0, 14)],
+        part: r#"{"at":{"ranges":[[0,1]]},"data":[]}"#,
+        refusal: FENCED,
+    },
+    Row {
+        name: "the second of two texts, each behind its length",
+        chunk: r#"{"shape":[2],"data_type":"string","fill_value":"","codecs":["vlen-utf8"]}"#,
+        value: b"\x02\0\0\0\x01\0\0\0a\x02\0\0\0bc",
+        inside: &[(0, 15)],
+        part: r#"{"at":{"ranges":[[1,2]]},"data":["6263"]}"#,
+        refusal: None,
+    },
+    Row {
         name: "two words of turned axes",
         chunk: TURNED_TWICE,
         value: WORDS,

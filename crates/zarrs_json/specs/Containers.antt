@@ -1,6 +1,5 @@
 -- The container of a chunk's elements.
-use Rattle.std.specs.Prelude.{ℕ, List, Vec, Option, Some, None, Result, replicate, map}
-use Rattle.std.specs.declared.alloc.Global.{Global}
+use Rattle.std.specs.Prelude.{ℕ, List, Option, Some, None, Result, replicate, map}
 use Rattle.std.specs.List.{flat_map}
 use Rattle.zarrs_chunk.specs.Answer.{◌>>=◌}
 use Rattle.zarrs_chunk.specs.declared.codec_error.CodecError.{CodecError}
@@ -33,10 +32,6 @@ chunk_bytes size chunk = flat_map (bytes_or_zeros size) chunk
 -- the bytes of elements of any length, one after another, and their offsets
 abbrev pub chunk_cuts : Chunk → List ℕ × List ℕ
 chunk_cuts chunk = bytes_with_offsets (bytes_or_zeros 0) chunk
-
--- vectors of bytes and of offsets as lists
-abbrev pub cuts_seen : Vec ℕ Global × Vec ℕ Global → List ℕ × List ℕ
-cuts_seen parts = (parts.0.items, parts.1.items)
 
 -- what stands under the mask byte of an element: what is inside where it is present
 abbrev pub under_mask : Element → Element

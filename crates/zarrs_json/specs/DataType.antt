@@ -7,7 +7,7 @@ use Rattle.zarrs_chunk.specs.Answer.{◌>>=◌, demand, seen}
 use Rattle.zarrs_data_type.specs.ElementType.{ElementType, fixed, text, bytes, optional, components_type}
 use Rattle.zarrs_json.specs.declared.refusal.Refusal.{Refusal}
 use Rattle.zarrs_json.specs.declared.refusal.Refusal.TheVariants.{Syntax}
-use Rattle.zarrs_json.specs.Refusal.{codec_answer, Reads}
+use Rattle.zarrs_json.specs.Refusal.{codec_answer}
 use Rattle.zarrs_json.specs.Json.{only_member, member_count}
 
 -- a type by its name: of one component, or of any length
@@ -76,8 +76,3 @@ type_in (object (member key tree no_members)) =
     else if bytes_eq (codes "components") key then components_at tree
     else Err Syntax
 type_in (object (member key tree (member other more rest))) = Err Syntax
-
--- of what was read of the type inside, the type of elements that may be absent is read
-abbrev pub ReadsOptional : Result ElementType Refusal → Result ElementType Refusal → Type 0
-ReadsOptional inner result =
-    (expected : Result ElementType Refusal) → Reads inner expected → Reads result (seen optional expected)

@@ -1,6 +1,5 @@
 -- Elements as JSON: a list of them, each by the type.
 use Rattle.std.specs.Prelude.{ℕ, List, [], ◌∷◌, ◌==◌, length, map, Option, Some, None, ok_or, Result, Ok, Err}
-use Rattle.std.specs.List.{range_with_len}
 use Rattle.std.specs.Result.{result_ok}
 use Rattle.hex.specs.Hex.{decode_of}
 use Rattle.serde_json.specs.Data.{Data, null, boolean, number, string, array, object, Items, no_items, item}
@@ -81,10 +80,6 @@ element_tree (present element) = array (item (element_tree element) no_items)
 -- the element at a place of a container as JSON
 abbrev pub tree_at : ElementType → Held → ℕ → Data
 tree_at type held place = element_tree (element_at type held place)
-
--- the first `count` elements of a container as JSON
-abbrev pub trees_of : ElementType → Held → ℕ → List Data
-trees_of type held count = map (tree_at type held) (range_with_len 0 count)
 
 -- the elements of a chunk as JSON
 abbrev pub chunk_tree : Chunk → Data

@@ -1,15 +1,14 @@
 -- Indexers as JSON: {"ranges":[[start,end],..]} or {"indices":[[..],..]}.
-use Rattle.std.specs.Prelude.{ℕ, List, [], ◌∷◌, Vec, Option, Some, None, ok_or, Result, Ok, Err, codes}
-use Rattle.std.specs.declared.alloc.Global.{Global}
+use Rattle.std.specs.Prelude.{ℕ, List, [], ◌∷◌, Option, Some, None, ok_or, Result, Ok, Err, codes}
 use Rattle.std.specs.declared.ops.Range.{Range}
 use Rattle.serde_json.specs.Data.{Data, Items, no_items, item}
 use Rattle.serde_json.specs.Find.{as_array, as_object}
 use Rattle.zarrs_chunk.specs.Answer.{◌>>=◌}
 use Rattle.zarrs_chunk.specs.ArraySubset.{subset_of_ranges}
-use Rattle.zarrs_chunk.specs.Selection.{Selection, subset, indices, tuples_seen}
+use Rattle.zarrs_chunk.specs.Selection.{Selection, subset, indices}
 use Rattle.zarrs_json.specs.declared.refusal.Refusal.{Refusal}
 use Rattle.zarrs_json.specs.declared.refusal.Refusal.TheVariants.{Syntax}
-use Rattle.zarrs_json.specs.Refusal.{codec_answer, ReadsAs}
+use Rattle.zarrs_json.specs.Refusal.{codec_answer}
 use Rattle.zarrs_json.specs.Json.{number_list, only_member}
 
 -- a start and an end
@@ -67,7 +66,3 @@ abbrev pub selection_in : Data → Result Selection Refusal
 selection_in tree = do
   members ← ok_or (as_object tree) Syntax
   selection_at (only_member (codes "ranges") members) (only_member (codes "indices") members)
-
--- the index tuples that are read are the expected ones, or the first error is returned; only lack of memory may come in their place
-abbrev pub ReadsTuples : Result (Vec (Vec ℕ Global) Global) Refusal → Result (List (List ℕ)) Refusal → Type 0
-ReadsTuples result expected = ReadsAs (λ v. tuples_seen v.items) result expected

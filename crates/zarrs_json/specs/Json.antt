@@ -1,5 +1,5 @@
 -- JSON texts, what is read of them, and how an answer shows JSON.
-use Rattle.std.specs.Prelude.{ℕ, suc, List, [], ◌∷◌, ◌++◌, Option, Some, None, option_and_then, ok_or, Result, Ok, String, Vec, map, codes, if◌then◌else◌}
+use Rattle.std.specs.Prelude.{ℕ, suc, List, [], ◌∷◌, ◌++◌, Option, Some, None, option_and_then, ok_or, Result, Ok, String, codes, if◌then◌else◌}
 use Rattle.std.specs.Result.{result_ok}
 use Rattle.std.specs.Str.{is_utf8}
 use Rattle.std.proofs.Common.{Bor}
@@ -9,7 +9,7 @@ use Rattle.hex.specs.Hex.{decode_of, encode_lower}
 use Rattle.serde_json.specs.Data.{Data, string, Items, no_items, item, Members, no_members, member}
 use Rattle.serde_json.specs.Find.{as_u64, as_number, as_str, as_array, get_member}
 use Rattle.serde_json.specs.Read.{read}
-use Rattle.serde_json.specs.View.{view, members_view}
+use Rattle.serde_json.specs.View.{members_view}
 use Rattle.serde_json.specs.Written.{has_float, compact_text}
 use Rattle.serde_json.specs.declared.value.Value.{Value}
 use Rattle.zarrs_chunk.specs.Answer.{◌>>=◌}
@@ -20,17 +20,9 @@ use Rattle.zarrs_json.specs.declared.refusal.Refusal.TheVariants.{Syntax}
 abbrev pub members_seen : BTreeMap (String Global) Value Global → Members
 members_seen members = members_view members.entries
 
--- the tree of a lent value
-abbrev pub lent_value : Bor Value → Data
-lent_value value = view value.now
-
 -- the members of a lent object
 abbrev pub lent_object : Bor (BTreeMap (String Global) Value Global) → Members
 lent_object members = members_seen members.now
-
--- the trees of a list
-abbrev pub trees_in : Vec Value Global → List Data
-trees_in values = map view values.items
 
 -- a tree with a float at any depth doesn't count
 abbrev pub without_floats : Data → Option Data

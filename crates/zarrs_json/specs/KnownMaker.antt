@@ -15,10 +15,7 @@ abbrev pub known_sample : KnownMaker → List ℕ → Option KnownBytesCodec
 known_sample Shipped name = None
 known_sample WithSamples name = option_map Sample (sample_named name)
 
--- the codec of a name
-abbrev pub known_named : KnownMaker → List ℕ → Option KnownBytesCodec
-known_named maker name = if bytes_eq name crc32c_name then Some (Crc32c (record {})) else known_sample maker name
-
 -- what is made of a metadata: the codec of its name, with any configuration
 abbrev pub known_made : KnownMaker → Metadata → Result (Option KnownBytesCodec) PluginCreateError
-known_made maker metadata = Ok (known_named maker metadata.name)
+known_made maker metadata =
+    Ok (if bytes_eq metadata.name crc32c_name then Some (Crc32c (record {})) else known_sample maker metadata.name)

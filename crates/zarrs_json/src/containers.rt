@@ -5,7 +5,7 @@ ghost use Rattle.zarrs_data_type.specs.ElementType.{text};
 ghost use Rattle.zarrs_array_bytes.specs.Held.{owned_bytes};
 ghost use Rattle.zarrs_array_bytes.specs.Parts.{with_mask};
 ghost use Rattle.zarrs_array_bytes.specs.Present.{mask_of, presence};
-ghost use Rattle.zarrs_json.specs.Containers.{plain_bytes as plain_bytes_of, bytes_or_zeros, chunk_bytes, chunk_cuts, cuts_seen, under_mask, container_of, variable_answer};
+ghost use Rattle.zarrs_json.specs.Containers.{plain_bytes as plain_bytes_of, bytes_or_zeros, chunk_bytes, chunk_cuts, under_mask, container_of, variable_answer};
 ghost use Rattle.zarrs_json.specs.Element.{slot_seen, slots_seen};
 ghost use Rattle.zarrs_json.specs.Refusal.{codec_answer, Reads};
 
@@ -58,7 +58,7 @@ fn fixed_bytes(alloc: Global, size: usize, slots: &[Slot<'_>]) -> Result<Vec<u8>
 
 /// The bytes of elements of any length, one after another, and their offsets.
 fn variable_parts(alloc: Global, slots: &[Slot<'_>]) -> Result<(Vec<u8>, Vec<usize>), AllocError>
-    ensures value { IfOk result (λ parts. cuts_seen parts ≡ chunk_cuts (slots_seen slots.now)) }
+    ensures value { IfOk result (λ v. (v.0.items, v.1.items) ≡ chunk_cuts (slots_seen slots.now)) }
 {
     let mut bytes = Vec::new(alloc);
     let mut offsets = Vec::new(alloc);

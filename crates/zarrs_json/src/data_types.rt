@@ -2,9 +2,10 @@
 ghost use Rattle.std.specs.Prelude.{◌≡◌, ok_or};
 ghost use Rattle.serde_json.specs.View.{view};
 ghost use Rattle.zarrs_chunk.specs.Answer.{seen};
+ghost use Rattle.zarrs_data_type.specs.ElementType.{optional};
 ghost use Rattle.zarrs_json.specs.Json.{members_seen, lent_object};
 ghost use Rattle.zarrs_json.specs.Refusal.{Reads};
-ghost use Rattle.zarrs_json.specs.DataType.{type_named, number_at, truth_at, components_in, components_alone, components_among, type_in, ReadsOptional};
+ghost use Rattle.zarrs_json.specs.DataType.{type_named, number_at, truth_at, components_in, components_alone, components_among, type_in};
 
 use crate::json::{Members, member, only_member};
 use crate::refusal::Refusal;
@@ -84,7 +85,7 @@ fn several(members: &Members) -> Result<DataType, Refusal>
 
 /// The type of elements that may be absent, by what was read of the type inside.
 fn optional(alloc: Global, inner: Result<DataType, Refusal>) -> Result<DataType, Refusal>
-    ensures answer { ReadsOptional inner result }
+    ensures answer { (expected : _) → Reads inner expected → Reads result (seen optional expected) }
 {
     match inner {
         Ok(inner) => Ok(DataType::optional(alloc, inner)?),

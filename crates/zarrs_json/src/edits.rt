@@ -3,7 +3,7 @@ ghost use Rattle.std.specs.Prelude.{◌≡◌};
 ghost use Rattle.serde_json.specs.View.{view};
 ghost use Rattle.zarrs_chunk.specs.Answer.{seen};
 ghost use Rattle.zarrs_json.specs.Edit.{edit_at, edit_among as edit_of_members, edit_in, ReadsEdit};
-ghost use Rattle.zarrs_json.specs.Json.{lent_value, members_seen, needed_member};
+ghost use Rattle.zarrs_json.specs.Json.{members_seen, needed_member};
 
 use crate::element_lists::elements;
 use crate::indexers::indexer;
@@ -25,7 +25,7 @@ pub struct Edit {
 }
 
 fn value_at<'v>(members: &'v Members, key: &str) -> Result<&'v Value, Refusal>
-    ensures answer { seen lent_value result ≡ needed_member key.now (members_seen members.now) }
+    ensures answer { seen (λ v. view v.now) result ≡ needed_member key.now (members_seen members.now) }
 {
     member(members, key).ok_or(Refusal::Syntax)
 }

@@ -1,10 +1,10 @@
 //! Elements read from JSON.
 ghost use Rattle.std.specs.Prelude.{◌≡◌, Some, IfOk, map};
 ghost use Rattle.serde_json.specs.View.{view, items_view};
-ghost use Rattle.zarrs_json.specs.Refusal.{Reads};
+ghost use Rattle.zarrs_json.specs.Refusal.{Reads, ReadsAs};
 ghost use Rattle.zarrs_json.specs.Edit.{container_in};
 ghost use Rattle.zarrs_json.specs.Elements.{elements_in};
-ghost use Rattle.zarrs_json.specs.Element.{element_seen, slots_seen, ReadsElements};
+ghost use Rattle.zarrs_json.specs.Element.{element_seen, slots_seen};
 
 use crate::containers::container;
 use crate::element::{Element, read_element};
@@ -19,7 +19,9 @@ fn elements_among(
     data_type: &DataType,
     items: &Vec<Value>,
 ) -> Result<Vec<Element>, Refusal>
-    ensures answer { ReadsElements result (elements_in data_type.now (items_view items.now.items)) }
+    // Wide: elements in a vector, seen as those of a chunk.
+    ensures answer { ReadsAs (λ v. map element_seen v.items) result
+        (elements_in data_type.now (items_view items.now.items)) }
 {
     let mut elements = Vec::new(alloc);
     for item in items {

@@ -2,8 +2,9 @@
 ghost use Rattle.std.specs.Prelude.{◌≡◌};
 ghost use Rattle.serde_json.specs.View.{view, items_view};
 ghost use Rattle.zarrs_chunk.specs.Indexer.{selection_of};
+ghost use Rattle.zarrs_chunk.specs.Selection.{tuples_seen};
 ghost use Rattle.zarrs_json.specs.Refusal.{Reads, ReadsAs, ReadsItems};
-ghost use Rattle.zarrs_json.specs.Indexer.{range_between, range_in, ranges_in, tuples_in, ranges_selection, indices_selection, selection_in, ReadsTuples};
+ghost use Rattle.zarrs_json.specs.Indexer.{range_between, range_in, ranges_in, tuples_in, ranges_selection, indices_selection, selection_in};
 
 use crate::json::{numbers, object, only_member};
 use crate::refusal::Refusal;
@@ -39,11 +40,11 @@ fn ranges_among(alloc: Global, items: &Vec<Value>) -> Result<Vec<Range<u64>>, Re
     Ok(ranges)
 }
 
-fn tuples_among(alloc: Global, items: &Vec<Value>) -> Result<Vec<ArrayIndices>, Refusal>
-    ensures answer { ReadsTuples result (tuples_in (items_view items.now.items)) }
+fn tuples_among(alloc: Global, list: &Vec<Value>) -> Result<Vec<ArrayIndices>, Refusal>
+    ensures answer { ReadsAs (λ v. tuples_seen v.items) result (tuples_in (items_view list.now.items)) }
 {
     let mut tuples = Vec::new(alloc);
-    for item in items {
+    for item in list {
         let tuple = numbers(alloc, item)?;
         tuples.push(tuple)?;
     }

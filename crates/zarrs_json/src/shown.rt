@@ -1,14 +1,16 @@
 //! Elements shown as JSON.
-ghost use Rattle.std.specs.Prelude.{◌≡◌, ◌<◌, ◌+◌, ◌*◌, ◌≤◌, ℕ, Ok, length, true};
+ghost use Rattle.std.specs.Prelude.{◌≡◌, ◌<◌, ◌+◌, ◌*◌, ◌≤◌, ℕ, Ok, length, map, true};
+ghost use Rattle.std.specs.List.{range_with_len};
 ghost use Rattle.serde_json.specs.Data.{array, item, no_items};
 ghost use Rattle.serde_json.specs.View.{view};
+ghost use Rattle.zarrs_data_type.specs.Element.{Chunk};
 ghost use Rattle.zarrs_array_bytes.specs.Elements.{piece, cut};
 ghost use Rattle.zarrs_array_bytes.specs.Offsets.{is_offsets, last_of};
-ghost use Rattle.zarrs_array_bytes.specs.Validity.{HasElements};
-ghost use Rattle.zarrs_json.specs.Refusal.{ReadsAs};
-ghost use Rattle.zarrs_json.specs.Json.{trees_in, hex_tree};
-ghost use Rattle.zarrs_json.specs.Elements.{tree_at, trees_of};
-ghost use Rattle.zarrs_json.specs.Shown.{HasElement, HoldsSome, ShowsElements};
+ghost use Rattle.zarrs_array_bytes.specs.Validity.{HasElements, Holds};
+ghost use Rattle.zarrs_json.specs.Refusal.{ReadsAs, ReadsItems};
+ghost use Rattle.zarrs_json.specs.Json.{hex_tree, ok_line as line_of};
+ghost use Rattle.zarrs_json.specs.Elements.{chunk_tree, tree_at};
+ghost use Rattle.zarrs_json.specs.Shown.{HasElement};
 
 use crate::json::ok_line;
 use crate::refusal::Refusal;
@@ -111,7 +113,9 @@ fn values(
     count: usize,
 ) -> Result<Vec<Value>, Refusal>
     requires known { HasElements data_type.now count elements.now }
-    ensures answer { ReadsAs trees_in result (Ok (trees_of data_type.now elements.now count)) }
+    // Wide: values in a vector, seen as trees.
+    ensures answer { ReadsAs (λ v. map view v.items) result
+        (Ok (map (tree_at data_type.now elements.now) (range_with_len 0 count))) }
 {
     let mut values = Vec::with_capacity(alloc, count)?;
     for place in 0..count {
@@ -127,8 +131,10 @@ pub fn ok_elements(
     data_type: &DataType,
     elements: &ArrayBytes<'_>,
 ) -> Result<Vec<u8>, Refusal>
-    requires held { HoldsSome data_type.now elements.now }
-    ensures answer { ShowsElements data_type.now elements.now result }
+    requires held { (chunk : Chunk) × Holds data_type.now elements.now chunk }
+    // Wide: it names the chunk that the container holds, whose elements are shown.
+    ensures answer { (chunk : Chunk) → Holds data_type.now elements.now chunk
+        → ReadsItems result (Ok (line_of (chunk_tree chunk))) }
 {
     let count = count(data_type, elements)?;
     let values = values(alloc, data_type, elements, count)?;

@@ -1,6 +1,7 @@
 -- What a handle on a value that is lent is seen as.
-use Rattle.std.specs.Prelude.{ℕ, true, Option, Some, None, List}
+use Rattle.std.specs.Prelude.{ℕ, Option, List, Some, Bool}
 use Rattle.std.specs.Option.{option_map}
+use Rattle.zarrs_chunk.specs.declared.codec_error.StorageError.{StorageError}
 use Rattle.zarrs_codec.specs.StorageState.{StorageState}
 use Rattle.zarrs_lent_handles.specs.declared.lent_handle.LentHandle.{LentHandle}
 
@@ -8,7 +9,7 @@ use Rattle.zarrs_lent_handles.specs.declared.lent_handle.LentHandle.{LentHandle}
 abbrev pub lent_value : LentHandle → Option (List ℕ)
 lent_value handle = option_map (λ value. value.now) handle.value
 
--- the state of a handle that never fails and is never written: all bytes are sure
-abbrev pub still_state : Option (List ℕ) → StorageState
-still_state value =
-    record { value = value; sure = Some (λ _. true); faults = 0; failure = None; writes = 0; accepted_writes = 0 }
+-- the state of a handle that is never written
+abbrev pub read_state : Option (List ℕ) → (ℕ → Bool) → ℕ → Option StorageError → StorageState
+read_state value sure faults failure =
+    record { value = value; sure = Some sure; faults = faults; failure = failure; writes = 0; accepted_writes = 0 }

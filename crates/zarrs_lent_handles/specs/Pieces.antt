@@ -1,10 +1,7 @@
 -- Pieces of a value: which bytes they have, and the values that have them.
-use Rattle.std.specs.Prelude.{ℕ, ◌+◌, ◌-◌, ◌<◌, ◌≤◌, Bool, true, ◌&&◌, ◌≡◌, nat_le, nat_lt, Option, Some, None, is_some, List, [], ◌∷◌, Vec, Result, IfOk, length, map, if◌then◌else◌, get_or}
+use Rattle.std.specs.Prelude.{ℕ, ◌+◌, ◌-◌, ◌<◌, ◌≤◌, Bool, true, ◌&&◌, ◌≡◌, nat_le, nat_lt, Option, Some, None, is_some, List, [], ◌∷◌, Result, IfOk, length, map, if◌then◌else◌, get_or}
 use Rattle.std.specs.List.{list_all, range_with_len}
-use Rattle.std.proofs.Common.{Global}
-use Rattle.zarrs_chunk.specs.Answer.{AnswersItems, Excused, fault, memory_or_fault}
 use Rattle.zarrs_chunk.specs.declared.codec_error.CodecError.{CodecError}
-use Rattle.zarrs_codec.specs.ByteRanges.{EndsOutside, read_value}
 use Rattle.zarrs_codec.specs.ByteSpan.{ByteSpan}
 use Rattle.zarrs_codec.specs.HandleCalls.{NeverFailsIf}
 use Rattle.zarrs_lent_handles.specs.declared.piece.Piece.{Piece}
@@ -81,15 +78,7 @@ value_with len pieces = map (byte_at pieces) (range_with_len 0 len)
 abbrev pub value_of : ℕ → List Piece → List ℕ
 value_of len pieces = value_with len (pieces_seen pieces)
 
--- the ranges' bytes of this value are answered, joined in order, or the first error; a lack of memory or a failure may come in their place
-abbrev pub Gathers : ℕ → List Piece → List ByteSpan → Result (Vec ℕ Global) CodecError → Type 0
-Gathers len pieces ranges result = AnswersItems memory_or_fault result (read_value (value_of len pieces) ranges)
-
 -- the value has so many bytes, and each that is at hand is the piece's
 pub record HasPieces (len : ℕ) (pieces : List PlainPiece) (value : List ℕ) : Type 0 where
   pub length_is : length value ≡ len
   pub same : (number : ℕ) → is_at_hand pieces number ≡ true → get_or value number 0 ≡ byte_at pieces number
-
--- the range ends past the value, and is rejected for that, or else a byte isn't at hand
-abbrev pub IsOutside : List ℕ → ByteSpan → CodecError → Type 0
-IsOutside value range error = Excused (fault error) (EndsOutside value range error)

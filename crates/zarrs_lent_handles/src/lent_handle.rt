@@ -25,10 +25,10 @@ impl<'a> LentHandle<'a> {
 }
 
 impl<'a> BytesPartialDecoderTraits for LentHandle<'a> {
-    ghost use Rattle.std.specs.Prelude.{true, []};
-    ghost use Rattle.zarrs_lent_handles.specs.LentHandle.{lent_value, still_state};
+    ghost use Rattle.std.specs.Prelude.{true, None, []};
+    ghost use Rattle.zarrs_lent_handles.specs.LentHandle.{lent_value, read_state};
 
-    ghost state = { λ handle. still_state (lent_value handle) };
+    ghost state = { λ handle. read_state (lent_value handle) (λ _. true) 0 None };
 
     ghost lent = { λ _. [] };
 

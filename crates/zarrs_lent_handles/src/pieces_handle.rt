@@ -26,13 +26,13 @@ pub struct PiecesHandle<'a> {
 }
 
 impl<'a> PiecesHandle<'a> {
-    ghost use Rattle.zarrs_lent_handles.specs.PiecesHandle.{pieces_state, made_over};
+    ghost use Rattle.zarrs_lent_handles.specs.PiecesHandle.{pieces_state, made_state};
 
     /// A handle over these pieces of a value of `len` bytes. Errors: `InvalidByteRange` where they
     /// don't come in order, with at least a byte between one and the next, or one ends behind the
     /// value.
     pub fn new(len: u64, pieces: Vec<Piece<'a>>) -> Result<PiecesHandle<'a>, CodecError>
-        ensures answer { seen pieces_state result ≡ made_over len pieces.entry.items }
+        ensures answer { seen pieces_state result ≡ made_state len (pieces_seen pieces.entry.items) }
     {
         if !are_apart(len, pieces.as_slice()) {
             return Err(CodecError::InvalidByteRange);

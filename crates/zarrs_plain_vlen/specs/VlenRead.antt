@@ -6,12 +6,12 @@ use Rattle.zarrs_chunk.specs.declared.codec_error.CodecError.{CodecError}
 use Rattle.zarrs_chunk.specs.declared.codec_error.CodecError.TheVariants.{InvalidOffsets, InvalidByteRange}
 use Rattle.zarrs_data_type.specs.Element.{plain, Chunk}
 use Rattle.zarrs_array_bytes.specs.Elements.{cut}
-use Rattle.zarrs_array_bytes.specs.Offsets.{offsets_of, rises}
+use Rattle.zarrs_array_bytes.specs.Offsets.{rises}
 use Rattle.zarrs_bytes.specs.BytesCodec.{bytes_chunk}
 use Rattle.zarrs_chain_meaning.specs.vlen.Vlen.{offsets_in_chunk, vlen_parts}
 use Rattle.zarrs_chain_meaning.specs.vlen.PlainForm.{PlainForm}
 use Rattle.zarrs_plain_vlen.specs.VlenLayout.{span_numbers, head_of, layout_of, span_bytes}
-use Rattle.zarrs_chain_meaning.specs.vlen.VlenSteps.{offsets_form, read_offsets}
+use Rattle.zarrs_chain_meaning.specs.vlen.VlenSteps.{offsets_form}
 
 -- ---- the answer
 
@@ -27,10 +27,6 @@ abbrev pub offsets_read : PlainForm → ℕ → List ℕ → Result (List ℕ) C
 offsets_read form count index = do
   _ ← checked_u64 (count + 1)
   offsets_of_index form (count + 1) index
-
--- the offsets that the bytes of an index spell, of 8 bytes each or of 4, or the first error
-abbrev pub spelled_offsets : Bool → List ℕ → Result (List ℕ) CodecError
-spelled_offsets wide bytes = offsets_of (read_offsets wide bytes)
 
 -- the element at a place is empty, or ends within so many bytes of data
 abbrev pub is_there : List ℕ → ℕ → ℕ → Bool

@@ -1,17 +1,21 @@
 //! The elements at runs of places, of which the offsets are known.
-ghost use Rattle.std.specs.Prelude.{◌≡◌, ◌≤◌, ◌<◌, ◌+◌, ◌-◌, ◌^◌, true, All, Ok, IfOk, OnOk, is_some, length};
+ghost use Rattle.std.specs.Prelude.{◌≡◌, ◌≤◌, ◌<◌, ◌+◌, ◌-◌, ◌^◌, true, All, Ok, IfOk, OnOk, is_some, length, ◌∷◌, map, slice_index};
 ghost use Rattle.std.specs.List.{list_all, range_with_len};
 ghost use Rattle.zarrs_chunk.specs.Runs.{joined_runs};
 ghost use Rattle.zarrs_data_type.specs.ElementType.{is_variable};
 ghost use Rattle.zarrs_array_bytes.specs.Tight.{IsTight};
 ghost use Rattle.zarrs_array_bytes.specs.Held.{vlen, owned_bytes};
 ghost use Rattle.zarrs_array_bytes.specs.Offsets.{is_offsets, last_of};
+ghost use Rattle.zarrs_codec.specs.ByteRanges.{range_indices};
 ghost use Rattle.zarrs_codec.specs.StorageState.{after_reading};
 ghost use Rattle.zarrs_array_bytes.specs.Cuts.{run_size};
-ghost use Rattle.zarrs_plain_vlen.specs.Elements.{AddsEnds, AddsNumbers, AddsRun, EndsBelow64Bits, PlansRuns, ReadsContent, ReadsSpan, data_numbers, joined_offsets, joined_size};
+ghost use Rattle.zarrs_plain_vlen.specs.Elements.{AddsNumbers, joined_size, run_bytes, blank_element, bytes_read};
 ghost use Rattle.zarrs_plain_vlen.specs.StoredBytes.{SureAt, stored_bytes};
-ghost use Rattle.zarrs_plain_vlen.specs.VlenLayout.{span_numbers};
-ghost use Rattle.zarrs_plain_vlen.specs.VlenRead.{is_there};
+ghost use Rattle.zarrs_plain_vlen.specs.VlenLayout.{span_numbers, span_bytes};
+ghost use Rattle.zarrs_plain_vlen.specs.VlenRead.{is_there, element_numbers, elements_read};
+ghost use Rattle.zarrs_chunk.specs.Answer.{Appends, AnswersBy, AnswersItems, memory_or_fault};
+ghost use Rattle.zarrs_array_bytes.specs.Pieces.{ends as ends_of};
+ghost use Rattle.zarrs_array_bytes.specs.Validity.{Holds};
 
 use crate::handle_reads::read_inside;
 use crate::layout::range_of;
@@ -82,9 +86,13 @@ fn plan_run(
 ) -> Result<(), AllocError>
     requires rising { is_offsets offsets.now ≡ true }
     requires known { first + count < length offsets.now }
-    requires ends { EndsBelow64Bits start offsets.now first (first + count) }
+    // Wide: no other clause says this, so it is written out.
+    requires ends { slice_index offsets.now first < slice_index offsets.now (first + count)
+        → start + slice_index offsets.now (first + count) < 2 ^ 64 }
     requires filled { All (λ range. range.start < range.end) ranges.old.items }
-    ensures numbers { OnOk result (AddsRun start offsets.now first count ranges.old ranges.new) }
+    // Wide: no other clause says this, so it is written out.
+    ensures numbers { OnOk result (AddsNumbers
+        (element_numbers start offsets.now (range_with_len first count)) ranges.old ranges.new) }
     ensures filled { OnOk result (All (λ range. range.start < range.end) ranges.new.items) }
 {
     let from = offsets.at(first);
@@ -95,8 +103,8 @@ fn plan_run(
     push_joined(ranges, range_of(start + from as u64, start + to as u64))
 }
 
-/// The ranges of the bytes of the elements at the runs, of data that begin at `start`, in order.
-/// Neighbours are joined, and none is empty.
+/// The ranges of the bytes of the elements at the runs, of data that begin at `start`, in order, and
+/// of no others. Neighbours are joined, and none is empty.
 fn plan_runs(
     alloc: Global,
     offsets: &Offsets,
@@ -108,7 +116,8 @@ fn plan_runs(
     requires known { All (λ run. run.0 + run.1 < length offsets.now) runs.now }
     requires there { list_all (is_there offsets.now size) (joined_runs runs.now) ≡ true }
     requires fits { start + size < 2 ^ 64 }
-    ensures numbers { IfOk result (λ ranges. PlansRuns start offsets.now runs.now ranges) }
+    ensures numbers { IfOk result
+        (λ v. range_indices v.items ≡ run_bytes start offsets.now runs.now) }
     ensures filled { IfOk result (λ ranges. All (λ range. range.start < range.end) ranges.items) }
 {
     let mut ranges = Vec::with_capacity(alloc, runs.len())?;
@@ -135,7 +144,9 @@ fn append_ends(
     requires rising { is_offsets offsets.now ≡ true }
     requires known { first + count < length offsets.now }
     requires fits { start + run_size offsets.now first count < 2 ^ 64 }
-    ensures ends { OnOk result (AddsEnds start offsets.now first count ends.old ends.new) }
+    // Wide: no other clause says this, so it is written out.
+    ensures ends { Appends ends.old ends.new result
+        (ends_of start (map (blank_element offsets.now) (range_with_len first count))) }
 {
     let from = offsets.at(first);
     offsets.append_moved(ends, first + 1, first + count + 1, from, start)
@@ -151,7 +162,9 @@ fn ends_of_runs(
     requires known { All (λ run. run.0 + run.1 < length offsets.now) runs.now }
     requires fits { joined_size offsets.now runs.now < 2 ^ 64 }
     ensures small { IfOk result (λ ends. length ends.items < 2 ^ 64) }
-    ensures ends { IfOk result (λ ends. ends.items ≡ joined_offsets offsets.now runs.now) }
+    // Wide: no other clause says this, so it is written out.
+    ensures ends { IfOk result (λ ends. ends.items
+        ≡ 0 ∷ ends_of 0 (map (blank_element offsets.now) (joined_runs runs.now))) }
 {
     let room = (count_places(runs) as usize).saturating_add(1);
     let mut ends = Vec::with_capacity(alloc, room)?;
@@ -179,9 +192,12 @@ fn read_bytes<H: BytesPartialDecoderTraits>(
     requires inside { content.end ≤ length (stored_bytes (H.state handle.old)) }
     requires rising { is_offsets offsets.now ≡ true }
     requires known { All (λ run. run.0 + run.1 < length offsets.now) runs.now }
-    ensures answer { ReadsContent offsets.now content (H.state handle.old) runs.now result }
+    // Wide: no other clause says this, so it is written out.
+    ensures answer { AnswersItems memory_or_fault result (bytes_read offsets.now
+        (span_bytes (stored_bytes (H.state handle.old)) content) (joined_runs runs.now)) }
     ensures lengths { IfOk result (λ bytes. length bytes.items ≡ joined_size offsets.now runs.now) }
-    ensures sure { SureAt (H.state handle.old) (data_numbers offsets.now content runs.now) result }
+    ensures sure { SureAt (H.state handle.old)
+        (run_bytes content.start offsets.now runs.now) result }
     ensures left { H.state handle.new ≡ after_reading result (H.state handle.old) }
     ensures same_reference { H.lent handle.new ≡ H.lent handle.old }
 {
@@ -218,9 +234,11 @@ pub(crate) fn read_elements<H: BytesPartialDecoderTraits>(
     requires rising { is_offsets offsets.now ≡ true }
     requires known { All (λ run. run.0 + run.1 < length offsets.now) runs.now }
     requires variable { is_variable data_type.now ≡ true }
-    ensures answer { ReadsSpan data_type.now offsets.now span (H.state handle.old) runs.now result }
+    // Wide: no other clause says this, so it is written out.
+    ensures answer { AnswersBy memory_or_fault (Holds data_type.now) result (elements_read
+        offsets.now (span_bytes (stored_bytes (H.state handle.old)) span) (joined_runs runs.now)) }
     ensures tight { IfOk result (IsTight data_type.now) }
-    ensures sure { SureAt (H.state handle.old) (data_numbers offsets.now span runs.now) result }
+    ensures sure { SureAt (H.state handle.old) (run_bytes span.start offsets.now runs.now) result }
     ensures left { H.state handle.new ≡ after_reading result (H.state handle.old) }
     ensures same_reference { H.lent handle.new ≡ H.lent handle.old }
 {

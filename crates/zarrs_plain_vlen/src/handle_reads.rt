@@ -1,9 +1,10 @@
 //! Bytes that a handle keeps, by ranges that are known to lie inside.
-ghost use Rattle.std.specs.Prelude.{◌≡◌, ◌≤◌, ◌+◌, true, IfOk, is_some, length};
-ghost use Rattle.zarrs_codec.specs.ByteRanges.{range_indices};
+ghost use Rattle.std.specs.Prelude.{◌≡◌, ◌≤◌, ◌+◌, true, IfOk, is_some, length, nat_le};
+ghost use Rattle.zarrs_codec.specs.ByteRanges.{bytes_in_ranges, range_indices};
 ghost use Rattle.zarrs_codec.specs.StorageState.{after_reading};
-ghost use Rattle.zarrs_plain_vlen.specs.StoredBytes.{ReadsRange, ReadsRanges, SureAt, are_inside, stored_bytes};
-ghost use Rattle.zarrs_plain_vlen.specs.VlenLayout.{span_numbers};
+ghost use Rattle.zarrs_plain_vlen.specs.StoredBytes.{AreRead, SureAt, stored_bytes};
+ghost use Rattle.zarrs_plain_vlen.specs.VlenLayout.{span_bytes, span_numbers};
+ghost use Rattle.std.specs.List.{list_all};
 
 use std::alloc::Global;
 use zarrs_chunk::CodecError;
@@ -17,8 +18,11 @@ pub(crate) fn read_inside<H: BytesPartialDecoderTraits>(
     ranges: &[ByteRange],
 ) -> Result<Vec<u8>, CodecError>
     requires stored { is_some (H.state handle.old).value ≡ true }
-    requires inside { are_inside (stored_bytes (H.state handle.old)) ranges.now ≡ true }
-    ensures answer { ReadsRanges (H.state handle.old) ranges.now result }
+    // Wide: no other clause says this, so it is written out.
+    requires inside { list_all
+        (λ range. nat_le range.end (length (stored_bytes (H.state handle.old)))) ranges.now ≡ true }
+    ensures answer { AreRead
+        (bytes_in_ranges (stored_bytes (H.state handle.old)) ranges.now) result }
     ensures sure { SureAt (H.state handle.old) (range_indices ranges.now) result }
     ensures left { H.state handle.new ≡ after_reading result (H.state handle.old) }
     ensures same_reference { H.lent handle.new ≡ H.lent handle.old }
@@ -40,7 +44,7 @@ pub(crate) fn read_range<H: BytesPartialDecoderTraits>(
 ) -> Result<Vec<u8>, CodecError>
     requires stored { is_some (H.state handle.old).value ≡ true }
     requires inside { range.end ≤ length (stored_bytes (H.state handle.old)) }
-    ensures answer { ReadsRange (H.state handle.old) range result }
+    ensures answer { AreRead (span_bytes (stored_bytes (H.state handle.old)) range) result }
     ensures len { IfOk result (λ bytes. range.start + length bytes.items ≡ range.end) }
     ensures sure { SureAt (H.state handle.old) (span_numbers range) result }
     ensures left { H.state handle.new ≡ after_reading result (H.state handle.old) }

@@ -1,13 +1,17 @@
 //! The offsets of a value.
-ghost use Rattle.std.specs.Prelude.{◌≡◌, ◌≤◌, ◌<◌, ◌∷◌, [], true, false, Ok, IfOk, is_some, length};
-ghost use Rattle.zarrs_chunk.specs.Answer.{Gives, is_fault};
+ghost use Rattle.std.specs.Prelude.{◌≡◌, ◌≤◌, ◌<◌, ◌∷◌, [], true, false, Ok, IfOk, is_some, length, Some};
+ghost use Rattle.zarrs_chunk.specs.Answer.{AnswersValue, Gives, is_fault, memory, GivesBy, memory_or_fault};
 ghost use Rattle.zarrs_codec.specs.StorageState.{after_reading};
 ghost use Rattle.zarrs_chain_meaning.specs.vlen.PlainVlen.{plain_form};
 ghost use Rattle.zarrs_chain_meaning.specs.vlen.VlenSettings.{is_wide};
-ghost use Rattle.zarrs_chain_meaning.specs.vlen.VlenSteps.{offset_size as offset_size_of};
-ghost use Rattle.zarrs_plain_vlen.specs.IndexSteps.{GivesIndex, GivesOffsets, ReadsOffsets, index_count};
+ghost use Rattle.zarrs_chain_meaning.specs.vlen.VlenSteps.{offset_size as offset_size_of, offsets_form};
+ghost use Rattle.zarrs_plain_vlen.specs.IndexSteps.{index_count};
 ghost use Rattle.zarrs_plain_vlen.specs.StoredBytes.{SureAt, stored_bytes};
-ghost use Rattle.zarrs_plain_vlen.specs.VlenLayout.{span_numbers};
+ghost use Rattle.zarrs_plain_vlen.specs.VlenLayout.{span_numbers, span_bytes};
+ghost use Rattle.zarrs_plain_vlen.specs.VlenRead.{offsets_of_index, offsets_read};
+ghost use Rattle.zarrs_array_bytes.specs.Validity.{Holds};
+ghost use Rattle.zarrs_bytes.specs.BytesCodec.{bytes_chunk};
+ghost use Rattle.zarrs_chain_meaning.specs.vlen.Vlen.{offset_type as offset_type_of};
 
 use crate::handle_reads::read_range;
 use crate::offsets::Offsets;
@@ -71,7 +75,9 @@ fn index_rows(
     index: Vec<u8>,
 ) -> Result<ArrayBytes<'static>, CodecError>
     requires some { 0 < count }
-    ensures answer { GivesIndex (plain_form codec) count index.items result }
+    // Wide: no other clause says this, so it is written out.
+    ensures answer { GivesBy (Holds (offset_type_of (plain_form codec).wide)) result (bytes_chunk
+        (Some (plain_form codec).order) (offsets_form (plain_form codec).wide count) index.items) }
 {
     let shape = row_of(alloc, count)?;
     let fill_value = offset_fill(alloc, codec.index_data_type)?;
@@ -84,19 +90,20 @@ fn index_rows(
     )
 }
 
-/// The offsets, `count` of them, that an index stands for. Errors: those of the codec `bytes`;
+/// The offsets, `count` of them, that an index part stands for. Errors: those of the codec `bytes`;
 /// `InvalidOffsets`.
 fn decode_index(
     alloc: Global,
     codec: PlainVlen,
     count: u64,
-    index: Vec<u8>,
+    part: Vec<u8>,
 ) -> Result<Offsets, CodecError>
     requires some { 0 < count }
-    ensures answer { GivesOffsets (plain_form codec) count index.items result }
+    ensures answer { AnswersValue memory result
+        (offsets_of_index (plain_form codec) count part.items) }
     ensures no_fault { is_fault result ≡ false }
 {
-    let rows = index_rows(alloc, codec, count, index)?;
+    let rows = index_rows(alloc, codec, count, part)?;
     Offsets::new(rows.into_fixed()?, codec.index_data_type)
 }
 
@@ -111,7 +118,9 @@ pub(crate) fn read_index<H: BytesPartialDecoderTraits>(
 ) -> Result<Offsets, CodecError>
     requires stored { is_some (H.state handle.old).value ≡ true }
     requires inside { index.end ≤ length (stored_bytes (H.state handle.old)) }
-    ensures answer { ReadsOffsets (plain_form codec) count index (H.state handle.old) result }
+    // Wide: no other clause says this, so it is written out.
+    ensures answer { AnswersValue memory_or_fault result (offsets_read (plain_form codec) count
+        (span_bytes (stored_bytes (H.state handle.old)) index)) }
     ensures sure { SureAt (H.state handle.old) (span_numbers index) result }
     ensures left { H.state handle.new ≡ after_reading result (H.state handle.old) }
     ensures same_reference { H.lent handle.new ≡ H.lent handle.old }

@@ -1,11 +1,11 @@
 //! Where the parts of a value stand.
 ghost use Rattle.std.specs.Prelude.{◌≡◌, ◌≤◌, ◌+◌, true, false, IfOk, is_some, length};
-ghost use Rattle.zarrs_chunk.specs.Answer.{is_fault, seen};
+ghost use Rattle.zarrs_chunk.specs.Answer.{is_fault, seen, Answers, memory_or_fault};
 ghost use Rattle.zarrs_codec.specs.StorageState.{after_reading};
 ghost use Rattle.zarrs_chain_meaning.specs.vlen.VlenSettings.{is_at_end};
-ghost use Rattle.zarrs_plain_vlen.specs.Layout.{FindsLayout, vlen_layout};
+ghost use Rattle.zarrs_plain_vlen.specs.Layout.{vlen_layout};
 ghost use Rattle.zarrs_plain_vlen.specs.StoredBytes.{SureAt, stored_bytes};
-ghost use Rattle.zarrs_plain_vlen.specs.VlenLayout.{head_of, layout_within};
+ghost use Rattle.zarrs_plain_vlen.specs.VlenLayout.{head_of, layout_within, layout_of};
 ghost use Rattle.zarrs_plain_vlen.specs.VlenRead.{head_numbers};
 
 use crate::handle_reads::read_range;
@@ -90,7 +90,9 @@ pub(crate) fn read_layout<H: BytesPartialDecoderTraits>(
 ) -> Result<Layout, CodecError>
     requires stored { is_some (H.state handle.old).value ≡ true }
     requires len { length (stored_bytes (H.state handle.old)) ≡ size }
-    ensures answer { FindsLayout (is_at_end location) (H.state handle.old) result }
+    // Wide: no other clause says this, so it is written out.
+    ensures answer { Answers memory_or_fault vlen_layout result
+        (layout_of (is_at_end location) (stored_bytes (H.state handle.old))) }
     ensures index_inside { IfOk result (λ layout. layout.index.end ≤ size) }
     ensures content_inside { IfOk result (λ layout. layout.content.end ≤ size) }
     ensures sure { SureAt (H.state handle.old) (head_numbers (is_at_end location) size) result }

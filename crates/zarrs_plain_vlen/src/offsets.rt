@@ -1,14 +1,13 @@
 //! Offsets, read where they stand in the bytes of an index.
-ghost use Rattle.std.specs.Prelude.{◌≡◌, ◌<◌, ◌≤◌, ◌+◌, ◌-◌, ◌/◌, ◌^◌, true, false, All, length, slice_index};
+ghost use Rattle.std.specs.Prelude.{◌≡◌, ◌<◌, ◌≤◌, ◌+◌, ◌-◌, ◌/◌, ◌^◌, true, false, All, length, slice_index, map};
 ghost use Rattle.std.specs.List.{between};
 ghost use Rattle.zarrs_array_bytes.specs.Elements.{piece};
 ghost use Rattle.zarrs_array_bytes.specs.Held.{items_of};
-ghost use Rattle.zarrs_array_bytes.specs.Offsets.{is_offsets};
+ghost use Rattle.zarrs_array_bytes.specs.Offsets.{is_offsets, offsets_of};
 ghost use Rattle.zarrs_chain_meaning.specs.vlen.Vlen.{offset_of};
 ghost use Rattle.zarrs_chain_meaning.specs.vlen.VlenSettings.{is_wide};
 ghost use Rattle.zarrs_chain_meaning.specs.vlen.VlenSteps.{read_offsets};
-ghost use Rattle.zarrs_plain_vlen.specs.Elements.{AppendsMoved, FitMoved};
-ghost use Rattle.zarrs_plain_vlen.specs.VlenRead.{spelled_offsets};
+ghost use Rattle.zarrs_chunk.specs.Answer.{Appends};
 
 use std::alloc::AllocError;
 use std::marker::Model;
@@ -48,7 +47,8 @@ impl Offsets {
         bytes: ArrayBytesRaw<'static>,
         data_type: VlenIndexDataType,
     ) -> Result<Offsets, CodecError>
-        ensures answer { result ≡ spelled_offsets (is_wide data_type) (items_of bytes.entry) }
+        ensures answer { result
+            ≡ offsets_of (read_offsets (is_wide data_type) (items_of bytes.entry)) }
     {
         if !are_rising(bytes.as_slice(), data_type) {
             return Err(CodecError::InvalidOffsets);
@@ -78,8 +78,11 @@ impl Offsets {
         requires ordered { first ≤ end }
         requires known { end ≤ length self.now }
         requires above { All (λ offset. from ≤ offset) (between first end self.now) }
-        requires fits { FitMoved from start (between first end self.now) }
-        ensures appended { AppendsMoved self.now first end from start out.old out.new result }
+        requires fits { All (λ offset. offset - from + start < 2 ^ 64)
+            (between first end self.now) }
+        // Wide: no other clause says this, so it is written out.
+        ensures appended { Appends out.old out.new result
+            (map (λ offset. offset - from + start) (between first end self.now)) }
     {
         for number in first..end {
             out.push(self.at(number) - from + start)?;

@@ -3,8 +3,13 @@ ghost use Rattle.std.specs.Prelude.{◌≡◌, ◌≤◌, ◌+◌, true, All, If
 ghost use Rattle.zarrs_data_type.specs.ElementType.{is_variable};
 ghost use Rattle.zarrs_array_bytes.specs.Tight.{IsTight};
 ghost use Rattle.zarrs_codec.specs.StorageState.{after_reading};
-ghost use Rattle.zarrs_plain_vlen.specs.StoredBytes.{stored_bytes};
-ghost use Rattle.zarrs_plain_vlen.specs.StoredElements.{ReadsRuns, ReadsValue, SureRuns, SureValue};
+ghost use Rattle.zarrs_plain_vlen.specs.StoredBytes.{stored_bytes, SureAt};
+ghost use Rattle.zarrs_plain_vlen.specs.StoredElements.{HoldsStored};
+ghost use Rattle.zarrs_chunk.specs.Answer.{AnswersBy, memory_or_fault};
+ghost use Rattle.zarrs_chunk.specs.Runs.{joined_runs};
+ghost use Rattle.zarrs_array_bytes.specs.Validity.{Holds};
+ghost use Rattle.zarrs_chain_meaning.specs.vlen.PlainVlen.{plain_form};
+ghost use Rattle.zarrs_plain_vlen.specs.VlenRead.{rests_on, stored_rests_on, stored_vlen_read, vlen_read};
 
 use crate::elements::read_elements;
 use crate::index::read_index;
@@ -31,9 +36,13 @@ fn read_stored<H: BytesPartialDecoderTraits>(
     requires len { length (stored_bytes (H.state handle.old)) ≡ size }
     requires variable { is_variable data_type.now ≡ true }
     requires inside { All (λ run. run.0 + run.1 ≤ count) runs.now }
-    ensures answer { ReadsValue codec count data_type.now (H.state handle.old) runs.now result }
+    // Wide: no other clause says this, so it is written out.
+    ensures answer { AnswersBy memory_or_fault (Holds data_type.now) result (vlen_read
+        (plain_form codec) count (stored_bytes (H.state handle.old)) (joined_runs runs.now)) }
     ensures tight { IfOk result (IsTight data_type.now) }
-    ensures sure { SureValue codec count (H.state handle.old) runs.now result }
+    // Wide: no other clause says this, so it is written out.
+    ensures sure { SureAt (H.state handle.old) (rests_on (plain_form codec) count
+        (stored_bytes (H.state handle.old)) (joined_runs runs.now)) result }
     ensures left { H.state handle.new ≡ after_reading result (H.state handle.old) }
     ensures same_reference { H.lent handle.new ≡ H.lent handle.old }
 {
@@ -63,9 +72,13 @@ pub fn read_runs<H: BytesPartialDecoderTraits>(
 ) -> Result<Option<ArrayBytes<'static>>, CodecError>
     requires variable { is_variable data_type.now ≡ true }
     requires inside { All (λ run. run.0 + run.1 ≤ count) runs.now }
-    ensures answer { ReadsRuns codec count data_type.now (H.state handle.old) runs.now result }
+    // Wide: no other clause says this, so it is written out.
+    ensures answer { AnswersBy memory_or_fault (HoldsStored data_type.now) result (stored_vlen_read
+        (plain_form codec) count (H.state handle.old).value (joined_runs runs.now)) }
     ensures tight { IfOk result (λ elements. IfSome elements (IsTight data_type.now)) }
-    ensures sure { SureRuns codec count (H.state handle.old) runs.now result }
+    // Wide: no other clause says this, so it is written out.
+    ensures sure { SureAt (H.state handle.old) (stored_rests_on (plain_form codec) count
+        (H.state handle.old).value (joined_runs runs.now)) result }
     ensures left { H.state handle.new ≡ after_reading result (H.state handle.old) }
     ensures same_reference { H.lent handle.new ≡ H.lent handle.old }
 {

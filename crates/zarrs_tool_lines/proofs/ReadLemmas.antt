@@ -12,14 +12,13 @@ use Rattle.zarrs_json.specs.declared.refusal.Refusal.{Refusal}
 use Rattle.zarrs_tool_lines.specs.Commands.{State, part_of, read_answer}
 use Rattle.zarrs_json.specs.Elements.{chunk_tree}
 use Rattle.zarrs_json.specs.Json.{ok_line, tree_of}
-use Rattle.zarrs_json.specs.Shown.{HoldsSome}
 use Rattle.zarrs_json.specs.Indexer.{selection_in}
 use Rattle.zarrs_json.specs.Refusal.{codec_answer, wants_memory}
 
 -- ---- elements shown
 
 -- what is answered of a chunk is held
-pub held_some : (type own : ElementType) (held : Held) (expected : Result Chunk CodecError) → own ≡ type → IsOkAnd expected (Holds type held) → HoldsSome own held
+pub held_some : (type own : ElementType) (held : Held) (expected : Result Chunk CodecError) → own ≡ type → IsOkAnd expected (Holds type held) → (chunk : Chunk) × Holds own held chunk
 held_some type own held (Ok chunk) same h = (chunk, subst (λ (t : ElementType). Holds t held chunk) (sym same) h)
 held_some type own held (Err e) same h = absurd h
 

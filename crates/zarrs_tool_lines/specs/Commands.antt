@@ -1,7 +1,7 @@
 -- What each command answers, and what is stored afterwards.
 use Rattle.std.specs.Prelude.{◌==◌, ◌+◌, ℕ, List, take, drop, position, Option, Some, None, ok_or, Result, Ok, Err, codes, if◌then◌else◌}
 use Rattle.std.specs.Str.{bytes_eq}
-use Rattle.zarrs_chunk.specs.Answer.{◌>>=◌, Answers, AnswersBy, memory, seen}
+use Rattle.zarrs_chunk.specs.Answer.{◌>>=◌, Answers, memory, seen}
 use Rattle.zarrs_chunk.specs.Selection.{Selection}
 use Rattle.zarrs_chunk.specs.declared.codec_error.CodecError.{CodecError}
 use Rattle.zarrs_data_type.specs.Element.{Chunk}
@@ -21,8 +21,6 @@ use Rattle.zarrs_json.specs.Containers.{container_of}
 use Rattle.zarrs_json.specs.Indexer.{selection_in}
 use Rattle.zarrs_json.specs.Edit.{PlainEdit, edit_in}
 use Rattle.zarrs_json.specs.Header.{Header, form_of, line_codecs}
-use Rattle.zarrs_array_bytes.specs.Held.{Held}
-use Rattle.zarrs_array_bytes.specs.Validity.{Holds}
 use Rattle.zarrs_json.specs.declared.known_maker.KnownMaker.TheVariants.{WithSamples}
 
 -- what a session keeps: the header that opened it, and the stored value
@@ -177,11 +175,6 @@ unfoldable pub answer_to : State → List ℕ → LineAnswer
 answer_to state line = command_answer state (command_of line)
 
 -- ---- what the calls give that answer them
-
--- a container of the selected elements of what is stored, or the first error
-abbrev pub GivesPart : State → Selection → Result Held CodecError → Type 0
-GivesPart state selection result =
-    AnswersBy memory (Holds state.header.data_type) result (part_of state.header state.value selection)
 
 -- the value with new elements is stored afterwards, or the first error is returned
 abbrev pub StoresEdit : State → State → PlainEdit → Result (Unit {0}) CodecError → Type 0

@@ -23,21 +23,12 @@ filled_lines input = filter is_filled (lines_of input)
 
 -- ---- reading, by the bytes that the reader had and has left, where those are known
 
--- the next line was read, or there was none
-abbrev pub ReadsLine : Option (List ℕ) → Option (List ℕ) → List ℕ → Bool → Type 0
-ReadsLine unread left line is_read =
-    IfSome unread (λ input. (rest : List ℕ) × (left ≡ Some rest) × MatchBool is_read (lines_of input ≡ line ∷ lines_of rest) ((input ≡ []) × (rest ≡ [])))
+-- the next of these lines was read, or there was none
+abbrev pub ReadsNext : (List ℕ → List (List ℕ)) → Option (List ℕ) → Option (List ℕ) → List ℕ → Bool → Type 0
+ReadsNext lines unread left line is_read =
+    IfSome unread (λ input. (rest : List ℕ) × (left ≡ Some rest) × MatchBool is_read (lines input ≡ line ∷ lines rest) ((lines input ≡ []) × (rest ≡ [])))
 
--- the next line that isn't empty was read, or there was none
-abbrev pub ReadsFilledLine : Option (List ℕ) → Option (List ℕ) → List ℕ → Bool → Type 0
-ReadsFilledLine unread left line is_read =
-    IfSome unread (λ input. (rest : List ℕ) × (left ≡ Some rest) × MatchBool is_read (filled_lines input ≡ line ∷ filled_lines rest) ((filled_lines input ≡ []) × (rest ≡ [])))
-
--- a call that answers Ok took the next line of a reader, or found none
-abbrev pub TakesLine : {R E : Type 0} → (R → Option (List ℕ)) → R → R → Vec ℕ Global → Result Bool E → Type 0
-TakesLine remaining before after line result = IfOk result (ReadsLine (remaining before) (remaining after) line.items)
-
--- the same of the next line that isn't empty
-abbrev pub TakesFilledLine : {R E : Type 0} → (R → Option (List ℕ)) → R → R → Vec ℕ Global → Result Bool E → Type 0
-TakesFilledLine remaining before after line result =
-    IfOk result (ReadsFilledLine (remaining before) (remaining after) line.items)
+-- a call that answers Ok took the next of these lines of a reader, or found none
+abbrev pub TakesNext : {R E : Type 0} → (List ℕ → List (List ℕ)) → (R → Option (List ℕ)) → R → R → Vec ℕ Global → Result Bool E → Type 0
+TakesNext lines remaining before after line result =
+    IfOk result (ReadsNext lines (remaining before) (remaining after) line.items)

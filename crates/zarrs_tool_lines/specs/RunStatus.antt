@@ -10,22 +10,12 @@ status_of Done = 0
 status_of BadHeader = 2
 status_of (Fault _) = 1
 
--- where the run is done, all is read, and what was written answers all lines that aren't empty
-abbrev pub IfRan : {R W : Type 0} → (R → Option (List ℕ)) → R → R → (W → Option (List ℕ)) → W → W → RunEnd → Type 0
-IfRan remaining unread left contents held holds result =
-    result ≡ Done → EndsDone (remaining unread) (remaining left) (contents held) (contents holds)
-
--- where a bad header ended it, its one answer was written
-abbrev pub IfBadHeader : {R W : Type 0} → (R → Option (List ℕ)) → R → (W → Option (List ℕ)) → W → W → RunEnd → Type 0
-IfBadHeader remaining unread contents held holds result =
-    result ≡ BadHeader → EndsBad (remaining unread) (contents held) (contents holds)
-
--- the same of a call that returns whether the header was good, or there was none
+-- of a call that returns whether the header was good, or there was none: where it was, all is read, and what was written answers all lines that aren't empty
 abbrev pub IfGood : {R W E : Type 0} → (R → Option (List ℕ)) → R → R → (W → Option (List ℕ)) → W → W → Result Bool E → Type 0
 IfGood remaining unread left contents held holds result =
     result ≡ Ok true → EndsDone (remaining unread) (remaining left) (contents held) (contents holds)
 
--- and where it was bad
+-- and where it was bad, its one answer was written
 abbrev pub IfBad : {R W E : Type 0} → (R → Option (List ℕ)) → R → (W → Option (List ℕ)) → W → W → Result Bool E → Type 0
 IfBad remaining unread contents held holds result =
     result ≡ Ok false → EndsBad (remaining unread) (contents held) (contents holds)

@@ -2,7 +2,7 @@
 ghost use Rattle.std.specs.Prelude.{◌≡◌};
 ghost use Rattle.std.specs.Io.BufRead.{strip_last};
 ghost use Rattle.std.specs.Io.KnownBytes.{Keeps};
-ghost use Rattle.zarrs_tool_lines.specs.Lines.{TakesLine, TakesFilledLine};
+ghost use Rattle.zarrs_tool_lines.specs.Lines.{filled_lines, lines_of, TakesNext};
 ghost use Rattle.zarrs_tool_lines.specs.Run.{output_line, refusal_line, Outputs};
 
 use crate::run::StreamFault;
@@ -21,7 +21,7 @@ fn drop_line_end(line: &mut Vec<u8>)
 
 /// Reads the next line, without its end, or answers `false` where there is none.
 fn next_line<R: BufRead>(reader: &mut R, line: &mut Vec<u8>) -> io::Result<bool>
-    ensures next { TakesLine R.remaining reader.old reader.new line.new result }
+    ensures next { TakesNext lines_of R.remaining reader.old reader.new line.new result }
 {
     line.clear();
     if reader.read_until(b'\n', line)? == 0 {
@@ -33,7 +33,7 @@ fn next_line<R: BufRead>(reader: &mut R, line: &mut Vec<u8>) -> io::Result<bool>
 
 /// Reads lines until one isn't empty, or answers `false` where none is left.
 fn read_filled_line<R: BufRead>(reader: &mut R, line: &mut Vec<u8>) -> io::Result<bool>
-    ensures next { TakesFilledLine R.remaining reader.old reader.new line.new result }
+    ensures next { TakesNext filled_lines R.remaining reader.old reader.new line.new result }
 {
     'lines: for _ in 0..u64::MAX {
         if !next_line(reader, line)? {
@@ -48,7 +48,7 @@ fn read_filled_line<R: BufRead>(reader: &mut R, line: &mut Vec<u8>) -> io::Resul
 
 /// As `read_filled_line`; where that fails, the reader is at fault.
 pub fn next_filled_line<R: BufRead>(reader: &mut R, line: &mut Vec<u8>) -> Result<bool, StreamFault>
-    ensures next { TakesFilledLine R.remaining reader.old reader.new line.new result }
+    ensures next { TakesNext filled_lines R.remaining reader.old reader.new line.new result }
 {
     match read_filled_line(reader, line) {
         Ok(is_read) => Ok(is_read),

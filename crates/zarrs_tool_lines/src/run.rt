@@ -1,7 +1,7 @@
 //! Answers the lines of a reader.
 ghost use Rattle.std.specs.Prelude.{◌≡◌, OnOk};
-ghost use Rattle.zarrs_tool_lines.specs.Run.{EndsReplied};
-ghost use Rattle.zarrs_tool_lines.specs.RunStatus.{status_of, IfGood, IfBad, IfRan, IfBadHeader};
+ghost use Rattle.zarrs_tool_lines.specs.Run.{EndsBad, EndsDone, EndsReplied};
+ghost use Rattle.zarrs_tool_lines.specs.RunStatus.{status_of, IfGood, IfBad};
 ghost use Rattle.zarrs_tool_lines.specs.Session.{state_of};
 
 use crate::lines::{flush, next_filled_line, write_line, write_refusal};
@@ -129,8 +129,12 @@ fn run_and_flush<R: BufRead, W: Write>(
 ///
 /// A line may be answered `error OutOfMemory` where memory is wanting; what is stored stays.
 pub fn run<R: BufRead, W: Write>(alloc: Global, reader: &mut R, writer: &mut W) -> RunEnd
-    ensures done { IfRan R.remaining reader.old reader.new W.contents writer.old writer.new result }
-    ensures bad { IfBadHeader R.remaining reader.old W.contents writer.old writer.new result }
+    // Wide: both streams before and after.
+    ensures done { result ≡ RunEnd.Done → EndsDone (R.remaining reader.old)
+        (R.remaining reader.new) (W.contents writer.old) (W.contents writer.new) }
+    // Wide: the reader before, and the writer before and after.
+    ensures bad { result ≡ RunEnd.BadHeader → EndsBad (R.remaining reader.old)
+        (W.contents writer.old) (W.contents writer.new) }
 {
     match run_and_flush(alloc, reader, writer) {
         Ok(true) => RunEnd::Done,

@@ -1,13 +1,14 @@
 //! A session: what a header opened, and the stored value.
 ghost use Rattle.std.specs.Prelude.{◌≡◌, OnErr};
 ghost use Rattle.zarrs_chunk.specs.Answer.{seen};
-ghost use Rattle.zarrs_chunk.specs.Indexer.{selection_of};
 ghost use Rattle.zarrs_codec.specs.MemoryHandle.{handle_value};
+ghost use Rattle.zarrs_chain.specs.ChainView.{plain_chain};
+ghost use Rattle.zarrs_json.specs.Edit.{edit_seen};
 ghost use Rattle.zarrs_json.specs.Refusal.{ReadsAs};
 ghost use Rattle.zarrs_json.specs.Header.{line_header};
 ghost use Rattle.zarrs_json.specs.declared.known_maker.KnownMaker.TheVariants.{WithSamples};
-ghost use Rattle.zarrs_tool_lines.specs.Commands.{first_state, encode_answer, load_answer, chunk_answer, decode_answer, read_answer, write_answer, erase_answer, value_answer, reencode_answer, answer_to, GivesPart};
-ghost use Rattle.zarrs_tool_lines.specs.Session.{state_of, EditsSession, GivesChunkPart, Replies, RepliesReencoded, StoresChunkEdit};
+ghost use Rattle.zarrs_tool_lines.specs.Commands.{first_state, encode_answer, load_answer, chunk_answer, decode_answer, read_answer, write_answer, erase_answer, value_answer, reencode_answer, reencoded_answer, answer_to, StoresEdit};
+ghost use Rattle.zarrs_tool_lines.specs.Session.{state_of, state_with, GivesChunkPart, Replies};
 
 use crate::command::{Command, command_of};
 use std::alloc::Global;
@@ -63,7 +64,9 @@ fn write_part(
     header: &ChunkHeader,
     edit: &Edit,
 ) -> Result<(), CodecError>
-    ensures answer { StoresChunkEdit header.now handle.old handle.new edit.now result }
+    // Wide: the header, and the handle before and after.
+    ensures answer { StoresEdit (state_with header.now handle.old) (state_with header.now handle.new)
+        (edit_seen edit.now) result }
     ensures kept { OnErr result (handle_value handle.new ≡ handle_value handle.old) }
 {
     match header.chain.partial_encoder(
@@ -148,7 +151,7 @@ impl Session {
         alloc: Global,
         indexer: &Indexer,
     ) -> Result<ArrayBytes<'static>, CodecError>
-        ensures answer { GivesPart (state_of self.old) (selection_of indexer.now) result }
+        ensures answer { GivesChunkPart self.old.header self.old.handle indexer.now result }
         ensures kept { state_of self.new ≡ state_of self.old }
     {
         read_part(&mut self.handle, alloc, &self.header, indexer)
@@ -165,7 +168,7 @@ impl Session {
     }
 
     fn store(&mut self, alloc: Global, edit: &Edit) -> Result<(), CodecError>
-        ensures answer { EditsSession self.old self.new edit.now result }
+        ensures answer { StoresEdit (state_of self.old) (state_of self.new) (edit_seen edit.now) result }
         ensures kept { OnErr result (state_of self.new ≡ state_of self.old) }
     {
         write_part(&mut self.handle, alloc, &self.header, edit)
@@ -206,7 +209,9 @@ impl Session {
         to: &CodecChain<KnownBytesCodec>,
         value: &[u8],
     ) -> Result<Vec<u8>, Refusal>
-        ensures answer { RepliesReencoded to.now self.now value.now result }
+        // Wide: the other chain, the session and the value.
+        ensures answer { Replies self.now result
+            (reencoded_answer (plain_chain to.now) (state_of self.now) value.now) }
     {
         let other = reencode(
             alloc,

@@ -17,7 +17,7 @@ use Rattle.zarrs_chain_meaning.proofs.ChainSteps.{refused_chunk, unopened, unrea
 use Rattle.zarrs_chain_meaning.proofs.OptionalSteps.{mask_refused, part_refused, part_expanded}
 use Rattle.zarrs_chain_meaning.proofs.PartSteps.{chunk_of_none}
 use Rattle.zarrs_chain.proofs.BytesBehind.{takes_behind, reads_behind}
-use Rattle.zarrs_chain.proofs.VlenDecode.{content_answered, content_counted, offsets_answered, vlen_answered, index_refused_by, content_refused_by}
+use Rattle.zarrs_chain.proofs.VlenDecode.{content_bytes, content_answered, content_counted, offsets_answered, vlen_answered, index_refused_by, content_refused_by}
 use Rattle.zarrs_chain_meaning.specs.ArrayStages.{arrays_map}
 use Rattle.zarrs_chain_meaning.specs.BytesStages.{outer_bytes}
 use Rattle.zarrs_chain_meaning.specs.Chain.{row_sizes}
@@ -30,7 +30,7 @@ use Rattle.zarrs_chain_meaning.specs.optional.Optional.{blank_fill, flag_type}
 use Rattle.zarrs_chain_meaning.specs.Parts.{byte_elements}
 use Rattle.zarrs_chunk.specs.ChunkShape.{product}
 use Rattle.zarrs_array_bytes.specs.Offsets.{last_of}
-use Rattle.zarrs_chain_meaning.specs.vlen.VlenSteps.{data_part, index_offsets, content_bytes}
+use Rattle.zarrs_chain_meaning.specs.vlen.VlenSteps.{data_part, index_offsets}
 use Rattle.zarrs_chain.specs.declared.vlen.vlen_codec.VlenCodec.{out-VlenCodec}
 use Rattle.zarrs_chain.specs.declared.optional.optional_codec.OptionalCodec.{out-OptionalCodec}
 use Rattle.zarrs_chain.proofs.OptionalRoom.{mask_long}

@@ -16,16 +16,16 @@ use Rattle.zarrs_chain_meaning.specs.BytesStages.{outer_value, in_memory}
 use Rattle.zarrs_chain_meaning.specs.Chain.{held_value, held_part}
 use Rattle.zarrs_chain.specs.ChainView.{plain_chain, plain_vlen, plain_vlen_at}
 use Rattle.zarrs_chain_meaning.specs.vlen.VlenSettings.{is_wide, is_at_end}
-use Rattle.zarrs_chain_meaning.specs.Parts.{byte_elements, byte_type}
+use Rattle.zarrs_chain_meaning.specs.Parts.{byte_elements, byte_type, length_bytes}
 use Rattle.zarrs_chain_meaning.specs.CodecMeaning.{chain_value}
-use Rattle.zarrs_chain_meaning.specs.vlen.Vlen.{vlen_layout, vlen_representation}
+use Rattle.zarrs_chain_meaning.specs.vlen.Vlen.{vlen_representation, arranged}
 use Rattle.zarrs_chain_meaning.specs.optional.Optional.{flag_type, blank_fill}
 use Rattle.zarrs_chain.specs.declared.optional.optional_codec.OptionalCodec.{out-OptionalCodec}
-use Rattle.zarrs_chain.proofs.VlenEncode.{IsIndexRow, index_refused_at, index_not_kept_at, takes_at, content_at, IsVariableHeld, value_index_refused, value_content_refused, value_joined}
+use Rattle.zarrs_chain.proofs.VlenEncode.{content_part, IsIndexRow, index_refused_at, index_not_kept_at, takes_at, content_at, IsVariableHeld, value_index_refused, value_content_refused, value_joined}
 use Rattle.zarrs_chunk.specs.ChunkShape.{product}
 use Rattle.zarrs_array_bytes.specs.Offsets.{is_offsets, last_of}
 use Rattle.zarrs_array_bytes.specs.Parts.{variable_part}
-use Rattle.zarrs_chain_meaning.specs.vlen.VlenSteps.{index_part, content_part}
+use Rattle.zarrs_chain_meaning.specs.vlen.VlenSteps.{index_part}
 use Rattle.zarrs_chain.specs.declared.vlen.vlen_codec.VlenCodec.{out-VlenCodec}
 use Rattle.zarrs_chain.proofs.+encode.Goals as goal
 
@@ -277,7 +277,7 @@ vlen::vlen_encode::vlen_encode-returns g t c =
             let v : IsVariableHeld sizes type c.args.held raw offsets = record { size = c.in_ok-vlen_representation.field-0; measured = measured; valid = valid; parts = parts; rising = rising; ending = ending; small = small } in
             let first : index_part f index wide offsets ≡ Ok (raw_of c.in_ok-index.index).items = search rules in
             let second : content_part f content (drop (slice_index offsets 0) raw.items) ≡ Ok (raw_of c.in_ok-content.content).items = search rules in
-            let last : in_memory (vlen_layout at_end (raw_of c.in_ok-index.index).items (raw_of c.in_ok-content.content).items) ≡ Ok c.in_ok-value.value.items = search rules in
+            let last : in_memory (arranged at_end (length_bytes (raw_of c.in_ok-index.index).items) (raw_of c.in_ok-index.index).items (raw_of c.in_ok-content.content).items) ≡ Ok c.in_ok-value.value.items = search rules in
             value_joined f (plain_vlen codec) index content wide at_end sizes type fill c.args.held raw offsets (raw_of c.in_ok-index.index).items (raw_of c.in_ok-content.content).items (plain_vlen_at codec) v first second ∙ last;
         no_fault = search rules;
       };

@@ -1,9 +1,10 @@
 //! Codecs that were made, and what they make together.
 ghost use Rattle.std.specs.Prelude.{◌≡◌};
 ghost use Rattle.zarrs_chunk.specs.Answer.{seen};
-ghost use Rattle.zarrs_chain.specs.ChainParts.{parts_seen, AddsCodec, AddsToBytes};
-ghost use Rattle.zarrs_chain.specs.ChainView.{plain_chain};
-ghost use Rattle.zarrs_chain_meaning.specs.MadeChain.{nothing_gathered, finished};
+ghost use Rattle.zarrs_metadata.specs.PluginCreateError.{Makes};
+ghost use Rattle.zarrs_chain.specs.ChainParts.{made_seen, parts_seen};
+ghost use Rattle.zarrs_chain.specs.ChainView.{plain_chain, plain_codec};
+ghost use Rattle.zarrs_chain_meaning.specs.MadeChain.{to_bytes_made, with_codec, nothing_gathered, finished};
 
 use crate::array_to_bytes_codec::ArrayToBytesCodec;
 use crate::codec_chain::CodecChain;
@@ -45,7 +46,9 @@ impl<B: Drop> ChainParts<B> {
     /// The codec joins those of its kind, behind them. Errors: `MultipleArrayToBytes` for a second
     /// one of chunks to bytes; `OutOfMemory`.
     pub(crate) fn add(&mut self, codec: MadeCodec<B>) -> Result<(), PluginCreateError>
-        ensures answer { AddsCodec codec self.old self.new result }
+        // Wide: the parts before and after, and the codec.
+        ensures answer { Makes (λ _. parts_seen self.new) result
+            (with_codec (made_seen codec) (parts_seen self.old)) }
     {
         match codec {
             MadeCodec::Array(codec) => Ok(self.array_to_array.push(codec)?),
@@ -55,7 +58,9 @@ impl<B: Drop> ChainParts<B> {
     }
 
     fn add_to_bytes(&mut self, codec: ArrayToBytesCodec<B>) -> Result<(), PluginCreateError>
-        ensures answer { AddsToBytes codec self.old self.new result }
+        // Wide: the parts before and after, and the codec.
+        ensures answer { seen (λ _. parts_seen self.new) result
+            ≡ with_codec (to_bytes_made (plain_codec codec)) (parts_seen self.old) }
     {
         if self.array_to_bytes.is_some() {
             return Err(PluginCreateError::MultipleArrayToBytes);

@@ -1,8 +1,10 @@
 //! What array-to-bytes codecs say of themselves, as every codec does, and the metadata of a chain.
 ghost use Rattle.std.specs.Prelude.{IfOk};
+ghost use Rattle.zarrs_metadata.specs.MetadataV3.{metadatas_in};
 ghost use Rattle.zarrs_chain.specs.ChainView.{plain_chain};
+ghost use Rattle.zarrs_chain_meaning.specs.MadeAgain.{MakesChain};
 ghost use Rattle.zarrs_chain_meaning.specs.WrittenMetadata.{chain_metadatas};
-ghost use Rattle.zarrs_chain.specs.Making.{WritesList, MakesAgain};
+ghost use Rattle.zarrs_chain.specs.Making.{WritesList};
 
 use crate::array_to_bytes_codec::{ArrayToBytesCodec, codec_reads, codec_writes};
 use crate::codec_chain::{CodecChain, chain_has_ranges, chain_is_sound};
@@ -21,7 +23,9 @@ impl<B: BytesToBytesCodecTraits> CodecChain<B> {
     /// codecs again. Errors: `OutOfMemory`.
     pub fn create_metadatas(&self, alloc: Global) -> Result<Vec<MetadataV3>, PluginCreateError>
         ensures answer { WritesList result (chain_metadatas B.described (plain_chain self.now)) }
-        ensures made_again { IfOk result (MakesAgain B.described self.now) }
+        // Wide: what writes the bytes-to-bytes codecs, the chain and the list.
+        ensures made_again { IfOk result (λ list.
+            MakesChain B.described (plain_chain self.now) (metadatas_in list)) }
     {
         chain_is_sound(self);
         chain_has_ranges(self);

@@ -1,10 +1,13 @@
 //! Chains made from lists of metadata. A chain is made codec by codec, and some codecs have chains
 //! inside, whose metadata stand in their configurations: the functions call each other, each time
 //! for metadata that are less deep.
-ghost use Rattle.std.specs.Prelude.{◌≡◌, Ok};
+ghost use Rattle.std.specs.Prelude.{◌≡◌, ◌||◌, if◌then◌else◌, Ok, Err};
+ghost use Rattle.zarrs_metadata.specs.MetadataV3.{metadata_seen};
 ghost use Rattle.zarrs_metadata.specs.PluginCreateError.{plugin_memory, Makes};
 ghost use Rattle.zarrs_chain.specs.ChainView.{plain_vlen, plain_optional, vlen_of, optional_of};
-ghost use Rattle.zarrs_chain.specs.Making.{MakesChainOf, MakesVlen, MakesOptional, CreatesVlen, CreatesOptional, AsksMaker, MakesCodec, JoinsCodec, passed_over};
+ghost use Rattle.zarrs_chain_meaning.specs.MadeChain.{asked_maker, codec_by, joined_by};
+ghost use Rattle.zarrs_chain.specs.ChainParts.{made_seen, parts_seen};
+ghost use Rattle.zarrs_chain.specs.Making.{MakesChainOf, MakesVlen, MakesOptional, CreatesVlen, CreatesOptional};
 
 use crate::array_to_bytes_codec::ArrayToBytesCodec;
 use crate::codec_chain::CodecChain;
@@ -27,6 +30,7 @@ use zarrs_metadata::{
     VlenIndexDataType, VlenIndexLocation,
 };
 use zarrs_packbits::PackBitsCodec;
+use zarrs_vlen_v2::VlenV2Codec;
 
 /// The codec `vlen` with these chains in boxes. Errors: `OutOfMemory`.
 fn boxed_vlen<B: Drop>(
@@ -125,7 +129,9 @@ fn asked<B: Drop, M: BytesCodecMaker<B>>(
     metadata: &MetadataV3,
     maker: &M,
 ) -> Result<MadeCodec<B>, PluginCreateError>
-    ensures answer { AsksMaker (M.makes maker.now) metadata.now result }
+    // Wide: the maker, the metadata and the answer.
+    ensures answer { Makes made_seen result
+        (asked_maker (M.makes maker.now (metadata_seen metadata.now))) }
 {
     match maker.make(alloc, metadata) {
         Ok(Some(codec)) => Ok(MadeCodec::Outer(codec)),
@@ -143,7 +149,9 @@ fn codec_from<B: Drop, M: BytesCodecMaker<B>>(
     metadata: &MetadataV3,
     maker: &M,
 ) -> Result<MadeCodec<B>, PluginCreateError>
-    ensures answer { MakesCodec (M.makes maker.now) metadata.now result }
+    // Wide: the maker, the metadata and the answer.
+    ensures answer { Makes made_seen result
+        (codec_by (M.makes maker.now) (metadata_seen metadata.now)) }
 {
     match codec_named(metadata.name()) {
         Some(KnownCodec::Transpose | KnownCodec::Reshape | KnownCodec::Squeeze) => {
@@ -156,6 +164,10 @@ fn codec_from<B: Drop, M: BytesCodecMaker<B>>(
         Some(KnownCodec::PackBits) => {
             let codec = PackBitsCodec::create(metadata)?;
             Ok(MadeCodec::ToBytes(ArrayToBytesCodec::PackBits(codec)))
+        }
+        Some(KnownCodec::VlenV2) => {
+            let codec = VlenV2Codec::create(metadata)?;
+            Ok(MadeCodec::ToBytes(ArrayToBytesCodec::VlenV2(codec)))
         }
         Some(KnownCodec::Vlen) => {
             let codec = vlen_create(alloc, metadata, maker)?;
@@ -178,7 +190,8 @@ fn is_want_of_memory(refusal: PluginCreateError) -> bool
 /// Where a codec can't be made, its metadata is passed over if it need not be understood. Lack of
 /// memory says nothing of the metadata, so it is never passed over. Errors: this one.
 fn pass_over(refusal: PluginCreateError, must_understand: bool) -> Result<(), PluginCreateError>
-    ensures value { result ≡ passed_over refusal must_understand }
+    ensures value { result ≡ if must_understand || plugin_memory refusal
+        then Err refusal else Ok tt }
 {
     if must_understand || is_want_of_memory(refusal) {
         return Err(refusal);
@@ -196,7 +209,9 @@ fn join<B: Drop, M: BytesCodecMaker<B>>(
     maker: &M,
     parts: &mut ChainParts<B>,
 ) -> Result<(), PluginCreateError>
-    ensures answer { JoinsCodec (M.makes maker.now) metadata.now parts.old parts.new result }
+    // Wide: the parts before and after, the maker and the metadata.
+    ensures answer { Makes (λ _. parts_seen parts.new) result
+        (joined_by (M.makes maker.now) (metadata_seen metadata.now) (parts_seen parts.old)) }
 {
     match codec_from(alloc, metadata, maker) {
         Ok(codec) => parts.add(codec),

@@ -1,14 +1,15 @@
 //! The metadata that is written of chains and of codecs with chains inside.
-ghost use Rattle.std.specs.Prelude.{◌≡◌, Ok, map};
+ghost use Rattle.std.specs.Prelude.{◌≡◌, ◌++◌, Ok, map};
 ghost use Rattle.zarrs_metadata.specs.BytesConfiguration.{write_bytes};
-ghost use Rattle.zarrs_metadata.specs.MetadataV3.{metadata_seen, Writes};
+ghost use Rattle.zarrs_metadata.specs.MetadataV3.{metadata_seen, metadatas_in, Writes};
 ghost use Rattle.zarrs_metadata.specs.PluginCreateError.{Makes};
 ghost use Rattle.zarrs_array_to_array.specs.Mapping.{mapping_of};
 ghost use Rattle.zarrs_packbits.specs.SettingsMetadata.{write_settings};
+ghost use Rattle.zarrs_vlen_v2.specs.VlenV2Metadata.{write_vlen_v2};
 ghost use Rattle.zarrs_chain.specs.ChainView.{plain_chain, plain_codec};
 ghost use Rattle.zarrs_chain_meaning.specs.WrittenMetadata.{codec_name as codec_name_of, codec_configuration as codec_configuration_of, chain_metadatas as chain_metadatas_of};
 ghost use Rattle.zarrs_chain_meaning.specs.MetadataFacts.{mapping_metadata};
-ghost use Rattle.zarrs_chain.specs.Making.{WritesList, AppendsMetadatas};
+ghost use Rattle.zarrs_chain.specs.Making.{WritesList};
 
 use crate::array_to_bytes_codec::ArrayToBytesCodec;
 use crate::codec_chain::CodecChain;
@@ -20,6 +21,7 @@ use zarrs_bytes::BytesCodec;
 use zarrs_codec::{BytesToBytesCodecTraits, CodecTraits};
 use zarrs_metadata::{Configuration, MetadataV3, PluginCreateError};
 use zarrs_packbits::PackBitsCodec;
+use zarrs_vlen_v2::VlenV2Codec;
 
 /// The metadata of an array-to-array codec. Errors: `OutOfMemory`.
 fn array_metadata(alloc: Global, codec: &ArrayToArrayCodec) -> Result<MetadataV3, PluginCreateError>
@@ -54,7 +56,9 @@ fn push_outer<B: BytesToBytesCodecTraits>(
     codecs: &[B],
     list: &mut Vec<MetadataV3>,
 ) -> Result<(), PluginCreateError>
-    ensures answer { AppendsMetadatas list.old list.new result (map B.described codecs.now) }
+    // Wide: the list before and after, and what is put behind it.
+    ensures answer { Makes (λ _. metadatas_in list.new) result
+        (Ok (metadatas_in list.old ++ map B.described codecs.now)) }
 {
     for codec in codecs {
         list.push(codec.metadata(alloc)?)?;
@@ -70,6 +74,8 @@ pub(crate) fn codec_name<B>(codec: &ArrayToBytesCodec<B>) -> &'static str
     match codec {
         ArrayToBytesCodec::Bytes(_) => "bytes",
         ArrayToBytesCodec::PackBits(_) => "packbits",
+        ArrayToBytesCodec::VlenV2(VlenV2Codec::Utf8) => "vlen-utf8",
+        ArrayToBytesCodec::VlenV2(VlenV2Codec::Bytes) => "vlen-bytes",
         ArrayToBytesCodec::Vlen(_) => "zarrs.vlen",
         ArrayToBytesCodec::Optional(_) => "zarrs.optional",
     }
@@ -98,6 +104,16 @@ fn packbits_written(
     }
 }
 
+/// The configuration of `vlen-utf8` and of `vlen-bytes`. Errors: `OutOfMemory`.
+fn vlen_v2_written(alloc: Global, codec: &VlenV2Codec) -> Result<Configuration, PluginCreateError>
+    ensures answer { Writes result write_vlen_v2 }
+{
+    match codec.configuration(alloc)? {
+        None => Ok(Configuration::new(alloc)),
+        Some(configuration) => Ok(configuration),
+    }
+}
+
 /// The configuration of an array-to-bytes codec. Errors: `OutOfMemory`.
 #[cycle(written)]
 #[tactic(auto, unfolding(crate::specs::ChainView::plain_codec))]
@@ -110,6 +126,7 @@ pub(crate) fn codec_written<B: BytesToBytesCodecTraits>(
     match codec {
         ArrayToBytesCodec::Bytes(codec) => bytes_written(alloc, codec),
         ArrayToBytesCodec::PackBits(codec) => packbits_written(alloc, codec),
+        ArrayToBytesCodec::VlenV2(codec) => vlen_v2_written(alloc, codec),
         ArrayToBytesCodec::Vlen(codec) => vlen_written(alloc, codec),
         ArrayToBytesCodec::Optional(codec) => optional_written(alloc, codec),
     }

@@ -1,7 +1,7 @@
-ghost use Rattle.zarrs_chunk.specs.Answer.{checked_u64};
+ghost use Rattle.zarrs_chunk.specs.Answer.{Gives, checked_u64};
 ghost use Rattle.zarrs_array_bytes.specs.Tight.{IsTight};
 ghost use Rattle.zarrs_array_bytes.specs.Held.{items_of};
-ghost use Rattle.std.specs.Prelude.{◌≡◌, length, Ok, IfOk};
+ghost use Rattle.std.specs.Prelude.{◌≡◌, [], ◌∷◌, length, Ok, IfOk};
 ghost use Rattle.zarrs_chunk.specs.ChunkShape.{product};
 ghost use Rattle.zarrs_data_type.specs.ElementType.{optional};
 ghost use Rattle.zarrs_array_bytes.specs.Validity.{validity};
@@ -9,12 +9,15 @@ ghost use Rattle.zarrs_metadata.specs.MetadataV3.{Writes as IsWritten};
 ghost use Rattle.zarrs_data_type.specs.Form.{form_of};
 ghost use Rattle.zarrs_codec.specs.Grammar.{Encodes, Decodes};
 ghost use Rattle.zarrs_chain.specs.ChainGrammar.{codec_grammar};
-ghost use Rattle.zarrs_chain.specs.ChainView.{plain_optional, optional_of};
-ghost use Rattle.zarrs_chain_meaning.specs.CodecMeaning.{HasMappings};
+ghost use Rattle.zarrs_chain.specs.ChainView.{plain_chain, plain_optional, optional_of};
+ghost use Rattle.zarrs_chain_meaning.specs.CallAnswers.{GivesCodecChunk, GivesTakenChunk, GivesPartValue};
+ghost use Rattle.zarrs_chain_meaning.specs.CodecMeaning.{HasMappings, chain_value, chain_chunk};
+ghost use Rattle.zarrs_chain_meaning.specs.Parts.{byte_elements};
+ghost use Rattle.zarrs_chain_meaning.specs.optional.Optional.{flag_type, blank_fill as blank_fill_of};
 ghost use Rattle.zarrs_chain_meaning.specs.MadeAgain.{HasRanges};
-ghost use Rattle.zarrs_chain_meaning.specs.optional.OptionalParts.{optional_inner};
+ghost use Rattle.zarrs_chain_meaning.specs.optional.OptionalParts.{optional_inner, optional_content, GivesPresent};
 ghost use Rattle.zarrs_chain_meaning.specs.WrittenMetadata.{codec_configuration};
-ghost use Rattle.zarrs_chain.specs.optional.OptionalCalls.{Takes, Counts, Writes, Reads, ReadsAny, WritesContent, WritesMask, WritesPresent, ReadsMask, ReadsPresent, HasRoom};
+ghost use Rattle.zarrs_chain.specs.optional.OptionalCalls.{Takes, Counts, Writes, HasRoom};
 
 use crate::codec_chain::{CodecChain, chain_has_ranges, chain_is_sound};
 use crate::decode::{chain_decode, part_decode};
@@ -23,14 +26,15 @@ use crate::metadata::write_chain::chain_written;
 use crate::representation::chain_representation;
 use std::alloc::Global;
 use zarrs_array_bytes::{ArrayBytes, ArrayBytesRaw, count_present};
-use zarrs_chain_meaning::optional::configuration::optional_members;
 use zarrs_chain_meaning::optional::optional_parts::{
     blank_fill, both_representations, inner_type, join_parts, lent, masked_parts, split_value,
 };
 use zarrs_chunk::{ChunkShape, CodecError};
 use zarrs_codec::{BytesRepresentation, BytesToBytesCodecTraits};
 use zarrs_data_type::{DataType, FillValue};
-use zarrs_metadata::{Configuration, PluginCreateError};
+use zarrs_metadata::{
+    Configuration, OptionalCodecConfiguration, OptionalCodecConfigurationV1, PluginCreateError,
+};
 
 /// Optional elements: which ones are present, through one chain, and those that are, through another
 /// (codec.zarrs.dev codec `zarrs.optional`).
@@ -89,7 +93,11 @@ pub(crate) fn optional_written<B: BytesToBytesCodecTraits>(
 {
     let mask_codecs = chain_written(alloc, &codec.mask_codecs)?;
     let data_codecs = chain_written(alloc, &codec.data_codecs)?;
-    optional_members(alloc, mask_codecs, data_codecs)
+    let configuration = OptionalCodecConfiguration::V1(OptionalCodecConfigurationV1 {
+        mask_codecs,
+        data_codecs,
+    });
+    configuration.to_configuration(alloc)
 }
 
 /// The length of such a chunk's value. Errors: those of `OptionalCodec::encoded_representation`.
@@ -128,7 +136,9 @@ fn mask_encode<'a, B: BytesToBytesCodecTraits>(
 ) -> Result<ArrayBytesRaw<'a>, CodecError>
     requires len { length (items_of mask) ≡ product shape.now }
     requires counted { checked_u64 (product shape.now) ≡ Ok (product shape.now) }
-    ensures answer { WritesMask B.functions chain.now shape.now mask.entry result }
+    // Wide: flags are a chunk of their own type and fill value.
+    ensures answer { Gives items_of result (chain_value B.functions (plain_chain chain.now)
+        shape.now flag_type (0 ∷ []) (byte_elements (items_of mask.entry))) }
 {
     let flag = DataType::bool();
     let zero = blank_fill(alloc, &flag)?;
@@ -151,7 +161,9 @@ fn present_encode<'a, B: BytesToBytesCodecTraits>(
     count: u64,
     data_type: &DataType,
 ) -> Result<ArrayBytesRaw<'a>, CodecError>
-    ensures exact { WritesPresent B.functions chain.now count data_type.now present.entry result }
+    // Wide: a row is its count, type and fill value.
+    ensures exact { GivesPartValue B.functions (plain_chain chain.now)
+        count data_type.now (blank_fill_of data_type.now) present.entry result }
 {
     let blank = blank_fill(alloc, data_type)?;
     part_encode(alloc, chain, present, count, data_type, &blank)
@@ -170,7 +182,9 @@ fn content_encode<'a, B: BytesToBytesCodecTraits>(
 ) -> Result<ArrayBytesRaw<'a>, CodecError>
     requires valid { validity (optional inner.now) (product shape.now) elements ≡ Ok tt }
     requires counted { checked_u64 (product shape.now) ≡ Ok (product shape.now) }
-    ensures answer { WritesContent B.functions codec.now shape.now inner.now elements.entry result }
+    // Wide: the codec, the shape, the type inside and the container.
+    ensures answer { Gives items_of result (optional_content B.functions
+        (plain_optional codec.now) shape.now inner.now elements.entry) }
 {
     let (inside, mask, count) = masked_parts(elements)?;
     let present = inside.extract_present(alloc, lent(&mask), inner)?;
@@ -223,7 +237,9 @@ fn mask_decode<'a, B: BytesToBytesCodecTraits>(
     part: ArrayBytesRaw<'a>,
     shape: &ChunkShape,
 ) -> Result<ArrayBytesRaw<'a>, CodecError>
-    ensures answer { ReadsMask B.functions chain.now shape.now part.entry result }
+    // Wide: flags are a chunk of their own type and fill value.
+    ensures answer { Gives (λ mask. byte_elements (items_of mask)) result (chain_chunk B.functions
+        (plain_chain chain.now) shape.now flag_type (0 ∷ []) (items_of part.entry)) }
 {
     let flag = DataType::bool();
     let zero = blank_fill(alloc, &flag)?;
@@ -243,7 +259,9 @@ fn present_decode<'a, B: BytesToBytesCodecTraits>(
     data_type: &DataType,
 ) -> Result<ArrayBytes<'a>, CodecError>
     requires room { HasRoom data_type.now mask }
-    ensures answer { ReadsPresent B.functions chain.now data_type.now mask.entry part.entry result }
+    // Wide: the chain, the type inside, the mask and the part.
+    ensures answer { GivesPresent B.functions (plain_chain chain.now)
+        data_type.now (items_of mask.entry) (items_of part.entry) result }
     ensures tight { IfOk result (IsTight (optional data_type.now)) }
 {
     let count = count_present(lent(&mask))?;
@@ -284,7 +302,9 @@ pub(crate) fn optional_decode<'a, B: BytesToBytesCodecTraits>(
     fill: &FillValue,
 ) -> Result<ArrayBytes<'a>, CodecError>
     requires taken { Takes B.functions codec.now shape.now kind.now fill.now }
-    ensures answer { Reads B.functions codec.now shape.now kind.now fill.now value.entry result }
+    // Wide: the three parameters of a form, the value and the answer.
+    ensures answer { GivesCodecChunk B.functions (plain_optional codec.now)
+        (form_of shape.now kind.now fill.now) (items_of value.entry) result }
     ensures tight { IfOk result (IsTight kind.now) }
 {
     let inner = inner_type(kind)?;
@@ -304,7 +324,9 @@ fn optional_taken_decode<'a, B: BytesToBytesCodecTraits>(
     kind: &DataType,
     fill: &FillValue,
 ) -> Result<ArrayBytes<'a>, CodecError>
-    ensures exact { ReadsAny B.functions codec.now shape.now kind.now fill.now value.entry result }
+    // Wide: the three parameters of a form, the value and the answer.
+    ensures exact { GivesTakenChunk B.functions (plain_optional codec.now)
+        (form_of shape.now kind.now fill.now) (items_of value.entry) result }
     ensures tight { IfOk result (IsTight kind.now) }
 {
     optional_representation(alloc, codec, shape, kind, fill)?;

@@ -1,10 +1,12 @@
 //! Which codecs `vlen` are plain: their index chain is `bytes` with a byte order, and their data chain
 //! is `bytes`, both alone.
-ghost use Rattle.std.specs.Prelude.{◌≡◌};
+ghost use Rattle.std.specs.Prelude.{◌≡◌, option_map};
 ghost use Rattle.zarrs_chain_meaning.specs.Chain.{codec_reads};
-ghost use Rattle.zarrs_chain_meaning.specs.vlen.PlainVlen.{lone_order};
+ghost use Rattle.zarrs_chain_meaning.specs.CodecFacts.{facts, if_alone};
+ghost use Rattle.zarrs_chain_meaning.specs.vlen.PlainForm.{form_of_chains};
+ghost use Rattle.zarrs_chain_meaning.specs.vlen.PlainVlen.{plain_form};
+ghost use Rattle.zarrs_chain_meaning.specs.vlen.VlenSettings.{is_wide, is_at_end};
 ghost use Rattle.zarrs_chain.specs.ChainView.{plain_chain, plain_vlen};
-ghost use Rattle.zarrs_chain.specs.vlen.VlenCalls.{TellsForm};
 
 use crate::array_to_bytes_codec::ArrayToBytesCodec;
 use crate::codec_chain::CodecChain;
@@ -18,7 +20,9 @@ use zarrs_metadata::{VlenIndexDataType, VlenIndexLocation};
 /// chain.
 #[tactic(auto, unfolding(crate::specs::ChainView::plain_codec), using(crate::specs::ChainView::plain_vlen_at, crate::specs::ChainView::plain_optional_at, crate::proofs::PlainForms::arrays_before, crate::proofs::PlainForms::bytes_behind, crate::proofs::PlainForms::none_around, crate::proofs::PlainForms::none_else))]
 pub(crate) fn lone_bytes<B>(chain: &CodecChain<B>) -> Option<Option<Endianness>>
-    ensures value { result ≡ lone_order (plain_chain chain.now) }
+    // Wide: a chain has three parts.
+    ensures value { result ≡ if_alone (plain_chain chain.now).array_to_array (facts
+        (plain_chain chain.now).array_to_bytes).order (plain_chain chain.now).bytes_to_bytes }
 {
     if !chain.array_to_array.is_empty() {
         return None;
@@ -40,7 +44,9 @@ pub(crate) fn form_of_parts(
     index_data_type: VlenIndexDataType,
     index_location: VlenIndexLocation,
 ) -> Option<PlainVlen>
-    ensures form { TellsForm index content index_data_type index_location result }
+    // Wide: both chains, and the settings under the Rust crate's names.
+    ensures form { option_map plain_form result
+        ≡ form_of_chains index content (is_wide index_data_type) (is_at_end index_location) }
 {
     match (index, content) {
         (Some(Some(endianness)), Some(_)) => Some(PlainVlen {

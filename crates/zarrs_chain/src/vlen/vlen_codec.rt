@@ -1,19 +1,23 @@
 ghost use Rattle.zarrs_chunk.specs.Answer.{Answers, memory, is_fault};
 ghost use Rattle.zarrs_array_bytes.specs.Tight.{IsTight};
 ghost use Rattle.zarrs_array_bytes.specs.Held.{items_of};
-ghost use Rattle.std.specs.Prelude.{◌≡◌, [], Ok, IfOk, false, option_map};
+ghost use Rattle.std.specs.Prelude.{◌≡◌, [], Ok, Some, None, IfOk, true, false, option_map};
+ghost use Rattle.zarrs_data_type.specs.declared.endianness.Endianness.TheVariants.{Little};
 ghost use Rattle.zarrs_metadata.specs.MetadataV3.{Writes};
 ghost use Rattle.zarrs_data_type.specs.Form.{form_of};
 ghost use Rattle.zarrs_codec.specs.Grammar.{Encodes, Decodes};
 ghost use Rattle.zarrs_chain.specs.ChainGrammar.{codec_grammar};
-ghost use Rattle.zarrs_chain.specs.ChainView.{plain_vlen, IsVlenOf, with_index, boxed_chain};
-ghost use Rattle.zarrs_chain.specs.vlen.DefaultVlen.{bytes_chain, default_vlen};
+ghost use Rattle.zarrs_chain.specs.ChainView.{plain_chain, plain_vlen, vlen_of};
+ghost use Rattle.zarrs_chain.specs.vlen.DefaultVlen.{bytes_chain};
+ghost use Rattle.zarrs_chain_meaning.specs.CallAnswers.{GivesTakenChunk};
+ghost use Rattle.zarrs_chain_meaning.specs.PlainChain.{vlen_codec_of, with_location};
+ghost use Rattle.zarrs_chain_meaning.specs.vlen.VlenSettings.{is_at_end};
 ghost use Rattle.zarrs_chain_meaning.specs.CodecMeaning.{HasMappings};
 ghost use Rattle.zarrs_chain_meaning.specs.vlen.Vlen.{vlen_representation as vlen_representation_of};
 ghost use Rattle.zarrs_chain_meaning.specs.MadeAgain.{HasRanges};
 ghost use Rattle.zarrs_chain_meaning.specs.vlen.PlainVlen.{plain_form, plain_form_of};
 ghost use Rattle.zarrs_chain_meaning.specs.WrittenMetadata.{codec_configuration};
-ghost use Rattle.zarrs_chain.specs.vlen.VlenCalls.{Counts, Says, ReadsAny};
+ghost use Rattle.zarrs_chain.specs.vlen.VlenCalls.{Counts, Says};
 
 use crate::array_to_bytes_codec::ArrayToBytesCodec;
 use crate::codec_chain::{CodecChain, chain_has_ranges, chain_is_sound};
@@ -25,12 +29,14 @@ use std::alloc::Global;
 use zarrs_array_bytes::{ArrayBytes, ArrayBytesRaw};
 use zarrs_bytes::BytesCodec;
 use zarrs_chain_meaning::codec_name::VLEN;
-use zarrs_chain_meaning::vlen::configuration::vlen_members;
 use zarrs_chain_meaning::vlen::plain_vlen::PlainVlen;
 use zarrs_chunk::{ChunkShape, CodecError};
 use zarrs_codec::{BytesRepresentation, BytesToBytesCodecTraits};
 use zarrs_data_type::{DataType, FillValue};
-use zarrs_metadata::{Configuration, PluginCreateError, VlenIndexDataType, VlenIndexLocation};
+use zarrs_metadata::{
+    Configuration, PluginCreateError, VlenCodecConfiguration, VlenCodecConfigurationV0_1,
+    VlenIndexDataType, VlenIndexLocation,
+};
 
 /// Elements of any length: where each begins, through one chain, and their bytes, through another
 /// (codec.zarrs.dev codec `zarrs.vlen`).
@@ -58,7 +64,9 @@ impl<B> VlenCodec<B> {
         index_data_type: VlenIndexDataType,
         index_location: VlenIndexLocation,
     ) -> VlenCodec<B>
-        ensures made { IsVlenOf index_codecs data_codecs index_data_type index_location result }
+        // Wide: both chains, and the settings under the Rust crate's names.
+        ensures made { plain_vlen result
+            ≡ vlen_of index_codecs.value data_codecs.value index_data_type index_location }
     {
         VlenCodec {
             index_codecs,
@@ -71,7 +79,8 @@ impl<B> VlenCodec<B> {
     /// The same codec, with the index at this place.
     #[tactic(auto, using(crate::specs::ChainView::plain_vlen_at, crate::specs::ChainView::plain_vlen_made))]
     pub fn with_index_location(self, index_location: VlenIndexLocation) -> VlenCodec<B>
-        ensures made { plain_vlen result ≡ with_index index_location self }
+        ensures made { plain_vlen result
+            ≡ with_location (is_at_end index_location) (plain_vlen self) }
     {
         let VlenCodec {
             index_codecs,
@@ -100,7 +109,7 @@ impl<B> VlenCodec<B> {
 /// The codec `bytes` alone, in a box. Errors: `OutOfMemory`.
 #[tactic(auto, unfolding(crate::specs::ChainView::plain_codec))]
 fn boxed_bytes<B: Drop>(alloc: Global, codec: BytesCodec) -> Result<Box<CodecChain<B>>, CodecError>
-    ensures made { Answers memory boxed_chain result (Ok (bytes_chain codec)) }
+    ensures made { Answers memory (λ b. plain_chain b.value) result (Ok (bytes_chain codec)) }
 {
     let codec = ArrayToBytesCodec::Bytes(codec);
     let chain = CodecChain::new(Vec::new(alloc), codec, Vec::new(alloc));
@@ -112,7 +121,9 @@ impl<B: Drop> VlenCodec<B> {
     /// the index at the start; the elements' bytes as they are. Both chains are `bytes` alone, the
     /// data chain without a byte order. Errors: `OutOfMemory`.
     pub fn new_default(alloc: Global) -> Result<VlenCodec<B>, CodecError>
-        ensures made { Answers memory plain_vlen result (Ok default_vlen) }
+        // Wide: both chains, and the settings.
+        ensures made { Answers memory plain_vlen result
+            (Ok (vlen_codec_of (bytes_chain (Some Little)) (bytes_chain None) true false)) }
     {
         let index_codecs = boxed_bytes(alloc, BytesCodec::little())?;
         let data_codecs = boxed_bytes(alloc, BytesCodec::new(None))?;
@@ -156,13 +167,13 @@ pub(crate) fn vlen_written<B: BytesToBytesCodecTraits>(
 {
     let index_codecs = chain_written(alloc, &codec.index_codecs)?;
     let data_codecs = chain_written(alloc, &codec.data_codecs)?;
-    vlen_members(
-        alloc,
+    let configuration = VlenCodecConfiguration::V0_1(VlenCodecConfigurationV0_1 {
         index_codecs,
         data_codecs,
-        codec.index_data_type,
-        codec.index_location,
-    )
+        index_data_type: codec.index_data_type,
+        index_location: codec.index_location,
+    });
+    configuration.to_configuration(alloc)
 }
 
 /// How many bytes the value has: any number. Errors: `UnsupportedDataType` where the elements
@@ -205,7 +216,9 @@ fn vlen_taken_decode<'a, B: BytesToBytesCodecTraits>(
     kind: &DataType,
     fill: &FillValue,
 ) -> Result<ArrayBytes<'a>, CodecError>
-    ensures exact { ReadsAny B.functions codec.now shape.now kind.now fill.now value.entry result }
+    // Wide: the three parameters of a form, the value and the answer.
+    ensures exact { GivesTakenChunk B.functions (plain_vlen codec.now)
+        (form_of shape.now kind.now fill.now) (items_of value.entry) result }
     ensures tight { IfOk result (IsTight kind.now) }
 {
     vlen_measure(codec, shape, kind, fill)?;

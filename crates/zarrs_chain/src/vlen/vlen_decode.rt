@@ -1,11 +1,18 @@
 //! The chunk of a value through `vlen`: its offsets, then the elements' bytes.
-ghost use Rattle.zarrs_chunk.specs.Answer.{is_fault, checked_u64};
+ghost use Rattle.zarrs_chunk.specs.Answer.{Gives, GivesValue, is_fault, checked_u64, seen};
+ghost use Rattle.zarrs_data_type.specs.Form.{form_of};
 ghost use Rattle.zarrs_array_bytes.specs.Tight.{IsTight};
 ghost use Rattle.zarrs_array_bytes.specs.Held.{items_of};
-ghost use Rattle.std.specs.Prelude.{◌≡◌, ◌<◌, ◌+◌, IfOk, false, length};
+ghost use Rattle.std.specs.Prelude.{◌≡◌, ◌<◌, ◌+◌, [], ◌∷◌, IfOk, false, length};
 ghost use Rattle.zarrs_chunk.specs.ChunkShape.{product};
 ghost use Rattle.zarrs_array_bytes.specs.Offsets.{last_of};
-ghost use Rattle.zarrs_chain.specs.vlen.VlenCalls.{Takes, Reads, ReadsIndex, ReadsData};
+ghost use Rattle.zarrs_chain_meaning.specs.CallAnswers.{IsTaken, GivesCodecChunk};
+ghost use Rattle.zarrs_chain_meaning.specs.CodecMeaning.{chain_chunk};
+ghost use Rattle.zarrs_chain_meaning.specs.Meaning.{part_chunk};
+ghost use Rattle.zarrs_chain_meaning.specs.Parts.{all_bytes, byte_type};
+ghost use Rattle.zarrs_chain_meaning.specs.vlen.VlenSettings.{is_wide};
+ghost use Rattle.zarrs_chain_meaning.specs.vlen.VlenSteps.{index_offsets};
+ghost use Rattle.zarrs_chain.specs.ChainView.{plain_chain, plain_vlen};
 
 use crate::codec_chain::CodecChain;
 use crate::decode::part_decode;
@@ -32,7 +39,9 @@ fn index_decode<B: BytesToBytesCodecTraits>(
     data_type: VlenIndexDataType,
 ) -> Result<ArrayBytesOffsets, CodecError>
     requires some { 0 < count }
-    ensures answer { ReadsIndex B.functions chain.now data_type count part.now result }
+    // Wide: the chain, the offsets' type, their count and the part.
+    ensures answer { GivesValue result
+        (index_offsets B.functions (plain_chain chain.now) (is_wide data_type) count part.now) }
 {
     let fill_value = offset_fill(alloc, data_type)?;
     let part = CowSlice::Borrowed(part);
@@ -56,7 +65,9 @@ fn content_decode<'a, B: BytesToBytesCodecTraits>(
     part: ArrayBytesRaw<'a>,
     count: u64,
 ) -> Result<ArrayBytesRaw<'a>, CodecError>
-    ensures answer { ReadsData B.functions chain.now count part.entry result }
+    // Wide: bytes are a row of their own type and fill value.
+    ensures answer { Gives items_of result (seen all_bytes (part_chunk (chain_chunk B.functions
+        (plain_chain chain.now)) byte_type (0 ∷ []) count (items_of part.entry))) }
     ensures len { IfOk result (λ bytes. length (items_of bytes) ≡ count) }
 {
     let fill_value = FillValue::new_optional_null(alloc)?;
@@ -77,8 +88,11 @@ pub fn vlen_decode<'a, B: BytesToBytesCodecTraits>(
     kind: &DataType,
     fill: &FillValue,
 ) -> Result<ArrayBytes<'a>, CodecError>
-    requires taken { Takes B.functions codec.now shape.now kind.now fill.now }
-    ensures answer { Reads B.functions codec.now shape.now kind.now fill.now value.entry result }
+    requires taken { IsTaken B.functions (plain_vlen codec.now)
+        (form_of shape.now kind.now fill.now) }
+    // Wide: the three parameters of a form, the value and the answer.
+    ensures answer { GivesCodecChunk B.functions (plain_vlen codec.now)
+        (form_of shape.now kind.now fill.now) (items_of value.entry) result }
     ensures tight { IfOk result (IsTight kind.now) }
 {
     let (index, _) = split(value.as_slice(), codec.index_location)?;

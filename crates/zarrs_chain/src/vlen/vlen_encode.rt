@@ -1,7 +1,16 @@
 //! The value of a chunk through `vlen`: the index part and the data part, joined.
-ghost use Rattle.std.specs.Prelude.{◌≡◌, true};
+ghost use Rattle.std.specs.Prelude.{◌≡◌, [], ◌∷◌, true};
+ghost use Rattle.zarrs_chunk.specs.Answer.{Gives};
+ghost use Rattle.zarrs_data_type.specs.Form.{form_of};
+ghost use Rattle.zarrs_array_bytes.specs.Held.{items_of};
 ghost use Rattle.zarrs_array_bytes.specs.Offsets.{is_offsets};
-ghost use Rattle.zarrs_chain.specs.vlen.VlenCalls.{Writes, WritesIndex, WritesData};
+ghost use Rattle.zarrs_chain_meaning.specs.CallAnswers.{GivesCodecValue};
+ghost use Rattle.zarrs_chain_meaning.specs.CodecMeaning.{chain_value};
+ghost use Rattle.zarrs_chain_meaning.specs.Meaning.{part_value};
+ghost use Rattle.zarrs_chain_meaning.specs.Parts.{byte_elements, byte_type};
+ghost use Rattle.zarrs_chain_meaning.specs.vlen.VlenSettings.{is_wide};
+ghost use Rattle.zarrs_chain_meaning.specs.vlen.VlenSteps.{index_part};
+ghost use Rattle.zarrs_chain.specs.ChainView.{plain_chain, plain_vlen};
 
 use crate::codec_chain::{CodecChain, chain_is_sound};
 use crate::encode::{check_elements, part_encode};
@@ -27,7 +36,9 @@ fn index_encode<'a, B: BytesToBytesCodecTraits>(
     data_type: VlenIndexDataType,
 ) -> Result<ArrayBytesRaw<'a>, CodecError>
     requires rising { is_offsets offsets.now ≡ true }
-    ensures answer { WritesIndex B.functions chain.now data_type offsets.now result }
+    // Wide: the chain, the offsets' type and the offsets.
+    ensures answer { Gives items_of result
+        (index_part B.functions (plain_chain chain.now) (is_wide data_type) offsets.now) }
 {
     chain_is_sound(chain);
     let rows = index_elements(alloc, offsets, data_type)?;
@@ -52,7 +63,9 @@ fn content_encode<'a, B: BytesToBytesCodecTraits>(
     chain: &CodecChain<B>,
     bytes: ArrayBytesRaw<'a>,
 ) -> Result<ArrayBytesRaw<'a>, CodecError>
-    ensures answer { WritesData B.functions chain.now bytes.entry result }
+    // Wide: bytes are a row of their own type and fill value.
+    ensures answer { Gives items_of result (part_value (chain_value B.functions
+        (plain_chain chain.now)) byte_type (0 ∷ []) (byte_elements (items_of bytes.entry))) }
 {
     let fill_value = FillValue::new_optional_null(alloc)?;
     let count = bytes.len() as u64;
@@ -78,7 +91,9 @@ pub(crate) fn vlen_encode<'a, B: BytesToBytesCodecTraits>(
     kind: &DataType,
     fill: &FillValue,
 ) -> Result<ArrayBytesRaw<'a>, CodecError>
-    ensures answer { Writes B.functions codec.now shape.now kind.now fill.now held.entry result }
+    // Wide: the three parameters of a form, the container and the answer.
+    ensures answer { GivesCodecValue B.functions (plain_vlen codec.now)
+        (form_of shape.now kind.now fill.now) held.entry result }
 {
     vlen_representation(shape, kind)?;
     check_elements(&held, shape, kind)?;

@@ -1,12 +1,16 @@
 //! Whether the codec of an index gives its offsets back unchanged.
-ghost use Rattle.zarrs_chunk.specs.Answer.{is_fault};
+ghost use Rattle.zarrs_chunk.specs.Answer.{GivesValue, demand, is_fault, seen};
+ghost use Rattle.zarrs_chunk.specs.declared.codec_error.CodecError.TheVariants.{OffsetNotKept};
+ghost use Rattle.std.specs.Bool.{nat_eq};
+ghost use Rattle.std.specs.Cmp.Lexicographic.{pointwise};
 ghost use Rattle.zarrs_data_type.specs.Form.{form_of};
-ghost use Rattle.std.specs.Prelude.{◌≡◌, false, length, true};
+ghost use Rattle.std.specs.Prelude.{◌≡◌, ℕ, Ok, false, length, true};
 ghost use Rattle.zarrs_array_bytes.specs.Offsets.{is_offsets};
+ghost use Rattle.zarrs_array_bytes.specs.Parts.{fixed_part};
+ghost use Rattle.zarrs_chain_meaning.specs.PlainChain.{packbits_codec};
 ghost use Rattle.zarrs_chain.specs.ChainView.{plain_codec};
 ghost use Rattle.zarrs_chain_meaning.specs.vlen.VlenSettings.{is_wide};
-ghost use Rattle.zarrs_chain_meaning.specs.vlen.VlenSteps.{offsets_fit, TakesOffsets, IsPackable, offsets_form, TellsKept};
-ghost use Rattle.zarrs_chain.specs.vlen.VlenCalls.{TellsOffsets, TellsPacked, ChecksOffsets, tells_items};
+ghost use Rattle.zarrs_chain_meaning.specs.vlen.VlenSteps.{offsets_fit, keeps_offsets, TakesOffsets, IsPackable, offsets_form, TellsKept};
 
 use crate::array_to_bytes_codec::ArrayToBytesCodec;
 use crate::encode::row_of;
@@ -41,7 +45,9 @@ fn keeps_items(
 /// Whether the bytes of elements of one size are these. Errors: `ArrayBytesKind` for any other
 /// elements.
 fn holds_items(elements: &ArrayBytes<'_>, items: &[u8]) -> Result<bool, CodecError>
-    ensures answer { result ≡ tells_items elements.now items.now }
+    // Wide: the test of the bytes, or the error of other elements.
+    ensures answer { result
+        ≡ seen (λ raw. pointwise nat_eq raw.items items.now) (fixed_part elements.now) }
 {
     Ok(elements.as_fixed()? == items)
 }
@@ -56,7 +62,9 @@ fn packs_offsets(
     requires rising { is_offsets offsets.now ≡ true }
     requires fits { offsets_fit (is_wide data_type) offsets.now ≡ true }
     requires taken { IsPackable codec.now (offsets_form (is_wide data_type) (length offsets.now)) }
-    ensures answer { TellsPacked codec.now data_type offsets.now result }
+    // Wide: the codec, the offsets' type and the offsets.
+    ensures answer { GivesValue result
+        (Ok (keeps_offsets {B = ℕ} (packbits_codec codec.now) (is_wide data_type) offsets.now)) }
 {
     let items = offset_items(alloc, offsets, data_type)?;
     let fill_value = offset_fill(alloc, data_type)?;
@@ -75,7 +83,7 @@ fn packs_offsets(
 
 /// Whether a codec that was given offsets, counted from the first of them, gives them back unchanged.
 /// Only `packbits` may leave out bits of a number.
-#[tactic(auto, using(crate::proofs::VlenKept::bytes_keep, crate::proofs::VlenKept::vlen_keeps, crate::proofs::VlenKept::optional_keeps, crate::proofs::VlenKept::packed_keeps, crate::proofs::VlenKept::packed_takes))]
+#[tactic(auto, using(crate::proofs::VlenKept::bytes_keep, crate::proofs::VlenKept::vlen_v2_keeps, crate::proofs::VlenKept::vlen_keeps, crate::proofs::VlenKept::optional_keeps, crate::proofs::VlenKept::packed_keeps, crate::proofs::VlenKept::packed_takes))]
 fn is_kept<B>(
     alloc: Global,
     codec: &ArrayToBytesCodec<B>,
@@ -85,11 +93,14 @@ fn is_kept<B>(
     requires rising { is_offsets offsets.now ≡ true }
     requires fits { offsets_fit (is_wide data_type) offsets.now ≡ true }
     requires taken { TakesOffsets (plain_codec codec.now) (is_wide data_type) (length offsets.now) }
-    ensures answer { TellsOffsets codec.now data_type offsets.now result }
+    // Wide: the codec, the offsets' type and the offsets.
+    ensures answer { GivesValue result
+        (Ok (keeps_offsets (plain_codec codec.now) (is_wide data_type) offsets.now)) }
 {
     match codec {
         ArrayToBytesCodec::Bytes(_) => Ok(true),
         ArrayToBytesCodec::PackBits(codec) => packs_offsets(alloc, codec, offsets, data_type),
+        ArrayToBytesCodec::VlenV2(_) => Ok(true),
         ArrayToBytesCodec::Vlen(_) => Ok(true),
         ArrayToBytesCodec::Optional(_) => Ok(true),
     }
@@ -106,7 +117,9 @@ pub(crate) fn check_kept<B>(
     requires rising { is_offsets offsets.now ≡ true }
     requires fits { offsets_fit (is_wide data_type) offsets.now ≡ true }
     requires taken { TakesOffsets (plain_codec codec.now) (is_wide data_type) (length offsets.now) }
-    ensures answer { ChecksOffsets codec.now data_type offsets.now result }
+    // Wide: the test and its error.
+    ensures answer { GivesValue result (demand
+        (keeps_offsets (plain_codec codec.now) (is_wide data_type) offsets.now) OffsetNotKept) }
 {
     if is_kept(alloc, codec, offsets, data_type)? {
         Ok(())

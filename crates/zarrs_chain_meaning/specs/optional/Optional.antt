@@ -48,24 +48,20 @@ optional_representation mask data' sizes (optional type) fill = do
   m ← mask sizes flag_type (0 ∷ [])
   d ← data' sizes type (blank_fill type)
   Ok (both_representations m d)
-optional_representation mask data' sizes (fixed width components sign) fill = Err (UnsupportedDataType OPTIONAL)
-optional_representation mask data' sizes text fill = Err (UnsupportedDataType OPTIONAL)
-optional_representation mask data' sizes bytes fill = Err (UnsupportedDataType OPTIONAL)
+optional_representation mask data' sizes type fill = Err (UnsupportedDataType OPTIONAL)
 
 -- ---- the value of a chunk
 
 -- one for a present element, zero for an absent one
 abbrev pub flag_of : Element → Element
-flag_of (plain items) = plain (0 ∷ [])
-flag_of absent = plain (0 ∷ [])
 flag_of (present element) = plain (1 ∷ [])
+flag_of _ = plain (0 ∷ [])
 
 -- the present elements
 abbrev pub present_of : Chunk → Chunk
 present_of [] = []
-present_of (plain items ∷ chunk) = present_of chunk
-present_of (absent ∷ chunk) = present_of chunk
 present_of (present element ∷ chunk) = element ∷ present_of chunk
+present_of (_ ∷ chunk) = present_of chunk
 
 -- the two lengths, the mask and the data
 abbrev pub optional_layout : List ℕ → List ℕ → List ℕ

@@ -1,20 +1,18 @@
 -- What the calls of the codec `optional` answer, one step at a time.
-use Rattle.std.specs.Prelude.{◌≡◌, true, ℕ, List, length, Result, Ok, Err, ◌+◌, ◌^◌, nat_lt, if◌then◌else◌, Option, Some, None, [], ◌∷◌}
-use Rattle.std.specs.List.{list_all}
+use Rattle.std.specs.Prelude.{ℕ, List, length, Result, Ok, Err, []}
 use Rattle.zarrs_chunk.specs.Answer.{◌>>=◌, GivesBy}
 use Rattle.zarrs_chunk.specs.declared.codec_error.CodecError.{CodecError}
 use Rattle.zarrs_chunk.specs.declared.codec_error.CodecError.TheVariants.{UnsupportedDataType}
 use Rattle.zarrs_data_type.specs.ElementType.{ElementType, fixed, text, bytes, optional}
 use Rattle.zarrs_data_type.specs.Element.{Chunk}
 use Rattle.zarrs_array_bytes.specs.Elements.{elements}
-use Rattle.zarrs_array_bytes.specs.Held.{Held, masked, owned_bytes, items_of}
+use Rattle.zarrs_array_bytes.specs.Held.{Held, masked, owned_bytes}
 use Rattle.zarrs_array_bytes.specs.Present.{present_elements}
 use Rattle.zarrs_chain_meaning.specs.Meaning.{Decoder, part_chunk}
-use Rattle.zarrs_chain_meaning.specs.optional.Optional.{flags_in, count_set, under_flags, blank_fill, flag_type}
-use Rattle.zarrs_chain_meaning.specs.CodecMeaning.{chain_chunk, chain_value, codec_value}
+use Rattle.zarrs_chain_meaning.specs.optional.Optional.{flags_in, count_set, under_flags, blank_fill}
+use Rattle.zarrs_chain_meaning.specs.CodecMeaning.{chain_chunk, codec_value}
 use Rattle.zarrs_chain_meaning.specs.Parts.{byte_elements}
-use Rattle.std.proofs.Common.{Bor, Global}
-use Rattle.std.specs.declared.borrow.CowSlice.{CowSlice}
+use Rattle.std.proofs.Common.{Bor}
 use Rattle.zarrs_chunk.specs.ChunkShape.{product}
 use Rattle.zarrs_array_bytes.specs.Validity.{Holds}
 use Rattle.zarrs_codec.specs.BytesToBytesCodec.{BytesCodecs}
@@ -39,29 +37,9 @@ present_part decode type mask part = do
   items ← part_chunk decode type (blank_fill type) (count_set flags) part
   Ok (under_flags flags items)
 
--- how many bytes a value has whose parts have so many, where 64 bits count them
-abbrev pub joined_size : ℕ → ℕ → Option ℕ
-joined_size mask content = if nat_lt (16 + mask + content) (2 ^ 64) then Some (16 + mask + content) else None
-
 -- the bytes of both parts, which are lent
 abbrev pub both_lent : Bor (List ℕ) × Bor (List ℕ) → List ℕ × List ℕ
 both_lent parts = (parts.0.now, parts.1.now)
-
--- mask bytes are zeros and ones
-abbrev pub AreFlags : List ℕ → Type 0
-AreFlags mask = list_all (λ byte. nat_lt byte 2) mask ≡ true
-
--- the bytes of both parts
-abbrev pub both_items : CowSlice ℕ Global × CowSlice ℕ Global → List ℕ × List ℕ
-both_items parts = (items_of parts.0, items_of parts.1)
-
--- the mask part of these mask bytes through a chain
-abbrev pub mask_part : {B : Type 0} → BytesCodecs B → PlainChain B → List ℕ → List ℕ → Result (List ℕ) CodecError
-mask_part f chain sizes mask = chain_value f chain sizes flag_type (0 ∷ []) (byte_elements mask)
-
--- the mask that a mask part stands for through a chain
-abbrev pub mask_chunk : {B : Type 0} → BytesCodecs B → PlainChain B → List ℕ → List ℕ → Result Chunk CodecError
-mask_chunk f chain sizes part = chain_chunk f chain sizes flag_type (0 ∷ []) part
 
 -- the value of the chunk of optional elements that a container holds, this being the type inside
 abbrev pub optional_content : {B : Type 0} → BytesCodecs B → PlainCodec B → List ℕ → ElementType → Held → Result (List ℕ) CodecError

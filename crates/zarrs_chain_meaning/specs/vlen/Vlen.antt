@@ -71,14 +71,10 @@ is_same_bytes _ _ = false
 
 -- ---- the value of a chunk
 
--- the index's length, the index and the data; or the data, the index and its length
-abbrev pub vlen_layout : Bool → List ℕ → List ℕ → List ℕ
-vlen_layout false index data' = length_bytes index ++ (index ++ data')
-vlen_layout true index data' = data' ++ (index ++ length_bytes index)
-
--- the value of these parts, where memory has room for it
-abbrev pub joined_vlen : Bool → List ℕ → List ℕ → Result (List ℕ) CodecError
-joined_vlen at_end index data' = in_memory (vlen_layout at_end index data')
+-- the length, the index and then the data, or the data, the index and then the length
+abbrev pub arranged : Bool → List ℕ → List ℕ → List ℕ → List ℕ
+arranged false head index data' = head ++ (index ++ data')
+arranged true head index data' = data' ++ (index ++ head)
 
 abbrev pub vlen_value : Bool → Bool → (ElementType → Element → Element) → Encoder → Encoder → Chunk → Result (List ℕ) CodecError
 vlen_value wide at_end keep index data' chunk = do
@@ -88,7 +84,7 @@ vlen_value wide at_end keep index data' chunk = do
   index_part ← index (length offsets ∷ []) (offset_type wide) (offset_bytes wide 0) offsets
   _ ← demand (is_same_bytes (map (keep (offset_type wide)) offsets) offsets) OffsetNotKept
   data_part ← part_value data' byte_type (0 ∷ []) (byte_elements items)
-  joined_vlen at_end index_part data_part
+  in_memory (arranged at_end (length_bytes index_part) index_part data_part)
 
 -- ---- the chunk of a value
 
@@ -125,11 +121,6 @@ vlen_normal data' type element = element
 
 -- ---- what stands and what is written
 
--- the length, the index and then the data, or the data, the index and then the length
-abbrev pub arranged : Bool → List ℕ → List ℕ → List ℕ → List ℕ
-arranged false head index data' = head ++ (index ++ data')
-arranged true head index data' = data' ++ (index ++ head)
-
 -- A length, an index part of that length and a data part. The index part stands for offsets, one more than elements, which never fall; the data part for as many bytes as the last of them says; and an element is the bytes from one offset to the next.
 pub record VlenStands (wide at_end : Bool) (index content : Standing) (count : ℕ) (value : List ℕ) (chunk : Chunk) : Type 0 where
   pub head : List ℕ
@@ -152,7 +143,7 @@ pub record VlenWritten (wide at_end : Bool) (keep : ElementType → Element → 
   pub index_part : List ℕ
   pub data_part : List ℕ
   pub small : length value < 2 ^ 64
-  pub parts : value ≡ vlen_layout at_end index_part data_part
+  pub parts : value ≡ arranged at_end (length_bytes index_part) index_part data_part
   pub bytes_small : length (all_bytes chunk) < 2 ^ 64
   pub fit : offset_fits wide (length (all_bytes chunk)) ≡ true
   pub kept : map (keep (offset_type wide)) (offset_elements wide (chunk_offsets chunk)) ≡ offset_elements wide (chunk_offsets chunk)

@@ -1,12 +1,12 @@
 -- The steps of a codec `vlen`, each by what its calls are given.
 use Rattle.zarrs_data_type.specs.Form.{form_of, Form}
-use Rattle.std.specs.Prelude.{◌≡◌, ℕ, ◌+◌, ◌-◌, ◌/◌, Bool, true, false, nat_le, if◌then◌else◌, List, [], ◌∷◌, length, map, take, drop, slice_index, Result, Ok, IsOk}
+use Rattle.std.specs.Prelude.{◌≡◌, ℕ, ◌+◌, ◌-◌, ◌/◌, Bool, true, false, if◌then◌else◌, List, [], ◌∷◌, length, map, take, drop, slice_index, Result, Ok, IsOk}
 use Rattle.std.specs.List.{flat_map}
-use Rattle.zarrs_chunk.specs.Answer.{◌>>=◌, demand, Answers, memory, GivesBy}
+use Rattle.zarrs_chunk.specs.Answer.{◌>>=◌, demand, Answers, memory}
 use Rattle.zarrs_chunk.specs.declared.codec_error.CodecError.{CodecError}
-use Rattle.zarrs_chunk.specs.declared.codec_error.CodecError.TheVariants.{IndexLength, InvalidOffsets, OffsetTooLarge, OffsetNotKept}
+use Rattle.zarrs_chunk.specs.declared.codec_error.CodecError.TheVariants.{InvalidOffsets, OffsetTooLarge, OffsetNotKept}
 use Rattle.zarrs_data_type.specs.Element.{Chunk}
-use Rattle.zarrs_array_bytes.specs.Held.{Held, Raw, flen}
+use Rattle.zarrs_array_bytes.specs.Held.{Raw, flen}
 use Rattle.zarrs_array_bytes.specs.Offsets.{rises, last_of}
 use Rattle.zarrs_array_bytes.specs.Pieces.{pieces}
 use Rattle.zarrs_array_bytes.specs.Tight.{from_first}
@@ -14,9 +14,7 @@ use Rattle.zarrs_codec.specs.BytesToBytesCodec.{BytesCodecs}
 use Rattle.zarrs_packbits.specs.PackBitsSettings.{packed_layout, PackBitsSettings}
 use Rattle.zarrs_chain_meaning.specs.CodecFacts.{facts}
 use Rattle.zarrs_chain_meaning.specs.PlainChain.{PlainCodec, PlainChain}
-use Rattle.zarrs_chain_meaning.specs.Parts.{length_of, all_bytes, byte_elements, byte_type}
 use Rattle.zarrs_chain_meaning.specs.vlen.Vlen.{offset_of, offsets_in_chunk, offset_bytes, offset_fits, offset_elements, is_same_bytes, offset_type}
-use Rattle.zarrs_chain_meaning.specs.Meaning.{part_chunk, part_value}
 use Rattle.zarrs_chain_meaning.specs.CodecMeaning.{chain_chunk, chain_value, normal_element}
 use Rattle.zarrs_chunk.specs.ChunkShape.{product}
 use Rattle.zarrs_data_type.specs.ElementType.{ElementType}
@@ -24,12 +22,6 @@ use Rattle.zarrs_array_bytes.specs.Validity.{Holds}
 use Rattle.zarrs_packbits.specs.NormalForm.{normal_chunk}
 
 -- ---- parts of a value
-
--- how many bytes the index has, where no more are left
-abbrev pub index_length : List ℕ → ℕ → Result ℕ CodecError
-index_length head others = do
-  _ ← demand (nat_le (length_of head) others) IndexLength
-  Ok (length_of head)
 
 -- the data of a value whose index has so many bytes
 abbrev pub data_part : Bool → ℕ → List ℕ → List ℕ
@@ -66,10 +58,6 @@ index_elements wide offsets = do
   _ ← demand (offsets_fit wide offsets) OffsetTooLarge
   Ok (offset_elements wide (from_first offsets))
 
--- a container of an index's elements is given, or the error of offsets that are too large
-abbrev pub GivesIndex : Bool → List ℕ → Result Held CodecError → Type 0
-GivesIndex wide offsets result = GivesBy (Holds (offset_type wide)) result (index_elements wide offsets)
-
 -- the offsets that bytes spell
 abbrev pub read_offsets : Bool → List ℕ → List ℕ
 read_offsets wide items = map (offset_of wide) (pieces (offset_size wide) (length items / offset_size wide) items)
@@ -99,10 +87,6 @@ index_part f chain wide offsets = do
   _ ← demand (keeps_offsets chain.array_to_bytes wide offsets) OffsetNotKept
   Ok part
 
--- the data part of bytes through a chain
-abbrev pub content_part : {B : Type 0} → BytesCodecs B → PlainChain B → List ℕ → Result (List ℕ) CodecError
-content_part f chain items = part_value (chain_value f chain) byte_type (0 ∷ []) (byte_elements items)
-
 -- ---- parts that are read
 
 -- the offsets, so many, that an index part stands for through a chain
@@ -111,12 +95,6 @@ index_offsets f chain wide count part = do
   rows ← chain_chunk f chain (count ∷ []) (offset_type wide) (offset_bytes wide 0) part
   _ ← demand (rises (offsets_in_chunk wide rows)) InvalidOffsets
   Ok (offsets_in_chunk wide rows)
-
--- the bytes, so many, that a data part stands for through a chain
-abbrev pub content_bytes : {B : Type 0} → BytesCodecs B → PlainChain B → ℕ → List ℕ → Result (List ℕ) CodecError
-content_bytes f chain count part = do
-  items ← part_chunk (chain_chunk f chain) byte_type (0 ∷ []) count part
-  Ok (all_bytes items)
 
 -- the codec `packbits` takes chunks of this form
 abbrev pub IsPackable : PackBitsSettings → Form → Type 0
@@ -127,7 +105,3 @@ abbrev pub TellsKept : PackBitsSettings → List ℕ → ElementType → List �
 TellsKept settings sizes type items result =
     (chunk : Chunk) → Holds type (flen (lent_bytes items)) chunk → length chunk ≡ product sizes
     → Answers memory (λ kept. kept) result (Ok (is_same_bytes (normal_chunk settings type chunk) chunk))
-
--- a codec has to give offsets back unchanged
-abbrev pub offsets_kept : {B : Type 0} → PlainCodec B → Bool → List ℕ → Result (Unit {0}) CodecError
-offsets_kept codec wide offsets = demand (keeps_offsets codec wide offsets) OffsetNotKept

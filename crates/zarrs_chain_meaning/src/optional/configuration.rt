@@ -1,17 +1,13 @@
-//! The configuration of `optional`, read from metadata and made of its keys.
-ghost use Rattle.zarrs_chain_meaning.specs.WrittenMetadata.{optional_members_of};
+//! The configuration of `optional`, read from metadata.
 ghost use Rattle.std.specs.Prelude.{◌≡◌, IfOk, map};
-ghost use Rattle.zarrs_metadata.specs.MetadataV3.{metadata_seen, Writes};
+ghost use Rattle.zarrs_metadata.specs.MetadataV3.{metadata_seen};
 ghost use Rattle.zarrs_metadata.specs.OptionalConfiguration.{optional_seen};
 ghost use Rattle.zarrs_metadata.specs.PluginCreateError.{Makes};
 ghost use Rattle.zarrs_chain_meaning.specs.MadeChain.{read_as_optional, LessDeep};
 
 use crate::codec_name::is_optional;
 use std::alloc::Global;
-use zarrs_metadata::{
-    Configuration, MetadataV3, OptionalCodecConfiguration, OptionalCodecConfigurationV1,
-    PluginCreateError,
-};
+use zarrs_metadata::{MetadataV3, OptionalCodecConfiguration, PluginCreateError};
 
 /// The configuration of a metadata of `optional`. Errors: those of `optional_configuration`.
 fn read_optional_configuration(
@@ -58,19 +54,4 @@ pub fn present_codecs(configuration: &OptionalCodecConfiguration) -> &[MetadataV
 {
     let OptionalCodecConfiguration::V1(configuration) = configuration;
     configuration.data_codecs.as_slice()
-}
-
-/// The configuration of `optional` by its two keys. Errors: `OutOfMemory`.
-pub fn optional_members(
-    alloc: Global,
-    mask_codecs: Vec<MetadataV3>,
-    data_codecs: Vec<MetadataV3>,
-) -> Result<Configuration, PluginCreateError>
-    ensures answer { Writes result (optional_members_of mask_codecs.items data_codecs.items) }
-{
-    let configuration = OptionalCodecConfiguration::V1(OptionalCodecConfigurationV1 {
-        mask_codecs,
-        data_codecs,
-    });
-    configuration.to_configuration(alloc)
 }

@@ -1,5 +1,6 @@
 //! The parts of a value of the codec `optional`, and what its chains inside are handed.
-ghost use Rattle.std.specs.Prelude.{◌≡◌, ◌≤◌, ◌+◌, Ok, Err, IfOk, IfErr, Some, None, true, false, length, drop};
+ghost use Rattle.std.specs.List.{list_all};
+ghost use Rattle.std.specs.Prelude.{◌≡◌, ◌≤◌, ◌+◌, ◌^◌, if◌then◌else◌, nat_lt, Ok, Err, IfOk, IfErr, Some, None, true, false, length, drop};
 ghost use Rattle.zarrs_chunk.specs.Answer.{is_fault, seen, Gives, GivesValue};
 ghost use Rattle.zarrs_data_type.specs.FillValue.{fill_fits};
 ghost use Rattle.zarrs_array_bytes.specs.Held.{items_of, masked, raw_of};
@@ -7,7 +8,7 @@ ghost use Rattle.zarrs_array_bytes.specs.Parts.{optional_part};
 ghost use Rattle.zarrs_array_bytes.specs.Present.{present_count};
 ghost use Rattle.zarrs_chain_meaning.specs.BytesStages.{in_memory};
 ghost use Rattle.zarrs_chain_meaning.specs.optional.Optional.{optional_parts, optional_layout, blank_fill as blank_fill_of, both_representations as both_representations_of};
-ghost use Rattle.zarrs_chain_meaning.specs.optional.OptionalParts.{optional_inner, joined_size, both_lent, both_items, AreFlags};
+ghost use Rattle.zarrs_chain_meaning.specs.optional.OptionalParts.{optional_inner, both_lent};
 
 use crate::codec_name::OPTIONAL;
 use crate::vlen::length_fields::read_length;
@@ -55,7 +56,7 @@ pub fn masked_parts(
     elements: ArrayBytes<'_>,
 ) -> Result<(ArrayBytes<'_>, ArrayBytesRaw<'_>, u64), CodecError>
     ensures parts { IfOk result (λ parts. elements.entry ≡ masked parts.0 (raw_of parts.1)) }
-    ensures flags { IfOk result (λ parts. AreFlags (items_of parts.1)) }
+    ensures flags { IfOk result (λ parts. list_all (λ b. nat_lt b 2) (items_of parts.1) ≡ true) }
     ensures count { IfOk result (λ parts. present_count (items_of parts.1) ≡ Ok parts.2) }
     ensures cause { IfErr result (λ cause. optional_part elements.entry ≡ Err cause) }
     ensures no_fault { is_fault result ≡ false }
@@ -67,7 +68,9 @@ pub fn masked_parts(
 
 /// How many bytes a value of parts of so many bytes has, where 64 bits count them.
 fn whole_size(mask_size: u64, data_size: u64) -> Option<u64>
-    ensures value { result ≡ joined_size mask_size data_size }
+    // Wide: the sum stands in the test and in the answer.
+    ensures value { result ≡ if nat_lt (16 + mask_size + data_size) (2 ^ 64)
+        then Some (16 + mask_size + data_size) else None }
 {
     mask_size
         .checked_add(HEADER_SIZE as u64)?
@@ -145,7 +148,9 @@ pub fn split_value(
     alloc: Global,
     value: ArrayBytesRaw<'_>,
 ) -> Result<(ArrayBytesRaw<'_>, ArrayBytesRaw<'_>), CodecError>
-    ensures answer { Gives both_items result (optional_parts (items_of value.entry)) }
+    // Wide: both parts are seen by their bytes.
+    ensures answer { Gives (λ parts. (items_of parts.0, items_of parts.1)) result
+        (optional_parts (items_of value.entry)) }
 {
     match value {
         CowSlice::Borrowed(bytes) => {

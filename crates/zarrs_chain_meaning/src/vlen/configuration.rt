@@ -1,5 +1,4 @@
-//! The configuration of `vlen`, read from metadata and made of its keys.
-ghost use Rattle.zarrs_chain_meaning.specs.WrittenMetadata.{WritesVlen};
+//! The configuration of `vlen`, read from metadata.
 ghost use Rattle.std.specs.Prelude.{◌≡◌, IfOk, map};
 ghost use Rattle.zarrs_metadata.specs.MetadataV3.{metadata_seen};
 ghost use Rattle.zarrs_metadata.specs.PluginCreateError.{Makes};
@@ -9,8 +8,7 @@ ghost use Rattle.zarrs_chain_meaning.specs.MadeChain.{read_as_vlen, LessDeep, lo
 use crate::codec_name::is_vlen;
 use std::alloc::Global;
 use zarrs_metadata::{
-    Configuration, MetadataV3, PluginCreateError, VlenCodecConfiguration,
-    VlenCodecConfigurationV0_1, VlenIndexDataType, VlenIndexLocation,
+    MetadataV3, PluginCreateError, VlenCodecConfiguration, VlenIndexDataType, VlenIndexLocation,
 };
 
 /// The configuration of a metadata of `vlen`. Errors: those of `vlen_configuration`.
@@ -81,23 +79,4 @@ pub fn index_location(configuration: &VlenCodecConfiguration) -> VlenIndexLocati
         VlenCodecConfiguration::V0(_) => VlenIndexLocation::Start,
         VlenCodecConfiguration::V0_1(configuration) => configuration.index_location,
     }
-}
-
-/// The configuration of `vlen` by its four keys. Errors: `OutOfMemory`.
-pub fn vlen_members(
-    alloc: Global,
-    index_codecs: Vec<MetadataV3>,
-    data_codecs: Vec<MetadataV3>,
-    index_data_type: VlenIndexDataType,
-    index_location: VlenIndexLocation,
-) -> Result<Configuration, PluginCreateError>
-    ensures answer { WritesVlen index_codecs data_codecs index_data_type index_location result }
-{
-    let configuration = VlenCodecConfiguration::V0_1(VlenCodecConfigurationV0_1 {
-        index_codecs,
-        data_codecs,
-        index_data_type,
-        index_location,
-    });
-    configuration.to_configuration(alloc)
 }

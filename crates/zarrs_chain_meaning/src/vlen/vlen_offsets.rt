@@ -3,11 +3,12 @@
 //! They are made in blocks, since each append to a vector costs as much as the copy of some dozen
 //! bytes.
 ghost use Rattle.std.specs.Prelude.{◌≡◌, ◌*◌, ◌-◌, ◌^◌, ◌<◌, ◌≤◌, All, IfOk, Ok, false, true, length};
-ghost use Rattle.zarrs_chunk.specs.Answer.{GivesItems, GivesValue, Appends};
+ghost use Rattle.zarrs_chunk.specs.Answer.{GivesBy, GivesItems, GivesValue, Appends};
 ghost use Rattle.zarrs_array_bytes.specs.Offsets.{is_offsets};
+ghost use Rattle.zarrs_array_bytes.specs.Validity.{Holds};
 ghost use Rattle.zarrs_chain_meaning.specs.vlen.VlenSettings.{is_wide};
 ghost use Rattle.zarrs_chain_meaning.specs.vlen.Vlen.{offset_of, offset_bytes, offset_type as offset_type_of};
-ghost use Rattle.zarrs_chain_meaning.specs.vlen.VlenSteps.{bytes_from, written_offsets, GivesIndex, read_offsets};
+ghost use Rattle.zarrs_chain_meaning.specs.vlen.VlenSteps.{bytes_from, written_offsets, index_elements as index_elements_of, read_offsets};
 
 use std::alloc::{AllocError, Global};
 use std::borrow::CowSlice;
@@ -156,7 +157,9 @@ pub fn index_elements<'a>(
     data_type: VlenIndexDataType,
 ) -> Result<ArrayBytes<'a>, CodecError>
     requires rising { is_offsets offsets.now ≡ true }
-    ensures exact { GivesIndex (is_wide data_type) offsets.now result }
+    // Wide: the offsets' type and the offsets, for the container and its elements.
+    ensures exact { GivesBy (Holds (offset_type_of (is_wide data_type))) result
+        (index_elements_of (is_wide data_type) offsets.now) }
 {
     let items = offset_items(alloc, offsets, data_type)?;
     Ok(ArrayBytes::new_flen(CowSlice::Owned(items)))

@@ -1,15 +1,16 @@
 //! The parts of a value of the codec `vlen`: the length of its index, the index and the data.
-ghost use Rattle.std.specs.Prelude.{◌≡◌, ◌++◌, ◌+◌, ◌≤◌, IfOk, false, true, length, take, drop};
-ghost use Rattle.zarrs_chunk.specs.Answer.{is_fault, seen, GivesItems};
+ghost use Rattle.std.specs.Prelude.{◌≡◌, ◌++◌, ◌+◌, ◌≤◌, nat_le, IfOk, false, true, length, take, drop};
+ghost use Rattle.zarrs_chunk.specs.Answer.{demand, is_fault, seen, GivesItems};
+ghost use Rattle.zarrs_chunk.specs.declared.codec_error.CodecError.TheVariants.{IndexLength};
 ghost use Rattle.zarrs_array_bytes.specs.Held.{items_of};
 ghost use Rattle.zarrs_array_bytes.specs.Offsets.{last_of};
 ghost use Rattle.zarrs_array_bytes.specs.Parts.{raw_and_offsets, variable_part};
 ghost use Rattle.zarrs_chain_meaning.specs.BytesStages.{in_memory};
-ghost use Rattle.zarrs_chain_meaning.specs.vlen.Vlen.{vlen_parts, joined_vlen};
-ghost use Rattle.zarrs_chain_meaning.specs.Parts.{length_bytes};
+ghost use Rattle.zarrs_chain_meaning.specs.vlen.Vlen.{arranged, vlen_parts};
+ghost use Rattle.zarrs_chain_meaning.specs.Parts.{length_bytes, length_of};
 ghost use Rattle.zarrs_chain_meaning.specs.optional.OptionalParts.{both_lent};
 ghost use Rattle.zarrs_chain_meaning.specs.vlen.VlenSettings.{is_at_end};
-ghost use Rattle.zarrs_chain_meaning.specs.vlen.VlenSteps.{index_length, data_part as data_part_of};
+ghost use Rattle.zarrs_chain_meaning.specs.vlen.VlenSteps.{data_part as data_part_of};
 
 use crate::vlen::length_fields::read_length;
 use std::alloc::Global;
@@ -24,7 +25,9 @@ const LENGTH_SIZE: usize = 8;
 /// How many bytes the index has, of the bytes that spell it and how many others there are.
 fn index_size(head: &[u8], others: usize) -> Result<usize, CodecError>
     requires len { length head.now ≡ 8 }
-    ensures answer { result ≡ index_length head.now others }
+    // Wide: the test, its error and the answer.
+    ensures answer { result ≡ seen (λ _. length_of head.now)
+        (demand (nat_le (length_of head.now) others) IndexLength) }
 {
     let size = read_length(head);
     if (others as u64) < size {
@@ -159,7 +162,9 @@ pub fn join(
     content: &[u8],
     location: VlenIndexLocation,
 ) -> Result<Vec<u8>, CodecError>
-    ensures answer { GivesItems result (joined_vlen (is_at_end location) index.now content.now) }
+    // Wide: the three parts, and where they stand.
+    ensures answer { GivesItems result (in_memory (arranged (is_at_end location)
+        (length_bytes index.now) index.now content.now)) }
 {
     let head = (index.len() as u64).to_le_bytes();
     match location {

@@ -1,6 +1,6 @@
 -- What a partial decoder of `vlen` is made of, and what it reads of a chunk.
 use Rattle.std.specs.Prelude.{◌≡◌, ℕ, ◌&&◌, Bool, true, Option, is_some, IfOk, List, Result, Ok, false, Some, None, map, Err, IfErr}
-use Rattle.zarrs_chunk.specs.Answer.{◌>>=◌, AnswersBy, GivesValue, is_fault, memory, memory_or_fault, seen}
+use Rattle.zarrs_chunk.specs.Answer.{◌>>=◌, AnswersBy, is_fault, memory, memory_or_fault, seen}
 use Rattle.zarrs_chunk.specs.Selection.{Selection, places_of, bounds_of}
 use Rattle.zarrs_chunk.specs.declared.codec_error.CodecError.{CodecError}
 use Rattle.zarrs_data_type.specs.Element.{Chunk, fill_element}
@@ -16,11 +16,8 @@ use Rattle.zarrs_codec_chain.specs.declared.vlen.vlen_partial_decoder.VlenPartia
 use Rattle.zarrs_array_bytes.specs.Elements.{select}
 use Rattle.zarrs_array_bytes.specs.Held.{Held}
 use Rattle.zarrs_array_bytes.specs.Validity.{Holds}
-use Rattle.zarrs_chain_meaning.specs.CodecMeaning.{codec_representation, CodecStands}
+use Rattle.zarrs_chain_meaning.specs.CodecMeaning.{CodecStands}
 use Rattle.zarrs_codec.specs.CodersOverHandles.{OnlyReads}
-use Rattle.zarrs_codec.specs.Refused.{outcome}
-use Rattle.zarrs_codec.specs.declared.refused.Refused.{Refused}
-use Rattle.zarrs_chain.specs.declared.vlen.vlen_codec.VlenCodec.{VlenCodec}
 
 -- the chunk that is read: through which array-to-bytes codec, its sizes, its type and its fill value
 pub record CodecForm (B : Type 0) : Type 0 where
@@ -30,8 +27,8 @@ pub record CodecForm (B : Type 0) : Type 0 where
   pub fill : List ℕ
 
 -- the chunk that a decoder reads
-abbrev pub vlen_form_of : {H B : Type 0} {h : _} {b : _} → VlenPartialDecoder H B h b → CodecForm B
-vlen_form_of decoder =
+abbrev pub vlen_form : {H B : Type 0} {h : _} {b : _} → VlenPartialDecoder H B h b → CodecForm B
+vlen_form decoder =
     record { codec = plain_vlen decoder.codec.now; sizes = decoder.shape; type = decoder.data_type; fill = decoder.fill_value }
 
 -- the handle that it reads
@@ -78,35 +75,6 @@ codec_reader f form sure stored in_part = record {
 
 -- ---- what calls give
 
--- A decoder of the chunk of these sizes, this type and this fill value is made where the codec takes such chunks; else the first error is answered.
-abbrev pub VlenDecoderMade : {H B : Type 0} {h : _} {b : _} → VlenCodec B → List ℕ → ElementType → List ℕ → Result (VlenPartialDecoder H B h b) (Refused H) → Type 0
-VlenDecoderMade {b = b} codec sizes type fill result =
-    GivesValue (outcome result) (seen (λ _. tt) (codec_representation b.functions (plain_vlen codec) sizes type fill))
-
--- one that is made is a decoder of that chunk
-abbrev pub VlenHasForm : {H B : Type 0} {h : _} {b : _} → VlenCodec B → List ℕ → ElementType → List ℕ → Result (VlenPartialDecoder H B h b) (Refused H) → Type 0
-VlenHasForm codec sizes type fill result =
-    IfOk result (λ decoder. vlen_form_of decoder ≡ record { codec = plain_vlen codec; sizes = sizes; type = type; fill = fill })
-
--- its codec decodes a part
-abbrev pub vlen_decodes_in_part : {H B : Type 0} {h : _} {b : _} → VlenPartialDecoder H B h b → Bool
-vlen_decodes_in_part decoder = (codec_reads (vlen_form_of decoder).codec).partial_decode
-
--- the elements that a selection selects are read of what the handle keeps, or the first error
-abbrev pub VlenReads : {H B : Type 0} {h : _} {b : _} → (H → StorageState) → BytesCodecs B → VlenPartialDecoder H B h b → Selection → Result Held CodecError → Type 0
-VlenReads state f decoder selection result =
-    AnswersBy memory_or_fault (Holds (vlen_form_of decoder).type) result (codec_stored_read f (vlen_form_of decoder) (state (vlen_handle_of decoder)).value selection)
-
--- where the selection is rejected, this is what is answered, or a lack of memory
-abbrev pub VlenRefusedAtSelection : {H B : Type 0} {h : _} {b : _} → VlenPartialDecoder H B h b → Selection → Result Held CodecError → Type 0
-VlenRefusedAtSelection decoder selection result =
-    IfErr (bounds_of selection (vlen_form_of decoder).sizes) (λ cause. AnswersBy memory (Holds (vlen_form_of decoder).type) result (Err cause))
-
--- no failure of the handle comes where the bytes are sure that a read in part rests on
-abbrev pub SureVlen : {H B : Type 0} {h : _} {b : _} → (H → StorageState) → VlenPartialDecoder H B h b → Selection → Result Held CodecError → Type 0
-SureVlen state decoder selection result =
-    CodecWhereSure (vlen_form_of decoder) (state (vlen_handle_of decoder)) selection (is_fault result ≡ false)
-
 -- What a read gives: the elements at the selected places, of the chunk that the stored value stands for, or of fill elements where nothing is stored; or the first error. Only a lack of memory or a failure of the handle may come in its place, a failure behind the errors of the selection, and never where the codec is plain and the bytes are sure that the answer rests on.
 pub record ReadsVlen {B : Type 0} (f : BytesCodecs B) (form : CodecForm B) (before : StorageState) (selection : Selection) (result : Result Held CodecError) : Type 0 where
   pub selected : (value : List ℕ) (chunk : Chunk) → before.value ≡ Some value → CodecStands f form.codec form.sizes form.type form.fill value chunk
@@ -117,11 +85,7 @@ pub record ReadsVlen {B : Type 0} (f : BytesCodecs B) (form : CodecForm B) (befo
   pub indexer_first : IfErr (bounds_of selection form.sizes) (λ cause. AnswersBy memory (Holds form.type) result (Err cause))
   pub sure : CodecWhereSure form before selection (is_fault result ≡ false)
 
--- that of a decoder
-abbrev pub VlenGives : {H B : Type 0} {h : _} {b : _} → (H → StorageState) → BytesCodecs B → VlenPartialDecoder H B h b → Selection → Result Held CodecError → Type 0
-VlenGives state f decoder selection result = ReadsVlen f (vlen_form_of decoder) (state (vlen_handle_of decoder)) selection result
-
 -- that a reading call of a decoder changes nothing (`state` says what a handle keeps)
 abbrev pub VlenLeaves : {H B T L : Type 0} {h : _} {b : _} → (H → StorageState) → (H → L) → VlenPartialDecoder H B h b → VlenPartialDecoder H B h b → Result T CodecError → Type 0
 VlenLeaves state lent before after result =
-    OnlyReads (λ decoder. state (vlen_handle_of decoder)) (λ decoder. lent (vlen_handle_of decoder)) vlen_form_of before after result
+    OnlyReads (λ decoder. state (vlen_handle_of decoder)) (λ decoder. lent (vlen_handle_of decoder)) vlen_form before after result

@@ -1,19 +1,16 @@
 -- Reading runs of places through a `vlen` codec: what the calls for that ask and give.
 use Rattle.std.specs.Prelude.{◌≡◌, ℕ, Option, option_map, List, Vec, Result, true, false}
 use Rattle.std.proofs.Common.{Global}
-use Rattle.zarrs_chunk.specs.Answer.{AnswersBy, Gives, GivesBy, GivesValue, is_fault, memory_or_fault, seen}
-use Rattle.zarrs_chunk.specs.ChunkShape.{product}
+use Rattle.zarrs_chunk.specs.Answer.{AnswersBy, GivesBy, GivesValue, is_fault, memory_or_fault, seen}
 use Rattle.zarrs_chunk.specs.Runs.{joined_runs}
 use Rattle.zarrs_chunk.specs.declared.codec_error.CodecError.{CodecError}
 use Rattle.zarrs_data_type.specs.ElementType.{ElementType}
 use Rattle.zarrs_data_type.specs.Form.{form_of}
-use Rattle.zarrs_array_bytes.specs.Elements.{elements}
 use Rattle.zarrs_array_bytes.specs.Held.{Held}
 use Rattle.zarrs_array_bytes.specs.Validity.{Holds}
 use Rattle.zarrs_codec.specs.BytesToBytesCodec.{BytesCodecs}
 use Rattle.zarrs_codec.specs.StorageState.{StorageState, are_sure}
 use Rattle.zarrs_chain_meaning.specs.CallAnswers.{codec_represented}
-use Rattle.zarrs_chain_meaning.specs.Chain.{codec_reads}
 use Rattle.zarrs_chain_meaning.specs.CodecMeaning.{codec_chunk}
 use Rattle.zarrs_chain_meaning.specs.vlen.PlainVlen.{plain_form}
 use Rattle.zarrs_chain_meaning.specs.declared.vlen.plain_vlen.PlainVlen.{PlainVlen}
@@ -21,7 +18,7 @@ use Rattle.zarrs_chain.specs.ChainView.{plain_vlen}
 use Rattle.zarrs_chain.specs.declared.vlen.vlen_codec.VlenCodec.{VlenCodec}
 use Rattle.zarrs_plain_vlen.specs.PlainRead.{plain_read}
 use Rattle.zarrs_plain_vlen.specs.VlenRead.{stored_rests_on}
-use Rattle.zarrs_codec_chain.specs.ChunkRead.{ReadsRuns, SureRuns, TakenBy}
+use Rattle.zarrs_codec_chain.specs.ChunkRead.{TakenBy}
 use Rattle.zarrs_codec_chain.specs.PartRead.{whole_read}
 
 -- ---- which chunks the codec takes
@@ -36,11 +33,6 @@ GivesForm f codec sizes type fill result =
     GivesValue result (seen (λ _. (sizes, type, fill)) (codec_represented f (plain_vlen codec) (form_of sizes type fill)))
 
 -- ---- by the whole value
-
--- the elements of the chunk that a value stands for, or the first error
-abbrev pub GivesVlen : {B : Type 0} → BytesCodecs B → VlenCodec B → Vec ℕ Global → List ℕ → ElementType → List ℕ → Result Held CodecError → Type 0
-GivesVlen f codec value sizes type fill result =
-    Gives (elements type (product sizes)) result (codec_chunk f (plain_vlen codec) sizes type fill value.items)
 
 -- a container of those at the places of these runs; of fill elements, where there is no value
 abbrev pub Picks : {B : Type 0} → BytesCodecs B → VlenCodec B → Option (Vec ℕ Global) → List ℕ → ElementType → List ℕ → List (ℕ × ℕ) → Result Held CodecError → Type 0
@@ -59,23 +51,9 @@ abbrev pub ReadsPlain : {H : Type 0} → (H → StorageState) → PlainVlen → 
 ReadsPlain state codec before count type fill runs result =
     AnswersBy memory_or_fault (Holds type) result (plain_read (plain_form codec) count type fill (state before).value (joined_runs runs))
 
--- the same of a chunk of these sizes
-abbrev pub Fetches : {H : Type 0} → (H → StorageState) → PlainVlen → H → List ℕ → ElementType → List ℕ → List (ℕ × ℕ) → Result Held CodecError → Type 0
-Fetches state codec before sizes type fill runs result = ReadsPlain state codec before (product sizes) type fill runs result
-
 -- no failure of the handle comes where the bytes are sure that such a read rests on
 abbrev pub SurePlain : {H T : Type 0} → (H → StorageState) → PlainVlen → H → ℕ → List (ℕ × ℕ) → Result T CodecError → Type 0
 SurePlain state codec before count runs result =
     are_sure (state before).sure (stored_rests_on (plain_form codec) count (state before).value (joined_runs runs)) ≡ true → is_fault result ≡ false
 
 -- ---- either way
-
--- a container of the elements at the places of these runs, of what a handle keeps, or the first error
-abbrev pub ReadsVlenRuns : {H B : Type 0} → (H → StorageState) → BytesCodecs B → VlenCodec B → H → List ℕ → ElementType → List ℕ → List (ℕ × ℕ) → Result Held CodecError → Type 0
-ReadsVlenRuns state f codec before sizes type fill runs result =
-    ReadsRuns f (plain_vlen codec) (form_of sizes type fill) (state before) runs result
-
--- no failure of the handle comes where the codec reads in part and the bytes are sure that the read rests on
-abbrev pub IsSure : {H B T : Type 0} → (H → StorageState) → VlenCodec B → H → List ℕ → ElementType → List ℕ → List (ℕ × ℕ) → Result T CodecError → Type 0
-IsSure state codec before sizes type fill runs result =
-    (codec_reads (plain_vlen codec)).partial_decode ≡ true → SureRuns (plain_vlen codec) (form_of sizes type fill) (state before) runs result

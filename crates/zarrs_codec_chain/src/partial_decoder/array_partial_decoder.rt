@@ -1,11 +1,14 @@
 ghost use Rattle.zarrs_codec_chain.specs.ChunkCoder.{IsFilledFrom, coder_form, coder_is_cached, reader_source};
 ghost use Rattle.std.specs.Prelude.{◌≡◌, ◌&&◌, Ok, IfOk, is_some, true, false};
 ghost use Rattle.std.proofs.Props.{props};
+ghost use Rattle.zarrs_chunk.specs.Indexer.{selection_of};
 ghost use Rattle.zarrs_array_bytes.specs.Tight.{IsTight};
 ghost use Rattle.zarrs_codec.specs.HandleCalls.{NeverFailsIf, Tells};
 ghost use Rattle.zarrs_chain_meaning.specs.Chain.{chain_reads};
+ghost use Rattle.zarrs_codec_chain.specs.ChunkRead.{PlansRead, decodes_parts, ReadsChunk};
 ghost use Rattle.zarrs_codec_chain.specs.ChunkSource.{source_made};
 ghost use Rattle.zarrs_codec_chain.specs.ElementCode.{Chunk-set};
+ghost use Rattle.zarrs_codec_chain.specs.ChunkCalls.{WholeOnce};
 
 use crate::chunk_coder::ChunkCoder;
 use std::alloc::Global;
@@ -38,7 +41,7 @@ pub struct ArrayPartialDecoder<'a, H: BytesPartialDecoderTraits, B: BytesToBytes
 }
 
 impl<'a, H: BytesPartialDecoderTraits, B: BytesToBytesCodecTraits> ArrayPartialDecoder<'a, H, B> {
-    ghost use Rattle.zarrs_codec_chain.specs.PartialDecoder.{decoder_held, form_of, handle_of, is_cached, DecoderAsksOnce, DecoderLeaves, DecoderLeavesAlone, DecoderPlans, DecoderReads, KeepsCache, decoder_reads_parts};
+    ghost use Rattle.zarrs_codec_chain.specs.PartialDecoder.{decoder_held, form_of, handle_of, is_cached, DecoderLeaves, DecoderLeavesAlone, KeepsCache};
 
     /// The type of the elements.
     pub fn data_type(&self) -> &DataType
@@ -74,11 +77,15 @@ impl<'a, H: BytesPartialDecoderTraits, B: BytesToBytesCodecTraits> ArrayPartialD
         alloc: Global,
         indexer: &Indexer,
     ) -> Result<ArrayBytes<'static>, CodecError>
-        ensures reads { DecoderReads H.state self.old indexer.now result }
+        // Wide: no other clause says this, so it is written out.
+        ensures reads { ReadsChunk B.functions (form_of self.old) (H.state (handle_of self.old))
+            (selection_of indexer.now) result }
         ensures tight { IfOk result (IsTight (form_of self.old).type) }
         ensures no_fault_if_cached { NeverFailsIf (is_cached self.old) result }
         ensures alone { DecoderLeavesAlone self.old self.new }
-        ensures counted { DecoderAsksOnce H.calls self.old self.new result }
+        // Wide: no other clause says this, so it is written out.
+        ensures counted { is_cached self.old ≡ false → WholeOnce H.calls (form_of self.old).chain
+            (handle_of self.old) (handle_of self.new) result }
         ensures left { DecoderLeaves H.state H.lent self.old self.new result }
     {
         self.coder.read_chunk(alloc, &mut self.handle, indexer)
@@ -117,7 +124,7 @@ impl<'a, H: BytesPartialDecoderTraits, B: BytesToBytesCodecTraits> ArrayPartialD
         alloc: Global,
         indexer: &Indexer,
     ) -> Result<Option<Vec<ByteRange>>, CodecError>
-        ensures plan { DecoderPlans self.now indexer.now result }
+        ensures plan { PlansRead B.functions (form_of self.now) (selection_of indexer.now) result }
     {
         self.coder.planned_ranges(alloc, indexer)
     }
@@ -125,7 +132,8 @@ impl<'a, H: BytesPartialDecoderTraits, B: BytesToBytesCodecTraits> ArrayPartialD
     /// Whether a part is read without the rest: where all codecs of the chain decode a part, and the
     /// handle reads ranges by themselves.
     pub fn supports_partial_decode(&self) -> bool
-        ensures value { result ≡ decoder_reads_parts B.reads_in_part self.now && H.reads_ranges }
+        ensures value { result ≡ decodes_parts B.reads_in_part (form_of self.now)
+            && H.reads_ranges }
     {
         self.coder.decodes_parts() && self.handle.supports_partial_decode()
     }

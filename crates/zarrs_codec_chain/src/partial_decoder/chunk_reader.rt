@@ -2,13 +2,17 @@
 ghost use Rattle.std.specs.Prelude.{◌≡◌, ◌<◌, ◌^◌, All, Ok, IfOk, IfSome, option_map, length, is_some, true};
 ghost use Rattle.zarrs_chunk.specs.Answer.{Gives, GivesItems};
 ghost use Rattle.zarrs_chunk.specs.ChunkShape.{product};
+ghost use Rattle.zarrs_chunk.specs.Indexer.{selection_of};
+ghost use Rattle.zarrs_chunk.specs.Selection.{subset as subset_of};
 ghost use Rattle.zarrs_chunk.specs.Runs.{joined_runs, AreApart, places_in};
 ghost use Rattle.zarrs_chunk.specs.Tuples.{is_box_inside};
 ghost use Rattle.zarrs_array_bytes.specs.Tight.{IsTight};
 ghost use Rattle.zarrs_codec.specs.HandleCalls.{NeverFailsIf, Tells};
 ghost use Rattle.zarrs_codec.specs.StorageState.{after_reading};
-ghost use Rattle.zarrs_codec_chain.specs.ChunkRead.{form_decodes_parts};
-ghost use Rattle.zarrs_codec_chain.specs.ChunkSource.{held_by, is_kept};
+ghost use Rattle.zarrs_codec_chain.specs.ChunkRead.{decodes_parts, ReadsChunk};
+ghost use Rattle.zarrs_codec_chain.specs.ChunkSource.{held_by, is_kept, is_there};
+ghost use Rattle.zarrs_array_regions.specs.KeptRegions.{kept_region as kept_region_of};
+ghost use Rattle.zarrs_chain.specs.ChainView.{plain_chain};
 
 use crate::chunk_coder::ChunkCoder;
 use crate::partial_decoder::cache::Cache;
@@ -23,11 +27,11 @@ use zarrs_chunk::{ArraySubset, CodecError, Indexer};
 use zarrs_codec::{BytesPartialDecoderTraits, BytesToBytesCodecTraits, CodecTraits};
 
 impl<'a, B: BytesToBytesCodecTraits> ChunkCoder<'a, B> {
-    ghost use Rattle.zarrs_codec_chain.specs.ChunkCoder.{IsFilledFrom, coder_form, coder_is_cached, IsKeptRegion, reader_region, AreInside, AsksOnce, LeavesAlone, ReaderReads, ReadsIndexer, ReadsRegion, RefusedAtIndexer, SureIndexer, SureRegion, IsInPlace, coder_keeps_regions, reader_places, reader_stores};
+    ghost use Rattle.zarrs_codec_chain.specs.ChunkCoder.{IsFilledFrom, coder_form, coder_is_cached, IsKeptRegion, AreInside, AsksOnce, LeavesAlone, ReadsSelected, RefusedAtIndexer, SureSelected, IsInPlace, coder_keeps_regions, reader_places, reader_source};
 
     /// Whether all codecs of the chain decode a part.
     pub(crate) fn decodes_parts(&self) -> bool
-        ensures value { result ≡ form_decodes_parts B.reads_in_part (coder_form self.now) }
+        ensures value { result ≡ decodes_parts B.reads_in_part (coder_form self.now) }
     {
         self.chain.partial_decoder_capability().partial_decode
     }
@@ -70,7 +74,9 @@ impl<'a, B: BytesToBytesCodecTraits> ChunkCoder<'a, B> {
 
     /// The box that the indexer selects, where it goes through the array-to-array codecs as a box.
     pub(crate) fn kept_region<'i>(&self, indexer: &'i Indexer) -> Option<&'i ArraySubset>
-        ensures region { option_map (λ box. box.now) result ≡ reader_region self.now indexer.now }
+        // Wide: no other clause says this, so it is written out.
+        ensures region { option_map (λ box. box.now) result ≡ kept_region_of (plain_chain
+            self.now.chain.now).array_to_array self.now.shape (selection_of indexer.now) }
         ensures region_kept { IfSome result (λ box. IsKeptRegion self.now indexer.now box.now) }
     {
         kept_region(self.chain.array_to_array_codecs(), &self.shape, indexer)
@@ -90,9 +96,9 @@ impl<'a, B: BytesToBytesCodecTraits> ChunkCoder<'a, B> {
         requires inside { is_box_inside self.now.shape region.now.starts region.now.lengths ≡ true }
         requires filled { 0 < product region.now.lengths }
         requires region_kept { coder_keeps_regions self.now ≡ true }
-        ensures answer { ReadsRegion B.functions self.now (H.state handle.old) region.now result }
+        ensures answer { ReadsSelected self.now (H.state handle.old) (subset_of region.now) result }
         ensures tight { IfOk result (IsTight self.now.data_type) }
-        ensures sure { SureRegion B.functions self.now (H.state handle.old) region.now result }
+        ensures sure { SureSelected self.now (H.state handle.old) (subset_of region.now) result }
         ensures alone { LeavesAlone self.now handle.old handle.new }
         ensures counted { AsksOnce H.calls self.now handle.old handle.new result }
         ensures left { H.state handle.new ≡ after_reading result (H.state handle.old) }
@@ -138,10 +144,12 @@ impl<'a, B: BytesToBytesCodecTraits> ChunkCoder<'a, B> {
     ) -> Result<ArrayBytes<'static>, CodecError>
         requires writes_in_place { IsInPlace self.now codec.now }
         requires uncached { self.now.cache ≡ Cache.Handle }
-        ensures answer { ReadsIndexer B.functions self.now (H.state handle.old) indexer.now result }
+        ensures answer { ReadsSelected self.now (H.state handle.old)
+            (selection_of indexer.now) result }
         ensures tight { IfOk result (IsTight self.now.data_type) }
         ensures indexer_first { RefusedAtIndexer self.now indexer.now result }
-        ensures sure { SureIndexer B.functions self.now (H.state handle.old) indexer.now result }
+        ensures sure { SureSelected self.now (H.state handle.old)
+            (selection_of indexer.now) result }
         ensures counted { AsksOnce H.calls self.now handle.old handle.new result }
         ensures left { H.state handle.new ≡ after_reading result (H.state handle.old) }
         ensures same_reference { H.lent handle.new ≡ H.lent handle.old }
@@ -160,10 +168,12 @@ impl<'a, B: BytesToBytesCodecTraits> ChunkCoder<'a, B> {
         handle: &mut H,
         indexer: &Indexer,
     ) -> Result<ArrayBytes<'static>, CodecError>
-        ensures answer { ReadsIndexer B.functions self.now (H.state handle.old) indexer.now result }
+        ensures answer { ReadsSelected self.now (H.state handle.old)
+            (selection_of indexer.now) result }
         ensures tight { IfOk result (IsTight self.now.data_type) }
         ensures indexer_first { RefusedAtIndexer self.now indexer.now result }
-        ensures sure { SureIndexer B.functions self.now (H.state handle.old) indexer.now result }
+        ensures sure { SureSelected self.now (H.state handle.old)
+            (selection_of indexer.now) result }
         ensures alone { LeavesAlone self.now handle.old handle.new }
         ensures counted { AsksOnce H.calls self.now handle.old handle.new result }
         ensures left { H.state handle.new ≡ after_reading result (H.state handle.old) }
@@ -190,7 +200,9 @@ impl<'a, B: BytesToBytesCodecTraits> ChunkCoder<'a, B> {
         indexer: &Indexer,
     ) -> Result<ArrayBytes<'static>, CodecError>
         requires cache_filled { IsFilledFrom B.functions self.now (H.state handle.old).value }
-        ensures reads { ReaderReads B.functions self.now (H.state handle.old) indexer.now result }
+        // Wide: no other clause says this, so it is written out.
+        ensures reads { ReadsChunk B.functions (coder_form self.now) (H.state handle.old)
+            (selection_of indexer.now) result }
         ensures tight { IfOk result (IsTight self.now.data_type) }
         ensures no_fault_if_cached { NeverFailsIf (coder_is_cached self.now) result }
         ensures alone { LeavesAlone self.now handle.old handle.new }
@@ -207,7 +219,8 @@ impl<'a, B: BytesToBytesCodecTraits> ChunkCoder<'a, B> {
         &self,
         handle: &mut H,
     ) -> Result<bool, CodecError>
-        ensures answer { Tells result (reader_stores self.now (H.state handle.old).value) }
+        ensures answer { Tells result
+            (is_there (reader_source self.now (H.state handle.old).value)) }
         ensures sure { NeverFailsIf (is_some (H.state handle.old).sure) result }
         ensures alone { LeavesAlone self.now handle.old handle.new }
         ensures left { H.state handle.new ≡ after_reading result (H.state handle.old) }

@@ -1,15 +1,17 @@
 //! Reading runs of places through an array-to-bytes codec, of a handle or of bytes in memory.
 ghost use Rattle.zarrs_data_type.specs.Form.{form_of};
-ghost use Rattle.std.specs.Prelude.{◌≡◌, ◌<◌, ◌≤◌, ◌+◌, ◌^◌, IfOk, All, length, option_map, true};
+ghost use Rattle.std.specs.Prelude.{◌≡◌, ◌<◌, ◌≤◌, ◌+◌, ◌^◌, [], IfOk, All, length, option_map, true};
+ghost use Rattle.zarrs_chunk.specs.Answer.{GivesBy, no_refusal};
 ghost use Rattle.zarrs_chunk.specs.ChunkShape.{product};
 ghost use Rattle.zarrs_chunk.specs.Runs.{joined_runs, AreApart};
 ghost use Rattle.zarrs_array_bytes.specs.Tight.{IsTight};
+ghost use Rattle.zarrs_array_bytes.specs.Validity.{Holds};
 ghost use Rattle.zarrs_codec.specs.StorageState.{after_reading};
 ghost use Rattle.zarrs_chain_meaning.specs.Chain.{codec_reads as codec_reads_of};
 ghost use Rattle.zarrs_chain.specs.ChainView.{plain_chain, plain_codec};
-ghost use Rattle.zarrs_codec_chain.specs.ChunkRead.{ReadsRuns, GivesRuns, chain_in_place};
-ghost use Rattle.zarrs_codec_chain.specs.CodecPart.{codec_plans};
-ghost use Rattle.zarrs_codec_chain.specs.CodecRead.{Takes, PlansRuns, codec_order, SureRead};
+ghost use Rattle.zarrs_codec_chain.specs.ChunkRead.{ReadsRuns, SureRuns};
+ghost use Rattle.zarrs_codec_chain.specs.CodecPart.{codec_plans, codec_read, order_in_place, IsCodecPlan};
+ghost use Rattle.zarrs_codec_chain.specs.CodecRead.{Takes};
 
 use crate::vlen::vlen_runs::vlen_runs;
 use std::alloc::Global;
@@ -43,7 +45,9 @@ pub(crate) fn read_runs<H: BytesPartialDecoderTraits, B: BytesToBytesCodecTraits
     ensures answer { ReadsRuns B.functions (plain_codec codec.now)
         (form_of shape.now kind.now fill.now) (H.state handle.old) runs.now result }
     ensures tight { IfOk result (IsTight kind.now) }
-    ensures sure { SureRead codec.now shape.now kind.now fill.now (H.state handle.old) runs.now result }
+    // Wide: no other clause says this, so it is written out.
+    ensures sure { SureRuns (plain_codec codec.now) (form_of shape.now kind.now fill.now)
+        (H.state handle.old) runs.now result }
     ensures left { H.state handle.new ≡ after_reading result (H.state handle.old) }
     ensures same_reference { H.lent handle.new ≡ H.lent handle.old }
 {
@@ -55,7 +59,7 @@ pub(crate) fn read_runs<H: BytesPartialDecoderTraits, B: BytesToBytesCodecTraits
         ArrayToBytesCodec::Vlen(codec) => {
             vlen_runs(alloc, codec, handle, shape, kind, fill, runs)
         }
-        ArrayToBytesCodec::Optional(_) => unreachable!(),
+        ArrayToBytesCodec::VlenV2(_) | ArrayToBytesCodec::Optional(_) => unreachable!(),
     }
 }
 
@@ -65,23 +69,22 @@ pub(crate) fn read_runs_of_bytes<B: BytesToBytesCodecTraits>(
     codec: &ArrayToBytesCodec<B>,
     bytes: Option<&[u8]>,
     shape: &ChunkShape,
-    data_type: &DataType,
-    fill_value: &FillValue,
+    kind: &DataType,
+    fill: &FillValue,
     runs: &[(u64, u64)],
 ) -> Result<ArrayBytes<'static>, CodecError>
-    requires taken { Takes B.functions codec.now shape.now data_type.now fill_value.now }
+    requires taken { Takes B.functions codec.now shape.now kind.now fill.now }
     requires in_part { (codec_reads_of (plain_codec codec.now)).partial_decode ≡ true }
     requires filled { All (λ run. 0 < run.1) runs.now }
     requires below { All (λ run. run.0 + run.1 ≤ product shape.now) runs.now }
     requires count { length (joined_runs runs.now) < 2 ^ 64 }
     // Wide: three parameters of a form, beside the codec, the bytes and the runs.
-    ensures answer { GivesRuns B.functions (plain_codec codec.now)
-        (form_of shape.now data_type.now fill_value.now)
-        (option_map (λ items. items.now) bytes.entry) runs.now result }
-    ensures tight { IfOk result (IsTight data_type.now) }
+    ensures answer { GivesBy (Holds kind.now) result (codec_read B.functions (plain_codec codec.now)
+        shape.now kind.now fill.now (option_map (λ v. v.now) bytes.entry) (joined_runs runs.now)) }
+    ensures tight { IfOk result (IsTight kind.now) }
 {
     let mut lent = LentHandle::new(bytes);
-    read_runs::<LentHandle<'_>, B>(alloc, codec, &mut lent, shape, data_type, fill_value, runs)
+    read_runs::<LentHandle<'_>, B>(alloc, codec, &mut lent, shape, kind, fill, runs)
 }
 
 /// Whether the bytes of a place are known before anything is read: they are over `bytes` and
@@ -92,18 +95,21 @@ pub(crate) fn plans_reads<B>(codec: &ArrayToBytesCodec<B>) -> bool
 {
     match codec {
         ArrayToBytesCodec::Bytes(_) | ArrayToBytesCodec::PackBits(_) => true,
-        ArrayToBytesCodec::Vlen(_) | ArrayToBytesCodec::Optional(_) => false,
+        ArrayToBytesCodec::VlenV2(_)
+        | ArrayToBytesCodec::Vlen(_)
+        | ArrayToBytesCodec::Optional(_) => false,
     }
 }
 
 /// The codec `bytes`, where this is one.
 #[tactic(auto, unfolding(zarrs_chain::specs::ChainView::plain_codec), using(zarrs_chain::specs::ChainView::plain_vlen_at, zarrs_chain::specs::ChainView::plain_optional_at))]
 fn as_bytes<B>(codec: &ArrayToBytesCodec<B>) -> Option<&BytesCodec>
-    ensures value { option_map (λ v. v.now) result ≡ codec_order codec.now }
+    ensures value { option_map (λ v. v.now) result ≡ order_in_place [] (plain_codec codec.now) }
 {
     match codec {
         ArrayToBytesCodec::Bytes(codec) => Some(codec),
         ArrayToBytesCodec::PackBits(_)
+        | ArrayToBytesCodec::VlenV2(_)
         | ArrayToBytesCodec::Vlen(_)
         | ArrayToBytesCodec::Optional(_) => None,
     }
@@ -111,7 +117,9 @@ fn as_bytes<B>(codec: &ArrayToBytesCodec<B>) -> Option<&BytesCodec>
 
 /// The codec `bytes`, where the chain has no bytes-to-bytes codecs around it.
 pub(crate) fn codec_in_place<B>(chain: &CodecChain<B>) -> Option<&BytesCodec>
-    ensures value { option_map (λ v. v.now) result ≡ chain_in_place (plain_chain chain.now) }
+    // Wide: no other clause says this, so it is written out.
+    ensures value { option_map (λ v. v.now) result ≡ order_in_place
+        (plain_chain chain.now).bytes_to_bytes (plain_chain chain.now).array_to_bytes }
 {
     match chain.bytes_to_bytes_codecs() {
         [] => as_bytes(chain.array_to_bytes_codec()),
@@ -125,23 +133,25 @@ pub(crate) fn planned_runs<B: BytesToBytesCodecTraits>(
     alloc: Global,
     codec: &ArrayToBytesCodec<B>,
     shape: &ChunkShape,
-    data_type: &DataType,
-    fill_value: &FillValue,
+    kind: &DataType,
+    fill: &FillValue,
     runs: &[(u64, u64)],
 ) -> Result<Vec<ByteRange>, CodecError>
-    requires taken { Takes B.functions codec.now shape.now data_type.now fill_value.now }
+    requires taken { Takes B.functions codec.now shape.now kind.now fill.now }
     requires plans { codec_plans (plain_codec codec.now) ≡ true }
     requires filled { All (λ run. 0 < run.1) runs.now }
     requires below { All (λ run. run.0 + run.1 ≤ product shape.now) runs.now }
     requires apart { AreApart runs.now }
-    ensures plan { PlansRuns codec.now shape.now data_type.now fill_value.now runs.now result }
+    // Wide: no other clause says this, so it is written out.
+    ensures plan { GivesBy (λ ranges _. IsCodecPlan (plain_codec codec.now) shape.now kind.now
+        fill.now (joined_runs runs.now) ranges.items) result no_refusal }
     ensures filled { IfOk result (λ ranges. All (λ range. range.start < range.end) ranges.items) }
 {
     match codec {
-        ArrayToBytesCodec::Bytes(codec) => codec.planned_runs(alloc, data_type, fill_value, runs),
-        ArrayToBytesCodec::PackBits(codec) => {
-            codec.planned_runs(alloc, shape, data_type, fill_value, runs)
-        }
-        ArrayToBytesCodec::Vlen(_) | ArrayToBytesCodec::Optional(_) => unreachable!(),
+        ArrayToBytesCodec::Bytes(codec) => codec.planned_runs(alloc, kind, fill, runs),
+        ArrayToBytesCodec::PackBits(codec) => { codec.planned_runs(alloc, shape, kind, fill, runs) }
+        ArrayToBytesCodec::VlenV2(_)
+        | ArrayToBytesCodec::Vlen(_)
+        | ArrayToBytesCodec::Optional(_) => unreachable!(),
     }
 }

@@ -1,13 +1,14 @@
 //! What a partial decoder keeps of the stored value when it is made.
 ghost use Rattle.zarrs_data_type.specs.Form.{form_of};
 ghost use Rattle.std.specs.Prelude.{◌≡◌, ◌≤◌, ℕ, IfOk, Ok, Some, length, map, true, false};
-ghost use Rattle.zarrs_chunk.specs.Answer.{is_fault, GivesItems};
+ghost use Rattle.zarrs_chunk.specs.Answer.{is_fault, GivesBy, GivesItems};
 ghost use Rattle.zarrs_array_bytes.specs.Held.{items_of};
 ghost use Rattle.zarrs_array_bytes.specs.Tight.{IsTight};
+ghost use Rattle.zarrs_array_bytes.specs.Validity.{Holds};
 ghost use Rattle.zarrs_codec.specs.StorageState.{after_reading};
 ghost use Rattle.zarrs_chain_meaning.specs.Chain.{codec_reads as codec_reads_of};
 ghost use Rattle.zarrs_chain.specs.ChainView.{plain_chain};
-ghost use Rattle.zarrs_codec_chain.specs.ChunkSource.{bytes_left, cache_stage as cache_stage_of, has_cache, is_kept, kept_stage, stage_by, is_stage_of, OpensChunk, FillsByReads, FillsCache, GivesCacheOf, OpensBytes};
+ghost use Rattle.zarrs_codec_chain.specs.ChunkSource.{bytes_left, cache_stage as cache_stage_of, has_cache, is_kept, kept_stage, stage_by, is_cache_of, is_stage_of, opened_chunk, upper_bytes, FilledOnce, FillsCache};
 ghost use Rattle.zarrs_codec_chain.specs.CacheTight.{CacheIsTight};
 ghost use Rattle.zarrs_codec_chain.specs.CodecRead.{CodecTakes};
 
@@ -99,13 +100,13 @@ fn bytes_above<B: BytesToBytesCodecTraits>(
     alloc: Global,
     codecs: &[B],
     below: usize,
-    representation: BytesRepresentation,
+    size: BytesRepresentation,
     value: Vec<u8>,
 ) -> Result<Vec<u8>, CodecError>
     requires known { below ≤ length codecs.now }
-    ensures answer { OpensBytes B.functions codecs.now below representation value.items result }
+    ensures answer { GivesItems result (upper_bytes B.functions codecs.now below size value.items) }
 {
-    let above = outer_representation(&codecs[..below], representation);
+    let above = outer_representation(&codecs[..below], size);
     let bytes = decode_bytes(alloc, &codecs[below..], &above, CowSlice::Owned(value))?;
     into_vec(alloc, bytes)
 }
@@ -116,16 +117,16 @@ pub(crate) fn chunk_below<B: BytesToBytesCodecTraits>(
     alloc: Global,
     chain: &CodecChain<B>,
     encoded: &ChunkShape,
-    data_type: &DataType,
-    fill_value: &FillValue,
+    kind: &DataType,
+    fill: &FillValue,
     representation: &BytesRepresentation,
     value: Vec<u8>,
 ) -> Result<ArrayBytes<'static>, CodecError>
-    requires taken { CodecTakes B.functions chain.now encoded.now data_type.now fill_value.now }
+    requires taken { CodecTakes B.functions chain.now encoded.now kind.now fill.now }
     // Wide: three parameters of a form, beside the chain, its representation and the value.
-    ensures answer { OpensChunk B.functions (plain_chain chain.now)
-        (form_of encoded.now data_type.now fill_value.now) representation.now value.items result }
-    ensures tight { IfOk result (IsTight data_type.now) }
+    ensures answer { GivesBy (Holds kind.now) result (opened_chunk B.functions
+        (plain_chain chain.now) encoded.now kind.now fill.now representation.now value.items) }
+    ensures tight { IfOk result (IsTight kind.now) }
 {
     let bytes = decode_bytes(
         alloc,
@@ -138,8 +139,8 @@ pub(crate) fn chunk_below<B: BytesToBytesCodecTraits>(
         chain.array_to_bytes_codec(),
         bytes,
         encoded,
-        data_type,
-        fill_value,
+        kind,
+        fill,
     )
 }
 
@@ -152,21 +153,23 @@ pub(crate) fn make_cache<H: BytesPartialDecoderTraits, B: BytesToBytesCodecTrait
     handle: &mut H,
     stage: CacheStage,
     encoded: &ChunkShape,
-    data_type: &DataType,
-    fill_value: &FillValue,
+    kind: &DataType,
+    fill: &FillValue,
     representation: BytesRepresentation,
 ) -> Result<Cache, CodecError>
-    requires taken { CodecTakes B.functions chain.now encoded.now data_type.now fill_value.now }
+    requires taken { CodecTakes B.functions chain.now encoded.now kind.now fill.now }
     requires stage { is_stage_of (plain_chain chain.now) stage ≡ true }
     // Wide: three parameters of a form, beside the chain, the cache's stage and the handle.
     ensures answer { FillsCache B.functions (plain_chain chain.now) representation stage
-        (form_of encoded.now data_type.now fill_value.now) (H.state handle.old).value result }
-    ensures fits { GivesCacheOf chain.now encoded.now data_type.now result }
-    ensures tight { IfOk result (CacheIsTight data_type.now) }
+        (form_of encoded.now kind.now fill.now) (H.state handle.old).value result }
+    ensures fits { IfOk result
+        (λ cache. is_cache_of chain.now encoded.now kind.now cache ≡ true) }
+    ensures tight { IfOk result (CacheIsTight kind.now) }
     ensures stage { IfOk result (λ cache. kept_stage cache ≡ stage) }
     ensures left { H.state handle.new ≡ after_reading result (H.state handle.old) }
     ensures same_reference { H.lent handle.new ≡ H.lent handle.old }
-    ensures counted { FillsByReads H.calls handle.old handle.new result }
+    ensures counted { IfOk result
+        (λ cache. FilledOnce H.calls (is_kept cache) handle.old handle.new) }
     ensures cached { IfOk result (λ cache. is_kept cache ≡ has_cache stage) }
     ensures no_fault_if_uncached { stage ≡ CacheStage.Nowhere → is_fault result ≡ false }
 {
@@ -183,15 +186,7 @@ pub(crate) fn make_cache<H: BytesPartialDecoderTraits, B: BytesToBytesCodecTrait
         CacheStage::Chunk => match handle.decode(alloc)? {
             None => Ok(Cache::Chunk(None)),
             Some(value) => {
-                let held = chunk_below(
-                    alloc,
-                    chain,
-                    encoded,
-                    data_type,
-                    fill_value,
-                    &representation,
-                    value,
-                )?;
+                let held = chunk_below(alloc, chain, encoded, kind, fill, &representation, value)?;
                 Ok(Cache::Chunk(Some(held)))
             }
         },

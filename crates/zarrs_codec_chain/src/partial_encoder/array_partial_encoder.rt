@@ -1,11 +1,16 @@
 ghost use Rattle.zarrs_codec_chain.specs.ChunkCoder.{coder_is_cached};
-ghost use Rattle.std.specs.Prelude.{◌≡◌, ◌<◌, ◌&&◌, All, Ok, IfOk, None, is_some, false};
+ghost use Rattle.std.specs.Prelude.{◌≡◌, ◌<◌, ◌&&◌, All, Ok, IfOk, None, is_some, false, true};
 ghost use Rattle.zarrs_chunk.specs.Answer.{Answers, fault};
+ghost use Rattle.zarrs_chunk.specs.Indexer.{selection_of};
 ghost use Rattle.zarrs_array_bytes.specs.Tight.{IsTight};
 ghost use Rattle.zarrs_codec.specs.BytesToBytesCodec.{AreBytes};
 ghost use Rattle.zarrs_codec.specs.HandleCalls.{NeverFailsIf, Tells};
 ghost use Rattle.zarrs_chain_meaning.specs.Chain.{chain_reads, chain_writes};
 ghost use Rattle.zarrs_chain_meaning.specs.Laws.{IsChainOfMappings};
+ghost use Rattle.zarrs_codec_chain.specs.ChunkRead.{PlansRead, decodes_parts, ReadsChunk, form_in_place};
+ghost use Rattle.zarrs_codec_chain.specs.ChunkWrite.{encodes_parts};
+ghost use Rattle.zarrs_codec_chain.specs.ChunkCalls.{WholeOnce};
+ghost use Rattle.zarrs_bytes.specs.PartialWrite.{FailsByWriting};
 
 use crate::chunk_coder::ChunkCoder;
 use crate::partial_decoder::array_partial_decoder::ArrayPartialDecoder;
@@ -36,7 +41,7 @@ pub struct ArrayPartialEncoder<'a, H: BytesPartialEncoderTraits, B: BytesToBytes
 
 impl<'a, H: BytesPartialEncoderTraits, B: BytesToBytesCodecTraits> ArrayPartialEncoder<'a, H, B> {
     ghost use Rattle.zarrs_codec_chain.specs.PartialDecoder.{form_of, handle_of, is_cached};
-    ghost use Rattle.zarrs_codec_chain.specs.PartialEncoder.{encoder_form, encoder_handle, encoder_value, EncoderReads, EncoderWrites, EncoderWritesOnce, EncoderGives, EncoderLeaves, EncoderAsksOnce, EncoderCounts, EncoderPlans, EncoderReadsNothing, decodes_in_part, encodes_in_part};
+    ghost use Rattle.zarrs_codec_chain.specs.PartialEncoder.{encoder_form, encoder_handle, EncoderReads, EncoderWrites, EncoderWritesOnce, EncoderLeaves, EncoderCounts};
 
     /// What the chain, the shape and the fill value are made of holds.
     pub(crate) fn is_sound(&self)
@@ -78,9 +83,13 @@ impl<'a, H: BytesPartialEncoderTraits, B: BytesToBytesCodecTraits> ArrayPartialE
         alloc: Global,
         indexer: &Indexer,
     ) -> Result<ArrayBytes<'static>, CodecError>
-        ensures reads { EncoderGives H.state self.old indexer.now result }
+        // Wide: no other clause says this, so it is written out.
+        ensures reads { ReadsChunk B.functions (encoder_form self.old)
+            (H.state (encoder_handle self.old)) (selection_of indexer.now) result }
         ensures tight { IfOk result (IsTight (encoder_form self.old).type) }
-        ensures counted { EncoderAsksOnce H.calls self.old self.new result }
+        // Wide: no other clause says this, so it is written out.
+        ensures counted { WholeOnce H.calls (encoder_form self.old).chain (encoder_handle self.old)
+            (encoder_handle self.new) result }
         ensures left { EncoderReads H.state H.lent self.old self.new result }
     {
         self.coder.read_chunk(alloc, &mut self.handle, indexer)
@@ -88,7 +97,7 @@ impl<'a, H: BytesPartialEncoderTraits, B: BytesToBytesCodecTraits> ArrayPartialE
 
     /// Whether a value is stored. Errors: `Storage`, but never where the handle has sure bytes.
     pub fn exists(&mut self) -> Result<bool, CodecError>
-        ensures answer { Tells result (is_some (encoder_value H.state self.old)) }
+        ensures answer { Tells result (is_some (H.state (encoder_handle self.old)).value) }
         ensures sure { NeverFailsIf (is_some (H.state (encoder_handle self.old)).sure) result }
         ensures left { EncoderReads H.state H.lent self.old self.new result }
     {
@@ -113,7 +122,8 @@ impl<'a, H: BytesPartialEncoderTraits, B: BytesToBytesCodecTraits> ArrayPartialE
         alloc: Global,
         indexer: &Indexer,
     ) -> Result<Option<Vec<ByteRange>>, CodecError>
-        ensures plan { EncoderPlans self.now indexer.now result }
+        ensures plan { PlansRead B.functions (encoder_form self.now)
+            (selection_of indexer.now) result }
     {
         self.coder.planned_ranges(alloc, indexer)
     }
@@ -121,7 +131,8 @@ impl<'a, H: BytesPartialEncoderTraits, B: BytesToBytesCodecTraits> ArrayPartialE
     /// Whether a part is read without the rest: where all codecs of the chain decode a part, and the
     /// handle reads ranges by themselves.
     pub fn supports_partial_decode(&self) -> bool
-        ensures value { result ≡ decodes_in_part B.reads_in_part self.now && H.reads_ranges }
+        ensures value { result ≡ decodes_parts B.reads_in_part (encoder_form self.now)
+            && H.reads_ranges }
     {
         self.coder.decodes_parts() && self.handle.supports_partial_decode()
     }
@@ -160,7 +171,9 @@ impl<'a, H: BytesPartialEncoderTraits, B: BytesToBytesCodecTraits> ArrayPartialE
         elements: &ArrayBytes<'_>,
     ) -> Result<(), CodecError>
         ensures edits { EncoderLeaves H.state self.old self.new indexer.now elements.now result }
-        ensures unread { EncoderReadsNothing H.state self.old self.new result }
+        // Wide: no other clause says this, so it is written out.
+        ensures unread { is_some (form_in_place (encoder_form self.old)) ≡ true
+            → FailsByWriting H.state (encoder_handle self.old) (encoder_handle self.new) result }
         ensures counted { EncoderCounts H.calls H.state self.old self.new indexer.now result }
         ensures left { EncoderWrites H.state H.lent H.atomic self.old self.new result }
     {
@@ -171,7 +184,8 @@ impl<'a, H: BytesPartialEncoderTraits, B: BytesToBytesCodecTraits> ArrayPartialE
     /// Leaves no value; there may have been none. Errors: `Storage`. It makes exactly one writing
     /// call of the handle. An error leaves the value as it was where the handle is atomic.
     pub fn erase(&mut self) -> Result<(), CodecError>
-        ensures answer { Answers fault (λ _. encoder_value H.state self.new) result (Ok None) }
+        ensures answer { Answers fault (λ _. (H.state (encoder_handle self.new)).value) result
+            (Ok None) }
         ensures left { EncoderWritesOnce H.state H.lent H.atomic self.old self.new result }
     {
         self.handle.erase()
@@ -180,7 +194,8 @@ impl<'a, H: BytesPartialEncoderTraits, B: BytesToBytesCodecTraits> ArrayPartialE
     /// Whether a part is written without the rest: where all codecs of the chain write a part, and the
     /// handle writes pieces by themselves.
     pub fn supports_partial_encode(&self) -> bool
-        ensures value { result ≡ encodes_in_part B.writes_in_part self.now && H.writes_ranges }
+        ensures value { result ≡ encodes_parts B.writes_in_part (encoder_form self.now)
+            && H.writes_ranges }
     {
         self.coder.encodes_parts() && self.handle.supports_partial_encode()
     }

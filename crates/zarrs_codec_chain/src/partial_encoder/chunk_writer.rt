@@ -1,7 +1,11 @@
 //! Writing a chunk in part through a chain, over a handle that the caller keeps.
-ghost use Rattle.std.specs.Prelude.{◌≡◌};
+ghost use Rattle.std.specs.Prelude.{◌≡◌, is_some, true};
 ghost use Rattle.zarrs_codec.specs.CodersOverHandles.{HandleWrites};
-ghost use Rattle.zarrs_codec_chain.specs.ChunkWrite.{form_encodes_parts};
+ghost use Rattle.zarrs_codec_chain.specs.ChunkWrite.{encodes_parts};
+ghost use Rattle.zarrs_chunk.specs.Indexer.{selection_of};
+ghost use Rattle.zarrs_bytes.specs.PartialWrite.{FailsByWriting};
+ghost use Rattle.zarrs_codec_chain.specs.ChunkRead.{form_in_place};
+ghost use Rattle.zarrs_codec_chain.specs.ChunkCalls.{CountsEdit};
 
 use crate::chunk_coder::ChunkCoder;
 use crate::partial_decoder::codec_read::codec_in_place;
@@ -12,7 +16,7 @@ use zarrs_codec::{BytesPartialEncoderTraits, BytesToBytesCodecTraits, CodecTrait
 
 impl<'a, B: BytesToBytesCodecTraits> ChunkCoder<'a, B> {
     ghost use Rattle.zarrs_codec_chain.specs.ChunkCoder.{coder_form};
-    ghost use Rattle.zarrs_codec_chain.specs.ChunkWriter.{CountsWriting, ReadsNothing, Writes};
+    ghost use Rattle.zarrs_codec_chain.specs.ChunkWriter.{Writes};
 
     /// Writes new elements at the places that the indexer selects. Errors: those of
     /// `ArrayPartialEncoder::partial_encode`.
@@ -24,10 +28,12 @@ impl<'a, B: BytesToBytesCodecTraits> ChunkCoder<'a, B> {
         new: &ArrayBytes<'_>,
     ) -> Result<(), CodecError>
         ensures writes { Writes H.state self.now handle.old handle.new indexer.now new.now result }
-        ensures unread { ReadsNothing H.state self.now handle.old handle.new result }
+        // Wide: no other clause says this, so it is written out.
+        ensures unread { is_some (form_in_place (coder_form self.now)) ≡ true
+            → FailsByWriting H.state handle.old handle.new result }
         // Wide: the record and the state of the handle before and after.
-        ensures counted { CountsWriting H.calls H.state self.now indexer.now
-            handle.old handle.new result }
+        ensures counted { CountsEdit H.calls H.state (coder_form self.now) (form_in_place
+            (coder_form self.now)) (selection_of indexer.now) handle.old handle.new result }
         ensures left { HandleWrites H.state H.lent H.atomic handle.old handle.new result }
     {
         match codec_in_place(self.chain) {
@@ -38,7 +44,7 @@ impl<'a, B: BytesToBytesCodecTraits> ChunkCoder<'a, B> {
 
     /// Whether all codecs of the chain write a part.
     pub(crate) fn encodes_parts(&self) -> bool
-        ensures value { result ≡ form_encodes_parts B.writes_in_part (coder_form self.now) }
+        ensures value { result ≡ encodes_parts B.writes_in_part (coder_form self.now) }
     {
         self.chain.partial_encoder_capability().partial_encode
     }

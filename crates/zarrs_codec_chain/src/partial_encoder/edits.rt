@@ -1,7 +1,7 @@
 //! Lists of edits of a chunk.
 ghost use Rattle.std.specs.Prelude.{◌≡◌, ◌≤◌, ◌==◌, is_none, length};
-ghost use Rattle.zarrs_codec_chain.specs.Edits.{EditHasBytes};
-ghost use Rattle.zarrs_codec_chain.specs.PartialEncoder.{EncoderEdits, EncoderKeeps, EncoderRuns, EncoderWrites};
+ghost use Rattle.zarrs_codec_chain.specs.Edits.{EditHasBytes, RunsEdits};
+ghost use Rattle.zarrs_codec_chain.specs.PartialEncoder.{EncoderEdits, EncoderKeeps, EncoderWrites, encoder_form, encoder_handle};
 
 use crate::partial_encoder::array_partial_encoder::ArrayPartialEncoder;
 use std::alloc::Global;
@@ -67,7 +67,9 @@ pub fn run_edits<H: BytesPartialEncoderTraits, B: BytesToBytesCodecTraits>(
 ) -> EditOutcome
     ensures within { result.done ≤ length edits.now }
     ensures all_done { is_none result.refusal ≡ (result.done == length edits.now) }
-    ensures edits { EncoderRuns H.state H.atomic encoder.old encoder.new edits.now result }
+    // Wide: no other clause says this, so it is written out.
+    ensures edits { RunsEdits B.functions (encoder_form encoder.old) H.atomic (H.state
+        (encoder_handle encoder.old)) (H.state (encoder_handle encoder.new)) edits.now result }
     ensures encoder_kept { EncoderKeeps H.lent encoder.old encoder.new }
 {
     encoder.is_sound();

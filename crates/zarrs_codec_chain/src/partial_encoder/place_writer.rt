@@ -1,17 +1,16 @@
 //! Writing a chunk in part in place: over `bytes` without bytes-to-bytes codecs.
-ghost use Rattle.std.specs.Prelude.{◌≡◌, ◌<◌, IfOk, All, Some, true, false};
+ghost use Rattle.std.specs.Prelude.{◌≡◌, ◌<◌, Ok, IfOk, All, Some, true, false};
 ghost use Rattle.zarrs_chunk.specs.Answer.{is_fault, seen, Gives};
 ghost use Rattle.zarrs_chunk.specs.ChunkShape.{product};
 ghost use Rattle.zarrs_chunk.specs.Indexer.{selection_of};
-ghost use Rattle.zarrs_chunk.specs.Runs.{AreApart, EndWithin};
+ghost use Rattle.zarrs_chunk.specs.Runs.{AreApart, EndWithin, places_in};
 ghost use Rattle.zarrs_chunk.specs.Selection.{subset as subset_of};
 ghost use Rattle.zarrs_chunk.specs.Tuples.{is_box_inside};
 ghost use Rattle.zarrs_codec.specs.CodersOverHandles.{HandleWrites};
-ghost use Rattle.zarrs_codec_chain.specs.ChunkWrite.{FitsPlacesIn, FitsRuns, LendsData};
+ghost use Rattle.zarrs_codec_chain.specs.ChunkWrite.{FitsPlacesIn, FitsRuns, LendsData, LeavesThere, form_written};
 ghost use Rattle.zarrs_bytes.specs.PartialWrite.{FailsByWriting};
-ghost use Rattle.zarrs_chain.specs.ChainView.{plain_chain};
 ghost use Rattle.zarrs_codec_chain.specs.ChunkCalls.{ReplacesPlaces, ReplacesSelected};
-ghost use Rattle.zarrs_codec_chain.specs.ChunkRead.{form_in_place, standing_places};
+ghost use Rattle.zarrs_codec_chain.specs.ChunkRead.{form_in_place};
 
 use crate::chunk_coder::ChunkCoder;
 use crate::partial_encoder::whole_writer::check_data;
@@ -24,8 +23,8 @@ use zarrs_chunk::{ArraySubset, CodecError, Indexer};
 use zarrs_codec::{BytesPartialEncoderTraits, BytesToBytesCodecTraits};
 
 impl<'a, B: BytesToBytesCodecTraits> ChunkCoder<'a, B> {
-    ghost use Rattle.zarrs_codec_chain.specs.ChunkCoder.{coder_form, coder_keeps_regions};
-    ghost use Rattle.zarrs_codec_chain.specs.ChunkWriter.{ArePlaced, ChecksElements, GivesWrittenPlaces, region_check, SameEdit, StandThere, WritesInPlace};
+    ghost use Rattle.zarrs_codec_chain.specs.ChunkCoder.{coder_form, coder_keeps_regions, coder_standing, reader_places};
+    ghost use Rattle.zarrs_codec_chain.specs.ChunkWriter.{new_check, WritesInPlace};
 
     /// Where new elements go in the chunk that the array-to-bytes codec gets, as runs, where there
     /// is one for each place that the indexer selects. Errors, the first that holds, `OutOfMemory`
@@ -34,18 +33,22 @@ impl<'a, B: BytesToBytesCodecTraits> ChunkCoder<'a, B> {
         &self,
         alloc: Global,
         indexer: &Indexer,
-        elements: &ArrayBytes<'_>,
+        new: &ArrayBytes<'_>,
     ) -> Result<Vec<(u64, u64)>, CodecError>
-        ensures answer { GivesWrittenPlaces self.now indexer.now elements.now result }
-        ensures checked { ChecksElements self.now indexer.now elements.now result }
+        // Wide: no other clause says this, so it is written out.
+        ensures answer { Gives places_in result
+            (form_written (coder_form self.now) (selection_of indexer.now) new.now) }
+        ensures checked { Gives (λ _. tt) result
+            (new_check self.now (selection_of indexer.now) new.now) }
         ensures filled { IfOk result (λ runs. All (λ run. 0 < run.1) runs.items) }
         ensures inside { IfOk result (λ runs. EndWithin (product self.now.encoded) runs.items) }
         ensures apart { IfOk result (λ runs. AreApart runs.items) }
-        ensures places { IfOk result (ArePlaced self.now indexer.now) }
-        ensures fit { IfOk result (FitsPlacesIn (coder_form self.now).type elements.now) }
+        ensures places { IfOk result
+            (λ runs. reader_places self.now indexer.now ≡ Ok (places_in runs)) }
+        ensures fit { IfOk result (FitsPlacesIn (coder_form self.now).type new.now) }
     {
         let runs = self.runs(alloc, indexer)?;
-        check_data(elements, runs.as_slice(), &self.data_type)?;
+        check_data(new, runs.as_slice(), &self.data_type)?;
         Ok(runs)
     }
 
@@ -59,7 +62,8 @@ impl<'a, B: BytesToBytesCodecTraits> ChunkCoder<'a, B> {
     ) -> Result<ArrayBytes<'e>, CodecError>
         requires writes_in_place { form_in_place (coder_form self.now) ≡ Some codec.now }
         requires inside { is_box_inside self.now.shape region.now.starts region.now.lengths ≡ true }
-        ensures checked { seen (λ _. tt) result ≡ region_check self.now region.now elements.now }
+        ensures checked { seen (λ _. tt) result
+            ≡ new_check self.now (subset_of region.now) elements.now }
         ensures lent { IfOk result (LendsData self.now.data_type region.now elements.now) }
         ensures no_fault { is_fault result ≡ false }
     {
@@ -84,12 +88,16 @@ impl<'a, B: BytesToBytesCodecTraits> ChunkCoder<'a, B> {
         requires inside { is_box_inside self.now.shape region.now.starts region.now.lengths ≡ true }
         requires filled { 0 < product region.now.lengths }
         requires region_kept { coder_keeps_regions self.now ≡ true }
-        ensures same_edit { SameEdit self.now codec.now region.now elements.now result }
-        ensures checked { Gives (λ _. tt) result (region_check self.now region.now elements.now) }
+        // Wide: no other clause says this, so it is written out.
+        ensures same_edit { IfOk result (λ it. LeavesThere B.functions (coder_form self.now)
+            self.now.encoded codec.now (subset_of region.now) elements.now it.0.items it.1) }
+        ensures checked { Gives (λ _. tt) result
+            (new_check self.now (subset_of region.now) elements.now) }
         ensures filled { IfOk result (λ there. All (λ run. 0 < run.1) there.0.items) }
         ensures inside { IfOk result (λ there. EndWithin (product self.now.encoded) there.0.items) }
         ensures apart { IfOk result (λ there. AreApart there.0.items) }
-        ensures places { IfOk result (StandThere self.now region.now) }
+        ensures places { IfOk result
+            (λ there. places_in there.0 ≡ coder_standing self.now region.now) }
         ensures fit { IfOk result
             (λ there. FitsRuns (coder_form self.now) there.0.items there.1) }
     {
@@ -127,9 +135,7 @@ impl<'a, B: BytesToBytesCodecTraits> ChunkCoder<'a, B> {
         ensures unread { FailsByWriting H.state handle.old handle.new result }
         // Wide: the record and the state of the handle before and after, and the places.
         ensures counted { ReplacesPlaces H.calls H.state self.now.data_type
-            (standing_places (plain_chain self.now.chain.now).array_to_array
-            self.now.shape region.now)
-            handle.old handle.new result }
+            (coder_standing self.now region.now) handle.old handle.new result }
         ensures left { HandleWrites H.state H.lent H.atomic handle.old handle.new result }
     {
         let (runs, encoded) = self.encoded_region(alloc, codec, region, elements)?;

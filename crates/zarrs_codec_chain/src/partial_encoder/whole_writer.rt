@@ -1,14 +1,17 @@
 //! Writing a chunk in part by its whole value.
-ghost use Rattle.std.specs.Prelude.{◌≡◌, ◌<◌, ◌^◌, IfOk, OnErr, OnOk, false, length};
-ghost use Rattle.zarrs_chunk.specs.Answer.{is_fault};
+ghost use Rattle.std.specs.Prelude.{◌≡◌, ◌<◌, ◌^◌, Ok, IfOk, OnErr, OnOk, false, length, None, IfErr};
+ghost use Rattle.zarrs_chunk.specs.Answer.{is_fault, Answers, AnswersBy, Gives, memory_or_fault};
 ghost use Rattle.zarrs_chunk.specs.ChunkShape.{product};
-ghost use Rattle.zarrs_chunk.specs.Runs.{joined_runs, EndWithin};
-ghost use Rattle.zarrs_array_bytes.specs.Validity.{data_fit};
+ghost use Rattle.zarrs_chunk.specs.Runs.{joined_runs, EndWithin, places_in};
+ghost use Rattle.zarrs_array_bytes.specs.Validity.{data_fit, validity, Holds};
 ghost use Rattle.zarrs_codec.specs.ArrayWriter.{LeftByRefusal};
 ghost use Rattle.zarrs_codec.specs.Calls.{MakesReads};
 ghost use Rattle.zarrs_codec.specs.CodersOverHandles.{HandleWrites};
 ghost use Rattle.zarrs_codec.specs.StorageState.{after_reading, KeptIfAtomic, LeftByWriting};
-ghost use Rattle.zarrs_codec_chain.specs.ChunkWrite.{IsWhole, RunsInside, FitsRuns, FitsPlacesIn, GivesDataPlaces};
+ghost use Rattle.zarrs_codec_chain.specs.ChunkWrite.{RunsInside, FitsRuns, FitsPlacesIn, WritesChunk, started_chunk, value_left};
+ghost use Rattle.zarrs_chunk.specs.Indexer.{selection_of};
+ghost use Rattle.zarrs_codec.specs.ChunkEdits.{data_places};
+ghost use Rattle.zarrs_array_bytes.specs.Held.{items_of};
 
 use crate::chunk_coder::ChunkCoder;
 use std::alloc::Global;
@@ -42,7 +45,9 @@ fn checked_runs(
     data_type: &DataType,
     elements: &ArrayBytes<'_>,
 ) -> Result<Vec<(u64, u64)>, CodecError>
-    ensures answer { GivesDataPlaces indexer.now shape.now data_type.now elements.now result }
+    // Wide: no other clause says this, so it is written out.
+    ensures answer { Gives places_in result
+        (data_places shape.now data_type.now (selection_of indexer.now) elements.now) }
     ensures below { IfOk result (λ runs. EndWithin (product shape.now) runs.items) }
     ensures fit { IfOk result (FitsPlacesIn data_type.now elements.now) }
 {
@@ -53,7 +58,7 @@ fn checked_runs(
 
 impl<'a, B: BytesToBytesCodecTraits> ChunkCoder<'a, B> {
     ghost use Rattle.zarrs_codec_chain.specs.ChunkCoder.{coder_form};
-    ghost use Rattle.zarrs_codec_chain.specs.ChunkWriter.{CountsRenewal, GivesEdited, LeavesUnharmed, ReadsNewValue, ReadsStart, Renews, WritesRuns};
+    ghost use Rattle.zarrs_codec_chain.specs.ChunkWriter.{CountsRenewal, GivesEdited, WritesRuns};
 
     /// The chunk that an edit starts from: the one that the stored value stands for, or one of fill
     /// values. Errors: `Storage`; those of `CodecChain::decode`; `Overflow` where 64 bits don't
@@ -63,7 +68,9 @@ impl<'a, B: BytesToBytesCodecTraits> ChunkCoder<'a, B> {
         alloc: Global,
         handle: &mut H,
     ) -> Result<ArrayBytes<'static>, CodecError>
-        ensures answer { ReadsStart H.state self.now handle.old result }
+        // Wide: no other clause says this, so it is written out.
+        ensures answer { AnswersBy memory_or_fault (Holds self.now.data_type) result
+            (started_chunk B.functions (coder_form self.now) (H.state handle.old).value) }
         ensures counted { MakesReads H.calls 1 handle.old handle.new result }
         ensures left { H.state handle.new ≡ after_reading result (H.state handle.old) }
         ensures same_reference { H.lent handle.new ≡ H.lent handle.old }
@@ -92,7 +99,7 @@ impl<'a, B: BytesToBytesCodecTraits> ChunkCoder<'a, B> {
         runs: &[(u64, u64)],
         elements: &ArrayBytes<'_>,
     ) -> Result<ArrayBytesRaw<'static>, CodecError>
-        requires valid { IsWhole (coder_form self.now) chunk }
+        requires valid { validity self.now.data_type (product self.now.shape) chunk ≡ Ok tt }
         requires below { RunsInside (coder_form self.now) runs.now }
         requires fit { FitsRuns (coder_form self.now) runs.now elements.now }
         ensures answer { GivesEdited self.now chunk.entry runs.now elements.now result }
@@ -119,7 +126,9 @@ impl<'a, B: BytesToBytesCodecTraits> ChunkCoder<'a, B> {
     ) -> Result<ArrayBytesRaw<'static>, CodecError>
         requires below { RunsInside (coder_form self.now) runs.now }
         requires fit { FitsRuns (coder_form self.now) runs.now elements.now }
-        ensures answer { ReadsNewValue H.state self.now handle.old runs.now elements.now result }
+        // Wide: no other clause says this, so it is written out.
+        ensures answer { Answers memory_or_fault items_of result (value_left B.functions (coder_form
+            self.now) None (H.state handle.old).value (joined_runs runs.now) elements.now) }
         ensures counted { MakesReads H.calls 1 handle.old handle.new result }
         ensures left { H.state handle.new ≡ after_reading result (H.state handle.old) }
         ensures same_reference { H.lent handle.new ≡ H.lent handle.old }
@@ -144,7 +153,9 @@ impl<'a, B: BytesToBytesCodecTraits> ChunkCoder<'a, B> {
         ensures one_write { OnOk result (LeftByWriting H.state handle.old handle.new result) }
         ensures refused { OnErr result (LeftByRefusal H.state handle.old handle.new result) }
         ensures kept_if_atomic { KeptIfAtomic H.atomic H.state handle.old handle.new result }
-        ensures unharmed { LeavesUnharmed H.state handle.old handle.new result }
+        // Wide: no other clause says this, so it is written out.
+        ensures unharmed { IfErr result
+            (λ cause. memory_or_fault cause ≡ false → H.state handle.new ≡ H.state handle.old) }
         ensures same_reference { H.lent handle.new ≡ H.lent handle.old }
     {
         let value = self.new_value(alloc, handle, runs, new)?;
@@ -160,7 +171,9 @@ impl<'a, B: BytesToBytesCodecTraits> ChunkCoder<'a, B> {
         indexer: &Indexer,
         new: &ArrayBytes<'_>,
     ) -> Result<(), CodecError>
-        ensures writes { Renews H.state self.now handle.old handle.new indexer.now new.now result }
+        // Wide: no other clause says this, so it is written out.
+        ensures writes { WritesChunk B.functions (coder_form self.now) None (H.state handle.old)
+            (H.state handle.new) (selection_of indexer.now) new.now result }
         ensures counted { CountsRenewal H.calls H.state handle.old handle.new result }
         ensures left { HandleWrites H.state H.lent H.atomic handle.old handle.new result }
     {

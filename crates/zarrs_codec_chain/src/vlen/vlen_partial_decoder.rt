@@ -8,6 +8,8 @@ ghost use Rattle.zarrs_codec.specs.HandleCalls.{NeverFailsIf, Tells};
 ghost use Rattle.zarrs_chain_meaning.specs.Chain.{codec_reads};
 ghost use Rattle.zarrs_chain.specs.ChainView.{plain_vlen};
 ghost use Rattle.zarrs_chain_meaning.specs.CodecMeaning.{codec_representation};
+ghost use Rattle.zarrs_chunk.specs.Answer.{GivesValue, seen};
+ghost use Rattle.zarrs_codec.specs.Refused.{outcome};
 
 use crate::vlen::vlen_runs::vlen_runs;
 use std::alloc::Global;
@@ -76,7 +78,7 @@ pub trait VlenCodecPartialTraits<B: BytesToBytesCodecTraits> {
 }
 
 impl<B: BytesToBytesCodecTraits> VlenCodecPartialTraits<B> for VlenCodec<B> {
-    ghost use Rattle.zarrs_codec_chain.specs.vlen.VlenPartialDecoder.{vlen_handle_of, VlenDecoderMade, VlenHasForm};
+    ghost use Rattle.zarrs_codec_chain.specs.vlen.VlenPartialDecoder.{vlen_handle_of, vlen_form};
 
     /// A decoder of a chunk in part, over a handle. Errors, the first that holds: those of
     /// `encoded_representation`; `OutOfMemory`. An error hands the handle back as it was.
@@ -88,8 +90,17 @@ impl<B: BytesToBytesCodecTraits> VlenCodecPartialTraits<B> for VlenCodec<B> {
         data_type: &DataType,
         fill_value: &FillValue,
     ) -> Result<VlenPartialDecoder<'a, H, B>, Refused<H>>
-        ensures answer { VlenDecoderMade self.now shape.now data_type.now fill_value.now result }
-        ensures form { VlenHasForm self.now shape.now data_type.now fill_value.now result }
+        // Wide: no other clause says this, so it is written out.
+        ensures answer { GivesValue (outcome result) (seen (λ _. tt) (codec_representation
+            B.functions (plain_vlen self.now) shape.now data_type.now fill_value.now)) }
+        // Wide: no other clause says this, so it is written out.
+        ensures form { IfOk result (λ it. vlen_form it ≡ record {
+          codec = plain_vlen self.now;
+          sizes
+              = shape.now;
+          type = data_type.now;
+          fill = fill_value.now;
+        }) }
         ensures over { IfOk result (λ decoder. vlen_handle_of decoder ≡ handle) }
         ensures handed_back { IfErr result (λ refused. refused.handle ≡ handle) }
     {
@@ -107,34 +118,13 @@ impl<B: BytesToBytesCodecTraits> VlenCodecPartialTraits<B> for VlenCodec<B> {
 }
 
 impl<'a, H: BytesPartialDecoderTraits, B: BytesToBytesCodecTraits> VlenPartialDecoder<'a, H, B> {
-    ghost use Rattle.zarrs_codec_chain.specs.vlen.VlenPartialDecoder.{vlen_decodes_in_part, vlen_form_of, vlen_handle_of, VlenGives, VlenLeaves, VlenReads, VlenRefusedAtSelection, SureVlen};
+    ghost use Rattle.zarrs_codec_chain.specs.vlen.VlenPartialDecoder.{ReadsVlen, vlen_form, vlen_handle_of, VlenLeaves};
 
     /// The type of the elements.
     pub fn data_type(&self) -> &DataType
-        ensures value { result.now ≡ (vlen_form_of self.now).type }
+        ensures value { result.now ≡ (vlen_form self.now).type }
     {
         &self.data_type
-    }
-
-    /// The elements that the indexer selects, by what the handle keeps.
-    fn read(&mut self, alloc: Global, indexer: &Indexer) -> Result<ArrayBytes<'static>, CodecError>
-        ensures answer { VlenReads H.state B.functions self.old
-            (selection_of indexer.now) result }
-        ensures tight { IfOk result (IsTight (vlen_form_of self.old).type) }
-        ensures indexer_first { VlenRefusedAtSelection self.old (selection_of indexer.now) result }
-        ensures sure { SureVlen H.state self.old (selection_of indexer.now) result }
-        ensures left { VlenLeaves H.state H.lent self.old self.new result }
-    {
-        let runs = indexer.runs(alloc, &self.shape)?;
-        vlen_runs(
-            alloc,
-            self.codec,
-            &mut self.handle,
-            &self.shape,
-            &self.data_type,
-            &self.fill_value,
-            &runs,
-        )
     }
 
     /// The elements that the indexer selects, in its order: those of the chunk that the stored
@@ -150,13 +140,24 @@ impl<'a, H: BytesPartialDecoderTraits, B: BytesToBytesCodecTraits> VlenPartialDe
         alloc: Global,
         indexer: &Indexer,
     ) -> Result<ArrayBytes<'static>, CodecError>
-        ensures reads { VlenGives H.state B.functions self.old (selection_of indexer.now) result }
-        ensures tight { IfOk result (IsTight (vlen_form_of self.old).type) }
+        // Wide: no other clause says this, so it is written out.
+        ensures reads { ReadsVlen B.functions (vlen_form self.old)
+            (H.state (vlen_handle_of self.old)) (selection_of indexer.now) result }
+        ensures tight { IfOk result (IsTight (vlen_form self.old).type) }
         ensures left { VlenLeaves H.state H.lent self.old self.new result }
     {
         vlen_is_sound(self.codec);
         self.shape.as_slice();
-        self.read(alloc, indexer)
+        let runs = indexer.runs(alloc, &self.shape)?;
+        vlen_runs(
+            alloc,
+            self.codec,
+            &mut self.handle,
+            &self.shape,
+            &self.data_type,
+            &self.fill_value,
+            &runs,
+        )
     }
 
     /// Whether a value is stored. Errors: `Storage`, but never where the handle has sure bytes.
@@ -178,7 +179,8 @@ impl<'a, H: BytesPartialDecoderTraits, B: BytesToBytesCodecTraits> VlenPartialDe
     /// Whether a part is read without the rest: where the codec is plain, and the handle reads ranges
     /// by themselves.
     pub fn supports_partial_decode(&self) -> bool
-        ensures value { result ≡ vlen_decodes_in_part self.now && H.reads_ranges }
+        ensures value { result ≡ (codec_reads (vlen_form self.now).codec).partial_decode
+            && H.reads_ranges }
     {
         self.codec.partial_decoder_capability().partial_decode
             && self.handle.supports_partial_decode()
@@ -201,9 +203,9 @@ impl<'a, H: BytesPartialDecoderTraits, B: BytesToBytesCodecTraits> VlenPartialDe
 
 impl<'a, H: BytesPartialDecoderTraits, B: BytesToBytesCodecTraits> ArrayPartialDecoderTraits
     for VlenPartialDecoder<'a, H, B> {
-    ghost use Rattle.zarrs_codec_chain.specs.vlen.VlenPartialDecoder.{codec_reader, vlen_form_of, vlen_handle_of};
+    ghost use Rattle.zarrs_codec_chain.specs.vlen.VlenPartialDecoder.{codec_reader, vlen_form, vlen_handle_of};
 
-    ghost reader = { λ decoder. codec_reader B.functions (vlen_form_of decoder) (H.state (vlen_handle_of decoder)).sure (H.state (vlen_handle_of decoder)).value ((codec_reads (vlen_form_of decoder).codec).partial_decode && H.reads_ranges) };
+    ghost reader = { λ decoder. codec_reader B.functions (vlen_form decoder) (H.state (vlen_handle_of decoder)).sure (H.state (vlen_handle_of decoder)).value ((codec_reads (vlen_form decoder).codec).partial_decode && H.reads_ranges) };
 
     ghost state = { λ decoder. H.state (vlen_handle_of decoder) };
 
@@ -213,7 +215,7 @@ impl<'a, H: BytesPartialDecoderTraits, B: BytesToBytesCodecTraits> ArrayPartialD
 
     ghost use Rattle.zarrs_codec_chain.specs.CountLaws.{codec_counts};
 
-    ghost counts = { λ decoder. codec_counts B.functions (vlen_form_of decoder) (H.state (vlen_handle_of decoder)).sure (H.state (vlen_handle_of decoder)).value ((codec_reads (vlen_form_of decoder).codec).partial_decode && H.reads_ranges) };
+    ghost counts = { λ decoder. codec_counts B.functions (vlen_form decoder) (H.state (vlen_handle_of decoder)).sure (H.state (vlen_handle_of decoder)).value ((codec_reads (vlen_form decoder).codec).partial_decode && H.reads_ranges) };
 
     fn data_type(&self) -> &DataType {
         VlenPartialDecoder::data_type(self)

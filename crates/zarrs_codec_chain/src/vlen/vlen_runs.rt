@@ -5,10 +5,13 @@ ghost use Rattle.zarrs_chunk.specs.ChunkShape.{product};
 ghost use Rattle.zarrs_chunk.specs.Runs.{joined_runs};
 ghost use Rattle.zarrs_data_type.specs.ElementType.{is_variable};
 ghost use Rattle.zarrs_data_type.specs.FillValue.{fill_fits};
+ghost use Rattle.zarrs_data_type.specs.Form.{form_of};
 ghost use Rattle.zarrs_array_bytes.specs.Tight.{IsTight};
-ghost use Rattle.zarrs_array_bytes.specs.Validity.{validity};
 ghost use Rattle.zarrs_codec.specs.StorageState.{after_reading};
-ghost use Rattle.zarrs_codec_chain.specs.vlen.VlenRuns.{VlenTakes, GivesVlen, Picks, ReadsWhole, ReadsPlain, Fetches, SurePlain, ReadsVlenRuns, IsSure};
+ghost use Rattle.zarrs_chain.specs.ChainView.{plain_vlen};
+ghost use Rattle.zarrs_codec_chain.specs.ChunkRead.{ReadsRuns, SureRuns};
+ghost use Rattle.zarrs_codec_chain.specs.vlen.VlenRuns.{VlenTakes, Picks, ReadsWhole, ReadsPlain, SurePlain};
+ghost use Rattle.zarrs_chain_meaning.specs.Chain.{codec_reads};
 
 use crate::partial_decoder::fill_runs::fill_runs;
 use std::alloc::Global;
@@ -20,24 +23,6 @@ use zarrs_chain_meaning::vlen::plain_vlen::PlainVlen;
 use zarrs_chunk::{ChunkShape, CodecError};
 use zarrs_codec::{BytesPartialDecoderTraits, BytesToBytesCodecTraits};
 use zarrs_data_type::{DataType, FillValue};
-
-/// The chunk that a value stands for, in a container of its own. Errors: those of
-/// `VlenCodec::decode`.
-fn decoded<B: BytesToBytesCodecTraits>(
-    alloc: Global,
-    codec: &VlenCodec<B>,
-    value: Vec<u8>,
-    shape: &ChunkShape,
-    kind: &DataType,
-    fill: &FillValue,
-) -> Result<ArrayBytes<'static>, CodecError>
-    requires taken { VlenTakes B.functions codec.now shape.now kind.now fill.now }
-    ensures answer { GivesVlen B.functions codec.now value shape.now kind.now fill.now result }
-    ensures tight { IfOk result (IsTight kind.now) }
-    ensures valid { IfOk result (λ held. validity kind.now (product shape.now) held ≡ Ok tt) }
-{
-    vlen_decode(alloc, codec, CowSlice::Owned(value), shape, kind, fill)
-}
 
 /// The elements at the places of these runs of a chunk that the codec takes, by its whole value:
 /// the fill value at each place where there is none. Errors: those of `VlenCodec::decode`.
@@ -61,7 +46,7 @@ fn runs_of_value<B: BytesToBytesCodecTraits>(
     match value {
         None => fill_runs(alloc, kind, fill, runs),
         Some(value) => {
-            let chunk = decoded(alloc, codec, value, shape, kind, fill)?;
+            let chunk = vlen_decode(alloc, codec, CowSlice::Owned(value), shape, kind, fill)?;
             let count = shape.num_elements()?;
             chunk.extract_runs(alloc, runs, count, kind)
         }
@@ -111,7 +96,9 @@ fn plain_runs<H: BytesPartialDecoderTraits>(
     requires counted { product shape.now < 2 ^ 64 }
     requires inside { All (λ run. run.0 + run.1 ≤ product shape.now) runs.now }
     requires count { length (joined_runs runs.now) < 2 ^ 64 }
-    ensures answer { Fetches H.state codec handle.old shape.now kind.now fill.now runs.now result }
+    // Wide: no other clause says this, so it is written out.
+    ensures answer { ReadsPlain H.state codec handle.old
+        (product shape.now) kind.now fill.now runs.now result }
     ensures tight { IfOk result (IsTight kind.now) }
     ensures sure { SurePlain H.state codec handle.old (product shape.now) runs.now result }
     ensures left { H.state handle.new ≡ after_reading result (H.state handle.old) }
@@ -165,10 +152,12 @@ pub(crate) fn vlen_runs<H: BytesPartialDecoderTraits, B: BytesToBytesCodecTraits
     requires inside { All (λ run. run.0 + run.1 ≤ product shape.now) runs.now }
     requires count { length (joined_runs runs.now) < 2 ^ 64 }
     // Wide: the codec, the handle, the chunk's sizes, type and fill value, the runs: each counts.
-    ensures answer { ReadsVlenRuns H.state B.functions codec.now handle.old
-        shape.now kind.now fill.now runs.now result }
+    ensures answer { ReadsRuns B.functions (plain_vlen codec.now)
+        (form_of shape.now kind.now fill.now) (H.state handle.old) runs.now result }
     ensures tight { IfOk result (IsTight kind.now) }
-    ensures sure { IsSure H.state codec.now handle.old shape.now kind.now fill.now runs.now result }
+    // Wide: no other clause says this, so it is written out.
+    ensures sure { (codec_reads (plain_vlen codec.now)).partial_decode ≡ true → SureRuns (plain_vlen
+        codec.now) (form_of shape.now kind.now fill.now) (H.state handle.old) runs.now result }
     ensures left { H.state handle.new ≡ after_reading result (H.state handle.old) }
     ensures same_reference { H.lent handle.new ≡ H.lent handle.old }
 {

@@ -14,7 +14,7 @@ returns c =
     let before = buffer_bytes (buffer_of c.args.encoder.now) in
     record {
       answer = record {
-        made = edit_due (header_seen c.args.form.now) before edit.tuples edit.numbers.now (buffers edit.masks.now edit.offsets.now edit.bytes.now) (selection_of c.in_ok-indexer.indexer) c.in_ok-new.new (buffer_bytes (buffer_of c.write_new.new.encoder)) c.in_ok-indexer.ensures.answer c.in_ok-new.ensures.answer c.in_ok-write_new.ensures.answer.left;
+        made = edit_due (header_seen c.args.form.now) before edit.tuples edit.numbers.now (buffers edit.masks.now edit.offsets.now edit.bytes.now) (selection_of c.in_ok-indexer.indexer) c.in_ok-new.new (buffer_bytes (buffer_of c.write_new.new.encoder)) c.in_ok-indexer.ensures.answer c.in_ok-new.ensures.answer c.in_ok-write_new.ensures.answer;
         kept = tt;
       };
       stored = c.in_ok-write_new.ensures.stored;
@@ -30,8 +30,8 @@ returns-in_err-write_new c =
     let e = c.in_err-write_new.field-0.0 in
     record {
       answer = rw (p.1, p.2) (record {
-        made = edit_not_due (header_seen c.args.form.now) before edit.tuples edit.numbers.now (buffers edit.masks.now edit.offsets.now edit.bytes.now) (selection_of c.in_ok-indexer.indexer) c.in_ok-new.new c.in_ok-indexer.ensures.answer c.in_ok-new.ensures.answer (memory e) e c.in_err-write_new.ensures.answer.left;
-        kept = c.in_err-write_new.ensures.answer.kept;
+        made = edit_not_due (header_seen c.args.form.now) before edit.tuples edit.numbers.now (buffers edit.masks.now edit.offsets.now edit.bytes.now) (selection_of c.in_ok-indexer.indexer) c.in_ok-new.new c.in_ok-indexer.ensures.answer c.in_ok-new.ensures.answer (memory e) e c.in_err-write_new.ensures.answer;
+        kept = c.in_err-write_new.ensures.kept;
       });
       stored = c.in_err-write_new.ensures.stored;
       same_reference = c.in_err-write_new.ensures.same_reference;

@@ -28,10 +28,8 @@ returns c =
     (write_quiet _ r old left c.partial_encode.ensures.left.refused) c.partial_encode.ensures.edits.exact refl in
     let kept : OnErr r (true ≡ true → stored_value flag bytes ≡ stored_value true before) = subst (λ (v : Option (List ℕ)). OnErr r (true ≡ true → (buffer_state left).value ≡ v)) stored c.partial_encode.ensures.left.kept_if_atomic in
     record {
-      answer = record {
-        left = bytes_left flag bytes r (form_written chunk (Some before) selection new) written;
-        kept = bytes_kept flag bytes before r kept;
-      };
+      answer = bytes_left flag bytes r (form_written chunk (Some before) selection new) written;
+      kept = bytes_kept flag bytes before r kept;
       same_reference = same_name (buffer_name left) (buffer_name old) c.partial_encode.ensures.left.same_reference;
       stored = stored_after flag bytes before r (form_written chunk (Some before) selection new) written kept;
       form_kept = c.partial_encode.ensures.left.form_kept;

@@ -28,7 +28,7 @@ returns-in_err-runs-clause-writes g c =
     let e = c.in_err-runs.field-0.0 in
     let p = err_from_is_err_and c.from_residual.result c.from_residual.ensures.1 in
     record {
-      answer = rw (p.1, p.2) (λ m. left_unchecked g.B.BytesToBytesCodecTraits.functions (coder_form k) (Some c.args.codec.now) (g.H.BytesPartialDecoderTraits.state c.args.handle.now).value (selection_of c.args.indexer.now) c.args.elements.now e (c.in_err-runs.ensures.checked (memory_too e m)));
+      answer = rw (p.1, p.2) (λ m. left_unchecked g.B.BytesToBytesCodecTraits.functions (coder_form k) (Some c.args.codec.now) (g.H.BytesPartialDecoderTraits.state c.args.handle.now).value (selection_of c.args.indexer.now) c.args.elements.now e (c.in_err-runs.ensures.checked.is (memory_too e m)));
       indexer_first = search rules;
       checked_first = search rules;
       untouched = search rules;

@@ -1,5 +1,5 @@
 use Rattle.zarrs_chain.specs.ChainView.{plain_chain}
-use Rattle.zarrs_codec_chain.proofs.CachePlaces.{no_place, no_stage}
+use Rattle.zarrs_codec_chain.proofs.CachePlaces.{no_place}
 use Rattle.zarrs_codec_chain.proofs.Making.{representation_first}
 use Rattle.zarrs_codec_chain.proofs.codec_chain_partial.CodecChainCodecChainPartialTraits.partial_decoder.Goals as goal
 
@@ -7,7 +7,7 @@ pub returns-in-Err-clause-no_fault_if_in_part : goal.returns-in-Err-clause-no_fa
 returns-in-Err-clause-no_fault_if_in_part g c e =
     let reads = g.B.BytesToBytesCodecTraits.reads_in_part in
     let chain = plain_chain c.args.self.now in
-    c.in-Err.ensures.no_fault_if_uncached (no_stage reads chain (no_place reads chain e))
+    c.in-Err.ensures.no_fault_if_uncached (no_place reads chain e)
 
 pub returns-in-Err-clause-measured_first : goal.returns-in-Err-clause-measured_first
 returns-in-Err-clause-measured_first g c =

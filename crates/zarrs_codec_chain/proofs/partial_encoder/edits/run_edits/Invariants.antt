@@ -1,14 +1,14 @@
 use Rattle.std.proofs.Common.{◌≡◌, take, Ok}
 use Rattle.std.specs.List.{All}
 use Rattle.zarrs_codec_chain.specs.Edits.{after_edits, stores_edited, EditHasBytes}
-use Rattle.zarrs_codec_chain.specs.PartialEncoder.{encoder_form, encoder_state, encoder_value, EncoderKeeps}
+use Rattle.zarrs_codec_chain.specs.PartialEncoder.{encoder_form, encoder_handle, EncoderKeeps}
 use Rattle.zarrs_codec_chain.proofs.partial_encoder.edits.run_edits.Given as goal
 
 abbrev pub invariant-loop-edit : goal.invariant-loop-edit
 invariant-loop-edit g l = record {
   counted : l.done ≡ l.edit-index;
-  ran : stores_edited g.B.BytesToBytesCodecTraits.functions (encoder_form l.initial.encoder) (take l.done l.edits) (encoder_value g.H.BytesPartialDecoderTraits.state l.initial.encoder) ≡ Ok (encoder_value g.H.BytesPartialDecoderTraits.state l.encoder);
-  left : encoder_state g.H.BytesPartialDecoderTraits.state l.encoder ≡ after_edits l.done (encoder_value g.H.BytesPartialDecoderTraits.state l.encoder) (encoder_state g.H.BytesPartialDecoderTraits.state l.initial.encoder);
+  ran : stores_edited g.B.BytesToBytesCodecTraits.functions (encoder_form l.initial.encoder) (take l.done l.edits) (g.H.BytesPartialDecoderTraits.state (encoder_handle l.initial.encoder)).value ≡ Ok (g.H.BytesPartialDecoderTraits.state (encoder_handle l.encoder)).value;
+  left : g.H.BytesPartialDecoderTraits.state (encoder_handle l.encoder) ≡ after_edits l.done (g.H.BytesPartialDecoderTraits.state (encoder_handle l.encoder)).value (g.H.BytesPartialDecoderTraits.state (encoder_handle l.initial.encoder));
   bytes : All EditHasBytes (take l.done l.edits);
   kept : EncoderKeeps g.H.BytesPartialDecoderTraits.lent l.initial.encoder l.encoder;
 }

@@ -1,0 +1,2 @@
+-- What `vlen-utf8` and `vlen-bytes` are made of.
+pub mod VlenV2

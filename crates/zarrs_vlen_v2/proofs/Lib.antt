@@ -1,0 +1,11 @@
+pub mod Rows
+pub mod CodecLaws
+pub mod MadeAgain
+pub mod Accepted
+pub mod Writing
+pub mod Reading
+pub mod Encoding
+pub mod Holding
+pub mod Decoding
+pub mod ByGrammar
+pub mod Counted
