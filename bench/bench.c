@@ -433,6 +433,37 @@ static void all_texts(void) {
     texts("vlen read 10 of 1,000 texts of 100 kB", READ, true, true);
 }
 
+/* ---- texts each behind its length ---- */
+
+static bool plain_prefixed(void) {
+    if (job.call == ENCODE) return prefixed_encode(job.in.bytes, job.in.offsets, job.rows, job.plain.bytes);
+    return prefixed_decode(job.in.bytes, job.in.len.bytes, job.rows, job.plain.offsets, job.plain.bytes);
+}
+
+static void prefixed(const char *name, enum call call, size_t rows, size_t most) {
+    if (!begin(name, call, rows == 1000 ? "[1000]" : "[200000]", "\"string\"", "", "\"vlen-utf8\"")) return;
+    job.rows = rows;
+    uint64_t *offsets = room(8 * (rows + 1));
+    for (size_t i = 0; i < rows; i++) offsets[i + 1] = offsets[i] + (rows == 1000 ? most : noise_number() % most);
+    uint8_t *bytes = noise_below(offsets[rows], 26);
+    size_t value = 4 * (rows + 1) + offsets[rows];
+    job.in = (struct buffers){NULL, offsets, bytes, {0, rows + 1, offsets[rows]}};
+    if (call == ENCODE) answers(0, 0, value);
+    else {
+        job.in = (struct buffers){NULL, NULL, room(value), {0, 0, value}};
+        prefixed_encode(bytes, offsets, rows, job.in.bytes);
+        answers(0, rows + 1, offsets[rows]);
+    }
+    measure(plain_prefixed);
+}
+
+static void all_prefixed(void) {
+    prefixed("vlen-utf8 encode 200,000 short texts", ENCODE, 200000, 25);
+    prefixed("vlen-utf8 decode 200,000 short texts", DECODE, 200000, 25);
+    prefixed("vlen-utf8 encode 1,000 texts of 100 kB", ENCODE, 1000, 100000);
+    prefixed("vlen-utf8 decode 1,000 texts of 100 kB", DECODE, 1000, 100000);
+}
+
 /* ---- elements that may be absent ---- */
 
 static bool plain_optional(void) {
@@ -641,6 +672,7 @@ int main(int argc, char **argv) {
     packs();
     checksums();
     all_texts();
+    all_prefixed();
     optionals();
     squares();
     return status;

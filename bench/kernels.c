@@ -211,6 +211,41 @@ bool texts_read(const uint8_t *value, size_t len, size_t n, bool checks, size_t 
     return true;
 }
 
+bool prefixed_encode(const uint8_t *bytes, const uint64_t *offsets, size_t n, uint8_t *value) {
+    uint32_t count = n;
+    if (count != n || !rise_to((const void *)offsets, n, offsets[n])) return false;
+    memcpy(value, &count, 4);
+    value += 4;
+    for (size_t i = 0; i < n; i++) {
+        uint64_t size = offsets[i + 1] - offsets[i];
+        uint32_t length = size;
+        if (length != size) return false;
+        memcpy(value, &length, 4);
+        memcpy(value + 4, bytes + offsets[i], size);
+        value += 4 + size;
+    }
+    return true;
+}
+
+bool prefixed_decode(const uint8_t *value, size_t len, size_t n, uint64_t *offsets, uint8_t *bytes) {
+    uint32_t number;
+    if (len < 4) return false;
+    memcpy(&number, value, 4);
+    if (number != n) return false;
+    size_t at = 4;
+    offsets[0] = 0;
+    for (size_t i = 0; i < n; i++) {
+        if (len - at < 4) return false;
+        memcpy(&number, value + at, 4);
+        at += 4;
+        if (len - at < number) return false;
+        memcpy(bytes + offsets[i], value + at, number);
+        offsets[i + 1] = offsets[i] + number;
+        at += number;
+    }
+    return at == len;
+}
+
 size_t optional_encode(const uint8_t *bytes, const uint8_t *mask, size_t n, uint8_t *value) {
     size_t packed = (n + 7) / 8;
     uint8_t *data = value + 16 + packed, all = 0;

@@ -31,6 +31,10 @@ bool texts_decode(const uint8_t *value, size_t len, size_t n, uint64_t *offsets,
 bool texts_read(const uint8_t *value, size_t len, size_t n, bool checks, size_t at, size_t count,
                 uint64_t *offsets, uint8_t *bytes);
 
+/* Texts each behind its length, behind how many they are, in 4 bytes each. */
+bool prefixed_encode(const uint8_t *bytes, const uint64_t *offsets, size_t n, uint8_t *value);
+bool prefixed_decode(const uint8_t *value, size_t len, size_t n, uint64_t *offsets, uint8_t *bytes);
+
 /* Elements that may be absent: two lengths, the packed mask, the elements that are present. They answer how many
  * bytes the value has, and whether it is one. */
 size_t optional_encode(const uint8_t *bytes, const uint8_t *mask, size_t n, uint8_t *value);

@@ -15,6 +15,7 @@ PAGES = model.PAGES
 SQUEEZE = ("zarrs.squeeze", PAGES + "/array_to_array/squeeze")
 VLEN = ("zarrs.vlen", PAGES + "/array_to_bytes/vlen")
 OPTIONAL = ("zarrs.optional", "optional", PAGES + "/array_to_bytes/optional")
+PREFIXED = tuple(model.PREFIXED)
 BEHIND = ("sample.reverse", "sample.length", "crc32c", "crc32c")
 HUGE = (2**64 - 1, 2**63, 2**63 - 1, 2**62, 2**61, 2**32, 2**32 - 1, 2**31)
 # what stands where something else is due
@@ -185,6 +186,11 @@ class Run:
             said["index_location"] = self.pick(("start", "end"))
         return self.named(VLEN, said)
 
+    def prefixed(self, of_type):
+        """vlen-utf8 or vlen-bytes, now and then the other one."""
+        wanted = [name for name, kind in model.PREFIXED.items() if kind == of_type]
+        return self.named(tuple(wanted) if wanted and not self.chance(0.03) else PREFIXED, self.pick((None, None, None, {"level": 1}, {"endian": "big"})))
+
     def optional(self, of_type, shape, depth):
         inside = of_type[1] if of_type[0] == "optional" else model.UINT8
         mask, data = self.chain(model.BOOL, shape, False, depth + 1), self.chain(inside, shape, True, depth + 1)
@@ -194,6 +200,8 @@ class Run:
         kind = of_type[0] if not self.chance(0.02) else self.pick(("fixed", "variable", "optional"))
         if kind == "fixed":
             return self.bytes(of_type) if self.chance(0.55) else self.packbits(of_type)
+        if kind == "variable" and self.chance(0.45):
+            return self.prefixed(of_type)
         return self.vlen(shape, depth) if kind == "variable" or depth > 4 else self.optional(of_type, shape, depth)
 
     def chain(self, of_type, shape, is_flat, depth=0):
@@ -213,7 +221,7 @@ class Run:
     def spare_codec(self, of_type):
         """A codec too many, which often needn't be understood."""
         codec = self.pick((
-            {"name": "gzip"}, {"name": "packbits", "configuration": {"first_bit": 3, "last_bit": 1}}, {"name": "transpose"}, "bytes",
+            {"name": "gzip"}, "vlen-utf8", {"name": "vlen-bytes"}, {"name": "packbits", "configuration": {"first_bit": 3, "last_bit": 1}}, {"name": "transpose"}, "bytes",
             {"name": "vlen", "configuration": {"index_codecs": [5]}}, {"name": "zarrs.vlen", "configuration": {"index_codecs": [5]}},
             {"name": "reshape", "configuration": {"shape": [0, -1, -1]}}, {"name": "zarrs.optional", "configuration": {"mask_codecs": [], "data_codecs": []}},
         ))
@@ -392,6 +400,8 @@ class Run:
 
     def spoilt_content(self, codec, value):
         """The value with another number in a place of its layout."""
+        if codec[0] in PREFIXED and len(value) >= 4 and self.chance(0.9):
+            return self.spoilt_prefixed(value)
         if codec[0] == "packbits" and value:
             at = self.pick((0, len(value) - 1))
             return value[:at] + bytes([self.pick((value[at] ^ 1, value[at] ^ 128, 0, 1, 7, 8, 255))]) + value[at + 1 :]
@@ -414,6 +424,39 @@ class Run:
             data = data[: datas if self.chance(0.5) else len(data)]
             return model.length_bytes(masks) + model.length_bytes(max(0, datas)) + mask + data
         return self.damaged(value)
+
+    def spoilt_prefixed(self, value):
+        """The value with another count or another length, which may be made up for, or with other bytes at its end."""
+        def four(number):
+            return (number % 2**32).to_bytes(4, "little")
+
+        places, at = [], 4
+        while at + 4 <= len(value):
+            places.append(at)
+            at += 4 + int.from_bytes(value[at : at + 4], "little")
+        at = 0 if not places or self.chance(0.3) else self.pick((places[0], places[-1], self.pick(places)))
+        number, left = int.from_bytes(value[at : at + 4], "little"), len(value) - at - 4
+        roll = self.random.random()
+        if roll < 0.15 and len(places) > 1:
+            # an element that takes in the one behind it; the count is one too many then, or one fewer
+            at = self.pick(places[:-1])
+            number = int.from_bytes(value[at : at + 4], "little")
+            behind = int.from_bytes(value[at + 4 + number : at + 8 + number], "little")
+            count = int.from_bytes(value[:4], "little") - self.pick((0, 1))
+            value = four(count) + value[4:at] + four(number + 4 + behind) + value[at + 4 :]
+        elif roll < 0.3:
+            # an element of nothing more, with the count or without
+            value = four(int.from_bytes(value[:4], "little") + self.pick((0, 1))) + value[4:] + bytes(4)
+        elif roll < 0.4:
+            # the highest byte first
+            value = value[:at] + value[at : at + 4][::-1] + value[at + 4 :]
+        elif roll < 0.55:
+            # as far as a length, or into one, or without a byte
+            value = value[: self.pick((at, at + self.random.randint(1, 3), at + 4, at + 4 + number, len(value) - 1))]
+        else:
+            new = self.pick((0, 1, number + 1, max(0, number - 1), left, left + 1, max(0, left - 1), 2**32 - 1, 2**31, number + 256))
+            value = value[:at] + four(new) + value[at + 4 :]
+        return value
 
     def damaged(self, value):
         value = bytearray(value)

@@ -33,12 +33,14 @@ NAMES = {
     "zarrs.optional": "optional",
     "optional": "optional",
     PAGES + "/array_to_bytes/optional": "optional",
+    "vlen-utf8": "vlen-utf8",
+    "vlen-bytes": "vlen-bytes",
     "crc32c": "crc32c",
     "sample.reverse": "sample.reverse",
     "sample.length": "sample.length",
 }
 TO_ARRAY = ("transpose", "reshape", "squeeze")
-TO_BYTES = ("bytes", "packbits", "vlen", "optional")
+TO_BYTES = ("bytes", "packbits", "vlen", "optional", "vlen-utf8", "vlen-bytes")
 
 
 class Refused(Exception):
@@ -148,11 +150,11 @@ def read_hex(tree):
     return bytes.fromhex(tree)
 
 
-# -- Data types: ("fixed", bits, components, is_signed), ("variable",), ("optional", inside) --------------------------
+# -- Data types: ("fixed", bits, components, is_signed), ("variable", name), ("optional", inside) ---------------------
 
 
 def named_types():
-    types = {"bool": ("fixed", 1, 1, False), "string": ("variable",), "bytes": ("variable",)}
+    types = {"bool": ("fixed", 1, 1, False), "string": ("variable", "string"), "bytes": ("variable", "bytes")}
     for bits in (2, 4, 8, 16, 32, 64):
         types[f"int{bits}"] = ("fixed", bits, 1, True)
         types[f"uint{bits}"] = ("fixed", bits, 1, False)
@@ -161,6 +163,8 @@ def named_types():
 
 TYPES = named_types()
 BOOL, UINT8 = TYPES["bool"], TYPES["uint8"]
+# the codecs whose elements stand each behind its length, and the one type of each
+PREFIXED = {"vlen-utf8": TYPES["string"], "vlen-bytes": TYPES["bytes"]}
 
 
 def read_type(tree):
@@ -393,6 +397,9 @@ def require_fit(chain, shape, of_type, fill):
     elif codec[0] == "vlen":
         require(of_type[0] == "variable", "UnsupportedDataType")
         count_of(shape)
+    elif codec[0] in PREFIXED:
+        require(of_type == PREFIXED[codec[0]], "UnsupportedDataType")
+        count_of(shape)
     else:
         require(of_type[0] == "optional", "UnsupportedDataType")
         require(does_fit(fill, of_type), "InvalidFillValue")
@@ -526,7 +533,7 @@ def decode_fixed(codec, value, count, of_type):
     return [element_at(codec, value, place, of_type) for place in range(count)]
 
 
-# -- vlen, optional --------------------------------------------------------------------------------------------------
+# -- vlen, optional, vlen-utf8, vlen-bytes ---------------------------------------------------------------------------
 
 
 def length_bytes(number):
@@ -616,6 +623,31 @@ def decode_optional(codec, value, shape, of_type):
     return [[next(present)] if it == b"\1" else None for it in flags]
 
 
+def four_bytes(number):
+    require(number < 2**32, "OffsetTooLarge")
+    return number.to_bytes(4, "little")
+
+
+def encode_prefixed(chunk):
+    """How many elements there are, and then each behind the number of its bytes."""
+    return four_bytes(len(chunk)) + b"".join(four_bytes(len(it)) + it for it in chunk)
+
+
+def decode_prefixed(value, count):
+    def due(size):
+        require(size <= len(value), "InvalidBytesLength")
+        return size
+
+    require(int.from_bytes(value[: due(4)], "little") == count, "ElementCount")
+    elements, at = [], 4
+    for _ in range(count):
+        begin = due(at + 4)
+        at = due(begin + int.from_bytes(value[at:begin], "little"))
+        elements.append(value[begin:at])
+    require(at == len(value), "InvalidBytesLength")
+    return elements
+
+
 # -- Chains ----------------------------------------------------------------------------------------------------------
 
 
@@ -628,6 +660,8 @@ def encode_chain(chain, chunk, shape, of_type, fill):
         value = encode_vlen(codec, chunk)
     elif codec[0] == "optional":
         value = encode_optional(codec, chunk, last, of_type)
+    elif codec[0] in PREFIXED:
+        value = encode_prefixed(chunk)
     else:
         value = encode_fixed(codec, chunk, of_type)
     return do_behind(chain, value)
@@ -685,6 +719,8 @@ def decode_content(chain, value, shape, of_type):
         return decode_vlen(codec, value, count_of(last))
     if codec[0] == "optional":
         return decode_optional(codec, value, last, of_type)
+    if codec[0] in PREFIXED:
+        return decode_prefixed(value, count_of(last))
     return decode_fixed(codec, value, count_of(last), of_type)
 
 
@@ -713,7 +749,9 @@ def places_in(indexer, shape):
     if kind == "ranges":
         require(len(rows) == len(shape), "IncompatibleDimensionality")
         require(all(end <= size for (_, end), size in zip(rows, shape)), "OutOfBounds")
-        made(math.prod(end - begin for begin, end in rows))
+        if not made(math.prod(end - begin for begin, end in rows)):
+            # whatever the other ranges have
+            return []
         return [place_of(it, shape) for it in itertools.product(*[range(*row) for row in rows])]
     require(all(len(row) == len(shape) for row in rows), "IncompatibleDimensionality")
     require(all(index < size for row in rows for index, size in zip(row, shape)), "OutOfBounds")
@@ -783,7 +821,7 @@ class Session:
     def elements_at(self, indexer):
         """What a decoder in part reads. What it keeps is decoded before the places are looked at."""
         codec = self.chain[1]
-        is_kept = codec[0] == "optional" or codec[0] == "vlen" and not is_plain(codec)
+        is_kept = codec[0] in ("optional", *PREFIXED) or codec[0] == "vlen" and not is_plain(codec)
         value = None if self.stored is None else undo_behind(self.chain, self.stored)
         kept = decode_content(self.chain, value, self.shape, self.type) if is_kept and value is not None else None
         places = places_in(indexer, self.shape)

@@ -156,4 +156,4 @@ for codec in ({ZSTD}, {BLOSC}):
     raise SystemExit("no refusal")
 z.Chain(["bytes", {GZIP}], (4,), "uint8").encode([1, 2, 3, 4])
 """
-    subprocess.run([sys.executable, "-c", code], check=True, timeout=60)
+    subprocess.run([sys.executable, "-c", code], check=True, timeout=600)

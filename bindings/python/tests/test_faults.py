@@ -180,7 +180,7 @@ def test_a_chunk_that_is_replaced_while_it_is_read_is_read_as_one_of_the_two(dat
     array[...] = 0
     with started(ENDLESS, tmp_path / "a", 10**9, "...") as writer:
         writer.stdout.readline()
-        until, seen, reads = time.time() + 60, set(), 0
+        until, seen, reads = time.time() + 600, set(), 0
         while reads < 200 or (len(seen) < 2 and time.time() < until):
             found = array[index]
             assert is_of_one(found)

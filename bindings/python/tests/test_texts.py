@@ -14,16 +14,19 @@ from samples import (
     transpose,
 )
 
-from zarrs_codecs import Chain, InvalidText, _texts
+from zarrs_codecs import Chain, ElementCount, InvalidBytesLength, InvalidText, _texts
 
 BYTES_OF_ALL = b"".join(bytes([byte]) for byte in range(256))
 
 
-@pytest.mark.parametrize("name, empty", [("string", ""), ("bytes", b"")])
-def test_texts_beside_numpy(name, empty, rng):
+@pytest.mark.parametrize(
+    "name, empty, codec",
+    [("string", "", VLEN), ("bytes", b"", VLEN), ("string", "", "vlen-utf8"), ("bytes", b"", "vlen-bytes")],
+)
+def test_texts_beside_numpy(name, empty, codec, rng):
     for _ in range(20):
         shape = some_shape(rng, int(rng.integers(1, 4)))
-        chain = Chain([transpose(rng.permutation(len(shape))), VLEN], shape, name, empty)
+        chain = Chain([transpose(rng.permutation(len(shape))), codec], shape, name, empty)
         array = some_texts(rng, shape, empty)
         value = chain.encode(array)
         same(chain.decode(value), array)
@@ -36,6 +39,31 @@ def test_texts_beside_numpy(name, empty, rng):
         expected[index] = new if new.ndim else new[()]
         same(chain.decode(chain.write(value, index, new)), expected)
         assert chain.planned_ranges(index) is None
+
+
+@pytest.mark.parametrize("name, empty, codec", [("string", "", "vlen-utf8"), ("bytes", b"", "vlen-bytes")])
+def test_values_are_those_of_numcodecs(name, empty, codec, rng):
+    """zarr-python writes texts by these codecs of numcodecs."""
+    numcodecs = pytest.importorskip("numcodecs")
+    other = numcodecs.VLenUTF8() if codec == "vlen-utf8" else numcodecs.VLenBytes()
+    for _ in range(20):
+        array = some_texts(rng, some_shape(rng, 1), empty)
+        chain = Chain([codec], array.shape, name, empty)
+        value = chain.encode(array)
+        assert value.tobytes() == bytes(other.encode(array))
+        same(chain.decode(np.frombuffer(bytes(other.encode(array)), np.uint8)), array)
+
+
+def test_damage_behind_lengths_is_refused():
+    chain = Chain(["vlen-utf8"], (2,), "string")
+    value = chain.encode(["ab", "c"]).tobytes()
+    for end in range(len(value)):
+        with pytest.raises(InvalidBytesLength):
+            chain.decode(value[:end])
+    with pytest.raises(InvalidBytesLength):
+        chain.decode(value + b"\0")
+    with pytest.raises(ElementCount):
+        chain.decode(b"\3" + value[1:])
 
 
 @pytest.mark.parametrize(

@@ -105,6 +105,8 @@ def test_an_array_of_version_2_is_told(tmp_path):
         ("string", VLEN, "ä", "ä"),
         ("variable_length_bytes", VLEN, "AQI=", b"\1\2"),
         ("bytes", VLEN, [1, 2], b"\1\2"),
+        ("string", {"name": "vlen-utf8"}, "ä", "ä"),
+        ("variable_length_bytes", {"name": "vlen-bytes"}, "AQI=", b"\1\2"),
         (moments("datetime64", "ms", 10), LITTLE, 5, np.datetime64(5, ("ms", 10))),
         (moments("datetime64"), LITTLE, "NaT", np.datetime64("NaT", "s")),
         (moments("timedelta64", "generic"), LITTLE, -1, np.timedelta64(-1)),
@@ -173,8 +175,6 @@ SHARDS = {
     [
         ([SHARDS], "int32", (0, "sharding_indexed")),
         ([LITTLE, {"name": "adler32"}], "int32", (1, "adler32")),
-        ([{"name": "vlen-utf8"}, ZSTD], "string", (0, "vlen-utf8")),
-        ([{"name": "vlen-bytes"}, ZSTD], "variable_length_bytes", (0, "vlen-bytes")),
         ([{"name": "numcodecs.delta", "configuration": {}}, LITTLE], "int32", (0, "numcodecs.delta")),
     ],
 )

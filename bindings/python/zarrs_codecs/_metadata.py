@@ -156,12 +156,10 @@ _LITTLE = {"name": "bytes", "configuration": {"endian": "little"}}
 
 
 def usual_codecs(kind: DataType) -> list[Any]:
-    """Codecs for a data type that leave its elements as they are."""
+    """Codecs for a data type that leave its elements as they are, those that zarr-python has too where there are such."""
     codec: dict[str, Any] = _LITTLE
     if kind.is_variable:
-        inside = {"index_codecs": [_LITTLE], "data_codecs": ["bytes"]}
-        how = {"index_data_type": "uint64", "index_location": "start"}
-        codec = {"name": "zarrs.vlen", "configuration": {**inside, **how}}
+        codec = {"name": "vlen-utf8" if kind.is_text else "vlen-bytes"}
     if kind.is_optional:
         inside = {"mask_codecs": ["packbits"], "data_codecs": [codec]}
         codec = {"name": "zarrs.optional", "configuration": inside}

@@ -125,7 +125,8 @@ class Array:
         refusals of opening such an array where there is none.
 
         `data_type` is as `zarr.json` has it, `fill_value` so or as Python does; None is zero, empty or absent.
-        Without `codecs` the elements are stored as they are, the lowest byte first.
+        Without `codecs` the elements are stored as they are, the lowest byte first, and texts and byte strings
+        as zarr-python stores them, by `vlen-utf8` and `vlen-bytes`; `zarrs.vlen` reads a few of them by themselves.
 
         >>> import tempfile
         >>> with tempfile.TemporaryDirectory() as folder:
