@@ -4,8 +4,8 @@ use Rattle.std.specs.Option.{option_map}
 use Rattle.zarrs_chunk.specs.declared.codec_error.CodecError.TheVariants.{InvalidBytesLength}
 use Rattle.zarrs_data_type.specs.ElementType.{ElementType, fixed, text, bytes, optional, element_size}
 use Rattle.zarrs_array_bytes.specs.Held.{Held, flen, vlen, masked, byte_count}
-use Rattle.zarrs_array_bytes.specs.Validity.{LengthRefusal, levels_fit}
-use Rattle.zarrs_array_bytes.specs.Laws.{bytes_each, ContainersAreCounted}
+use Rattle.zarrs_array_bytes.specs.Validity.{LengthRefusal, levels_fit, validity}
+use Rattle.zarrs_array_bytes.specs.Laws.{bytes_each}
 use Rattle.zarrs_array_bytes.proofs.ValidLemmas.{both_ok, length_found}
 
 one_more : (o : Option ℕ) (each : ℕ) → option_map (λ (n : ℕ). n + 1) o ≡ Some each → (n : ℕ) × (o ≡ Some n) × (each ≡ n + 1)
@@ -30,5 +30,5 @@ fitting_count refusal (optional type) count each (masked inner mask) e fit =
 fitting_count refusal (optional type) count each (flen raw) e fit = cc
 fitting_count refusal (optional type) count each (vlen raw offsets) e fit = cc
 
-pub containers_are_counted : ContainersAreCounted
+pub containers_are_counted : (type : ElementType) (count each : ℕ) (held : Held) → bytes_each type ≡ Some each → validity type count held ≡ Ok tt → byte_count held ≡ count * each
 containers_are_counted type count each held e valid = fitting_count InvalidBytesLength type count each held e (both_ok _ _ valid).1

@@ -4,11 +4,10 @@ use Rattle.std.proofs.lemmas.List.FromFn.{get_or-map-range_with_len, length-map-
 use Rattle.std.proofs.lemmas.Nat.{row_fits}
 use Rattle.zarrs_chunk.specs.declared.codec_error.CodecError.TheVariants.{InvalidBytesLength}
 use Rattle.zarrs_data_type.specs.ElementType.{ElementType, fixed, text, bytes, optional, element_size}
-use Rattle.zarrs_data_type.specs.Element.{Element, IsElement, AreElements}
+use Rattle.zarrs_data_type.specs.Element.{Element, IsElement, AreElements, Chunk}
 use Rattle.zarrs_array_bytes.specs.Held.{Held, flen, vlen, masked}
 use Rattle.zarrs_array_bytes.specs.Elements.{under_flag, element_at, elements}
-use Rattle.zarrs_array_bytes.specs.Validity.{LengthRefusal, levels_fit}
-use Rattle.zarrs_array_bytes.specs.Laws.{HeldAreElements}
+use Rattle.zarrs_array_bytes.specs.Validity.{LengthRefusal, levels_fit, Holds}
 use Rattle.zarrs_array_bytes.proofs.ElementLemmas.{length_piece}
 use Rattle.zarrs_array_bytes.proofs.ValidLemmas.{both_ok, length_found}
 
@@ -39,6 +38,6 @@ AreElements-elements refusal type count held fit = λ k d l.
     let n : length (elements type count held) ≡ count = length-map-range_with_len (element_at type held) 0 count in
     subst (IsElement type) (sym (get_or-map-range_with_len (element_at type held) 0 count k k d (omega arith) (omega arith))) (IsElement-element_at refusal type count held fit k (omega arith))
 
-pub AreElements-held : HeldAreElements
+pub AreElements-held : (type : ElementType) (held : Held) (chunk : Chunk) → Holds type held chunk → AreElements type chunk
 AreElements-held type held chunk holds =
     subst (AreElements type) holds.elements_are (AreElements-elements InvalidBytesLength type (length chunk) held (both_ok _ _ holds.valid).1)

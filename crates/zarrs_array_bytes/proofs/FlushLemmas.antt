@@ -5,14 +5,14 @@ use Rattle.std.proofs.lemmas.Bool.{and_from}
 use Rattle.std.proofs.lemmas.List.{get_or-map, length-map}
 use Rattle.std.proofs.lemmas.Grind.{same_number_lists}
 use Rattle.zarrs_chunk.specs.declared.codec_error.CodecError.TheVariants.{InvalidBytesLength}
-use Rattle.zarrs_data_type.specs.ElementType.{fixed, text, bytes, optional}
-use Rattle.zarrs_data_type.specs.Element.{plain}
-use Rattle.zarrs_array_bytes.specs.Held.{Raw, vlen}
+use Rattle.zarrs_data_type.specs.ElementType.{ElementType, fixed, text, bytes, optional}
+use Rattle.zarrs_data_type.specs.Element.{plain, Chunk}
+use Rattle.zarrs_array_bytes.specs.Held.{Raw, Held, vlen}
 use Rattle.zarrs_array_bytes.specs.Elements.{cut, elements, element_at}
 use Rattle.zarrs_array_bytes.specs.Offsets.{rises, is_offsets, last_of}
 use Rattle.zarrs_array_bytes.specs.Pieces.{bytes_with_offsets}
-use Rattle.zarrs_array_bytes.specs.Tight.{are_flush, from_first, without_front, HoldsSame}
-use Rattle.zarrs_array_bytes.specs.Validity.{LengthRefusal, sizes_fit, levels_fit}
+use Rattle.zarrs_array_bytes.specs.Tight.{are_flush, from_first, without_front}
+use Rattle.zarrs_array_bytes.specs.Validity.{LengthRefusal, sizes_fit, levels_fit, Holds}
 use Rattle.zarrs_array_bytes.specs.SameBytesLaws.{both_true}
 use Rattle.zarrs_array_bytes.proofs.OffsetLemmas.{rising_steps, offsets_rise, offsets_end}
 use Rattle.zarrs_array_bytes.proofs.RunLemmas.{rising_between}
@@ -99,6 +99,10 @@ text_front raw os h n long =
 
 front_fits : (refusal : LengthRefusal) (n : ℕ) (raw : Raw) (os : List ℕ) → length os ≡ n + 1 → levels_fit refusal text n (without_front raw os) ≡ Ok tt
 front_fits refusal n raw os long = length_due refusal (length (from_first os)) (n + 1) (length-from_first os ∙ long)
+
+-- a container holds each chunk that another one holds
+abbrev pub HoldsSame : Held → Held → Type 0
+HoldsSame held other = (type : ElementType) (chunk : Chunk) → Holds type held chunk → Holds type other chunk
 
 pub front_same : (raw : Raw) (os : List ℕ) → is_offsets os ≡ true → HoldsSame (vlen raw os) (without_front raw os)
 front_same raw os h (fixed w c s) chunk holds =

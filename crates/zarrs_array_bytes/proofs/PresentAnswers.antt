@@ -14,14 +14,14 @@ use Rattle.zarrs_array_bytes.specs.Extracted.{container_selection, IsSmall}
 use Rattle.zarrs_array_bytes.specs.Filled.{blank_elements}
 use Rattle.zarrs_array_bytes.specs.Update.{update}
 use Rattle.zarrs_array_bytes.specs.Parts.{with_mask}
-use Rattle.zarrs_array_bytes.specs.Laws.{PresentElementsAreHeld, ExpandedElementsAreHeld, ExpansionRestores, ExpansionKeepsElements}
+use Rattle.zarrs_array_bytes.specs.Laws.{PresentElementsAreHeld, ExpandedElementsAreHeld, ExpansionKeepsElements}
 use Rattle.zarrs_array_bytes.specs.Present.{present_elements, mask_of, expansion, present_places, are_all_present, present_chunk, container_spread, container_expansion, expansion_fits, expansion_of, expanded_chunk}
 use Rattle.zarrs_array_bytes.proofs.ValidLemmas.{both_ok, then_ok, length_found, length_due}
 use Rattle.zarrs_array_bytes.proofs.ExtractLemmas.{small_holds}
 use Rattle.zarrs_array_bytes.proofs.FilledLemmas.{blank_fits}
 use Rattle.zarrs_array_bytes.proofs.UpdatedLemmas.{flags, elements-flags, length-elements, updated_holds}
 use Rattle.zarrs_array_bytes.proofs.WriteLemmas.{length-update}
-use Rattle.zarrs_array_bytes.proofs.PresentLemmas.{marked, present_places-marked, count_is, present_elements-flags, flags-expanded, flags-all, present_elements-all, length-expanded, expanded-present, present-expanded, mask_of-expanded, mask_of-flags}
+use Rattle.zarrs_array_bytes.proofs.PresentLemmas.{marked, present_places-marked, count_is, present_elements-flags, flags-expanded, flags-all, present_elements-all, length-expanded, present-expanded, mask_of-expanded, mask_of-flags}
 
 -- the elements under a mask, by those that stand there
 under : (t : ElementType) (h : Held) (m : Raw) → elements (optional t) (length m.items) (masked h m) ≡ flags m.items (elements t (length m.items) h)
@@ -183,9 +183,6 @@ expanded_held t h mask chunk holds count sizes =
     let valid : validity t (length (present_places mask)) h ≡ Ok tt = subst (λ n. validity t n h ≡ Ok tt) (sym parts.1) holds.valid in
     let are : elements t (length (present_places mask)) h ≡ chunk = ap (λ n. elements t n h) parts.1 ∙ holds.elements_are in
     rw (parts.0, valid, sizes) (ap (λ es. Ok (expansion mask es)) are)
-
-pub expansion_restores : ExpansionRestores
-expansion_restores = expanded-present
 
 pub expansion_keeps : ExpansionKeepsElements
 expansion_keeps mask es flags-are long =

@@ -14,8 +14,7 @@ use Rattle.zarrs_array_bytes.specs.SameBytes.{is_same_held}
 use Rattle.zarrs_array_bytes.specs.SameBytesLaws.{numbers_same}
 use Rattle.zarrs_array_bytes.specs.Blank.{blank_element}
 use Rattle.zarrs_array_bytes.specs.Tight.{are_flush, IsTight}
-use Rattle.zarrs_array_bytes.specs.Laws.{TightContainersAreSame}
-use Rattle.zarrs_array_bytes.specs.Validity.{length_is, sizes_fit, levels_fit}
+use Rattle.zarrs_array_bytes.specs.Validity.{length_is, sizes_fit, levels_fit, Holds}
 use Rattle.zarrs_array_bytes.proofs.ElementLemmas.{length_between}
 use Rattle.zarrs_array_bytes.proofs.FlushLemmas.{AreFlush, flush_parts, same_elements}
 use Rattle.zarrs_array_bytes.proofs.OffsetLemmas.{rising_last}
@@ -135,7 +134,7 @@ same_held (optional t) n (masked h m) (vlen q us) e f a b same = let never : ⊥
 same_held (optional t) n (flen r) g e f a b same = let never : ⊥ = cc in absurd never
 same_held (optional t) n (vlen r os) g e f a b same = let never : ⊥ = cc in absurd never
 
-pub tight_are_same : TightContainersAreSame
+pub tight_are_same : (type : ElementType) (a b : Held) (chunk : Chunk) → IsTight type a → IsTight type b → Holds type a chunk → Holds type b chunk → is_same_held a b ≡ true
 tight_are_same t h g chunk a b c d =
     let n : ℕ = length chunk in
     let left = both_ok (sizes_fit t n) (levels_fit InvalidBytesLength t n h) c.valid in

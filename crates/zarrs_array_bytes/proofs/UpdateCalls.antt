@@ -12,7 +12,8 @@ use Rattle.zarrs_array_bytes.specs.Elements.{cut}
 use Rattle.zarrs_array_bytes.specs.Pieces.{pieces, ends, bytes_with_offsets, variable_of}
 use Rattle.zarrs_array_bytes.specs.Validity.{LengthRefusal, levels_fit}
 use Rattle.zarrs_array_bytes.specs.Update.{update, cuts, cuts_update, container_update, with_runs}
-use Rattle.zarrs_array_bytes.specs.Sources.{sources, source_bytes, IsSourceOf}
+use Rattle.zarrs_array_bytes.specs.Sources.{source_bytes, IsSourceOf}
+use Rattle.zarrs_array_bytes.specs.declared.sources.Source.{Source}
 use Rattle.zarrs_array_bytes.specs.declared.sources.Source.TheVariants.{Old, New}
 use Rattle.zarrs_array_bytes.specs.SameBytesLaws.{both_true}
 use Rattle.zarrs_array_bytes.proofs.OffsetLemmas.{offsets_rise, offsets_begin, offsets_end}
@@ -68,6 +69,10 @@ inner_count e t u m (flen q) f i k = cc
 inner_count e t u m (vlen q us) f i k = cc
 
 -- ---- sources
+
+-- for each of so many places: its old element, or the one of the new data that was written last
+abbrev pub sources : ℕ → List ℕ → List Source
+sources count places = update (map Old (range_with_len 0 count)) places (map New (range_with_len 0 (length places)))
 
 old_sources : (n m a k : ℕ) → a + k ≤ n → All (IsSourceOf n m) (map Old (range_with_len a k))
 old_sources n m a zero l = λ i d h. absurd (omega arith)

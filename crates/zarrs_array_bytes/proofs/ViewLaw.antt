@@ -1,6 +1,6 @@
 -- What stands in an array's bytes after a view was written: at its places the new elements, elsewhere the old ones.
 use Rattle.std.proofs.Common.{◌≡◌, ◌≢◌, ℕ, ◌*◌, ◌^◌, ◌<◌, ◌==◌, Bool, true, false, nat_lt, List, [], length, map, get_or, Result, Ok, Err, refl, sym, ap, ◌∙◌, arith, eqb-true, subst}
-use Rattle.std.specs.List.{All, concat}
+use Rattle.std.specs.List.{All, concat, flat_map}
 use Rattle.std.specs.List.Sorted.{IsStrictlyIncreasing}
 use Rattle.std.specs.Prelude.{IfOk}
 use Rattle.std.proofs.lemmas.List.{get_or-map, ext_get_or, length-map}
@@ -14,8 +14,8 @@ use Rattle.zarrs_chunk.specs.declared.codec_error.CodecError.{CodecError}
 use Rattle.zarrs_chunk.specs.declared.codec_error.CodecError.TheVariants.{Overflow, InvalidBytesLength, TargetMismatch}
 use Rattle.zarrs_chunk.proofs.PlaceLaws.{places_below, places_rise}
 use Rattle.zarrs_array_bytes.specs.Elements.{piece}
-use Rattle.zarrs_array_bytes.specs.FixedView.{FixedView, fixed_view, written_bytes, written_view, elements_fit}
-use Rattle.zarrs_array_bytes.specs.Laws.{IsView, IsUntouched, bytes_at_places}
+use Rattle.zarrs_array_bytes.specs.FixedView.{FixedView, fixed_view, written_bytes, elements_fit}
+use Rattle.zarrs_array_bytes.specs.Laws.{IsView, IsUntouched}
 use Rattle.zarrs_array_bytes.specs.Pieces.{pieces}
 use Rattle.zarrs_array_bytes.specs.Update.{update}
 use Rattle.zarrs_array_bytes.proofs.OffsetLemmas.{flat_map-concat}
@@ -69,7 +69,7 @@ read_place view new v long i l =
     (λ j after n. rises_behind view.places v.rising i j after n)
     ∙ piece_of size (length view.places) new i l
 
-pub written_read : (view : FixedView) (new : List ℕ) → IsView view → elements_fit view new ≡ Ok tt → bytes_at_places (written_view view new) ≡ new
+pub written_read : (view : FixedView) (new : List ℕ) → IsView view → elements_fit view new ≡ Ok tt → flat_map (piece view.element_size (written_bytes view new)) view.places ≡ new
 written_read view new v fit =
     let size = view.element_size in
     let long : length new ≡ length view.places * size = eqb-true _ _ (demand_ok _ TargetMismatch fit) in

@@ -1,5 +1,5 @@
 -- What is under absent elements.
-use Rattle.std.specs.Prelude.{◌≡◌, ℕ, ◌<◌, true, nat_lt, List, [], length, replicate, slice_index, Result, IfOk}
+use Rattle.std.specs.Prelude.{◌≡◌, ℕ, ◌<◌, true, nat_lt, List, [], length, replicate, slice_index}
 use Rattle.std.specs.List.{list_all}
 use Rattle.zarrs_data_type.specs.ElementType.{ElementType, fixed, text, bytes, optional, element_size}
 use Rattle.zarrs_data_type.specs.Element.{Element, plain, absent}
@@ -27,11 +27,3 @@ OuterAreBlank _ held = Unit {0}
 abbrev pub AbsentAreBlank : ElementType → Held → Type 0
 AbsentAreBlank (optional type) (masked inner mask) = IsOverBlanks mask.items type inner × AbsentAreBlank type inner
 AbsentAreBlank _ held = Unit {0}
-
--- where they do in a container, they do in what is made of it
-abbrev pub KeepsBlanks : {E : Type 0} → ElementType → Held → Result Held E → Type 0
-KeepsBlanks type held result = AbsentAreBlank type held → IfOk result (AbsentAreBlank type)
-
--- where they do in a container, they do in what is made of it by putting it under a mask
-abbrev pub ExpandsBlanks : {E : Type 0} → ElementType → Held → Result Held E → Type 0
-ExpandsBlanks type held result = AbsentAreBlank type held → IfOk result (AbsentAreBlank (optional type))

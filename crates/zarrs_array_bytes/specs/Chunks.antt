@@ -1,19 +1,16 @@
 -- What the calls over a chunk's container return, as chunks.
 use Rattle.std.specs.Prelude.{ℕ, List, length, replicate, Result, Ok}
-use Rattle.zarrs_chunk.specs.Answer.{◌>>=◌, demand, GivesBy}
+use Rattle.zarrs_chunk.specs.Answer.{◌>>=◌, demand}
 use Rattle.zarrs_chunk.specs.ChunkShape.{product}
-use Rattle.zarrs_chunk.specs.Indexer.{selection_of}
-use Rattle.zarrs_chunk.specs.Runs.{joined_runs}
 use Rattle.zarrs_chunk.specs.Selection.{Selection, places_of}
 use Rattle.zarrs_chunk.specs.declared.codec_error.CodecError.{CodecError}
 use Rattle.zarrs_chunk.specs.declared.codec_error.CodecError.TheVariants.{InvalidFillValue}
-use Rattle.zarrs_chunk.specs.declared.indexer.Indexer.{Indexer}
 use Rattle.zarrs_data_type.specs.ElementType.{ElementType}
 use Rattle.zarrs_data_type.specs.FillValue.{fill_fits}
 use Rattle.zarrs_data_type.specs.Element.{Chunk, fill_element}
 use Rattle.zarrs_array_bytes.specs.Held.{Held}
 use Rattle.zarrs_array_bytes.specs.Elements.{elements, select}
-use Rattle.zarrs_array_bytes.specs.Validity.{Holds, sizes_fit, validity, data_fit}
+use Rattle.zarrs_array_bytes.specs.Validity.{sizes_fit, validity, data_fit}
 use Rattle.zarrs_array_bytes.specs.Update.{update}
 
 -- so many fill elements, or the first error
@@ -22,10 +19,6 @@ fill_chunk type count fill = do
   _ ← demand (fill_fits type fill) InvalidFillValue
   _ ← sizes_fit type count
   Ok (replicate count (fill_element type fill))
-
--- a container of so many fill elements is given, or the first error
-abbrev pub GivesFill : ElementType → ℕ → List ℕ → Result Held CodecError → Type 0
-GivesFill type count fill result = GivesBy (Holds type) result (fill_chunk type count fill)
 
 -- the elements at these places of a container of so many, or the first error
 abbrev pub chunk_at : ElementType → ℕ → List ℕ → Held → Result Chunk CodecError
@@ -38,15 +31,6 @@ abbrev pub selected_chunk : ElementType → List ℕ → Selection → Held → 
 selected_chunk type sizes selection held = do
   places ← places_of selection sizes
   chunk_at type (product sizes) places held
-
--- a container of the elements at the places of the runs is given, or the first error
-abbrev pub ExtractsRuns : ElementType → ℕ → List (ℕ × ℕ) → Held → Result Held CodecError → Type 0
-ExtractsRuns type count runs held result = GivesBy (Holds type) result (chunk_at type count (joined_runs runs) held)
-
--- the same of the elements at an indexer's tuples
-abbrev pub ExtractsSelected : ElementType → List ℕ → Indexer → Held → Result Held CodecError → Type 0
-ExtractsSelected type sizes indexer held result =
-    GivesBy (Holds type) result (selected_chunk type sizes (selection_of indexer) held)
 
 -- the old elements have the type and their count, and there is one new element of the type for each place, or the first error
 abbrev pub update_fit : ElementType → ℕ → List ℕ → Held → Held → Result (Unit {0}) CodecError
@@ -65,13 +49,3 @@ abbrev pub chunk_update : ElementType → List ℕ → Selection → Held → He
 chunk_update type sizes selection held new = do
   places ← places_of selection sizes
   update_at_places type (product sizes) places held new
-
--- a container of the chunk with the elements at the places of the runs replaced is given, or the first error
-abbrev pub UpdatesRuns : ElementType → ℕ → List (ℕ × ℕ) → Held → Held → Result Held CodecError → Type 0
-UpdatesRuns type count runs old new result =
-    GivesBy (Holds type) result (update_at_places type count (joined_runs runs) old new)
-
--- the same of the elements at an indexer's tuples
-abbrev pub UpdatesSelected : ElementType → List ℕ → Indexer → Held → Held → Result Held CodecError → Type 0
-UpdatesSelected type sizes indexer old new result =
-    GivesBy (Holds type) result (chunk_update type sizes (selection_of indexer) old new)

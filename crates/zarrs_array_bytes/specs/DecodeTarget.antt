@@ -1,7 +1,6 @@
 -- What a target is seen as, into which a chunk is decoded: a view of the elements, and one for each mask over them.
 use Rattle.std.specs.Prelude.{◌≡◌, ℕ, ◌*◌, ◌==◌, ◌&&◌, Bool, true, false, List, [], ◌∷◌, length, Result}
 use Rattle.zarrs_chunk.specs.Answer.{◌>>=◌, demand}
-use Rattle.zarrs_chunk.specs.ChunkShape.{product}
 use Rattle.zarrs_chunk.specs.declared.codec_error.CodecError.{CodecError}
 use Rattle.zarrs_chunk.specs.declared.codec_error.CodecError.TheVariants.{UnsupportedTarget, TargetMismatch}
 use Rattle.zarrs_data_type.specs.ElementType.{ElementType, fixed, text, bytes, optional, element_size}
@@ -39,10 +38,6 @@ abbrev pub target_fit : ElementType → ℕ → DecodeTarget → Result (Unit {0
 target_fit type count target = do
   _ ← demand (has_one_size type) UnsupportedTarget
   demand (levels_taken type count target.masks target.values) TargetMismatch
-
--- the target accepts a chunk of this shape and type, or the first error
-abbrev pub shape_fit : ElementType → List ℕ → DecodeTarget → Result (Unit {0}) CodecError
-shape_fit type sizes target = target_fit type (product sizes) target
 
 -- the views of masks, with the mask bytes of a container written into them, level by level
 abbrev pub written_masks : List FixedView → Held → List FixedView

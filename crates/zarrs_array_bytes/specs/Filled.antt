@@ -1,5 +1,5 @@
 -- A container in which each element is the fill value.
-use Rattle.std.specs.Prelude.{◌≡◌, ℕ, ◌+◌, ◌*◌, List, [], replicate, if◌then◌else◌}
+use Rattle.std.specs.Prelude.{ℕ, ◌+◌, ◌*◌, List, [], replicate, if◌then◌else◌}
 use Rattle.std.specs.List.{flat_map}
 use Rattle.zarrs_data_type.specs.ElementType.{ElementType, fixed, text, bytes, optional, element_size}
 use Rattle.zarrs_data_type.specs.FillValue.{is_null, front_of}
@@ -30,7 +30,3 @@ container_fill bytes count fill = variable_of (copies_with_offsets fill count)
 container_fill (optional type) count fill =
     if is_null fill then masked (blank_elements type count) (owned_bytes (replicate count 0))
     else masked (container_fill type count (front_of fill)) (owned_bytes (replicate count 1))
-
--- the container has so many elements, each of them the fill value
-abbrev pub IsFill : ElementType → ℕ → List ℕ → Held → Type 0
-IsFill type count fill held = held ≡ container_fill type count fill

@@ -3,7 +3,6 @@ use Rattle.std.specs.Prelude.{ℕ, ◌==◌, nat_lt, List, [], length, Result, O
 use Rattle.std.specs.List.{list_all}
 use Rattle.std.proofs.Common.{Bor, Global}
 use Rattle.std.specs.declared.borrow.CowSlice.{CowSlice}
-use Rattle.std.specs.declared.boxed.Box.{Box}
 use Rattle.zarrs_chunk.specs.Answer.{◌>>=◌, demand, seen}
 use Rattle.zarrs_chunk.specs.declared.codec_error.CodecError.{CodecError}
 use Rattle.zarrs_chunk.specs.declared.codec_error.CodecError.TheVariants.{ArrayBytesKind, InvalidOffsets, MaskValue}
@@ -44,19 +43,9 @@ optional_part (masked inner mask) = Ok (inner, mask)
 abbrev pub raw_and_offsets : CowSlice ℕ Global × List ℕ → Raw × List ℕ
 raw_and_offsets parts = (raw_of parts.0, parts.1)
 
--- a given container and its mask, as parts of a container
-abbrev pub inner_and_mask : Box Held Global × CowSlice ℕ Global → Held × Raw
-inner_and_mask parts = (parts.0.value, raw_of parts.1)
-
--- the same parts, of whose bytes it doesn't matter who owns them
+-- the same bytes, whoever owns them
 abbrev pub fixed_items : Held → Result (List ℕ) CodecError
 fixed_items held = seen (λ raw. raw.items) (fixed_part held)
-
-abbrev pub variable_items : Held → Result (List ℕ × List ℕ) CodecError
-variable_items held = seen (λ parts. (parts.0.items, parts.1)) (variable_part held)
-
-abbrev pub optional_items : Held → Result (Held × List ℕ) CodecError
-optional_items held = seen (λ parts. (parts.0, parts.1.items)) (optional_part held)
 
 -- two values that are lent
 abbrev pub lent_both : {A B : Type 0} → Bor A × Bor B → A × B

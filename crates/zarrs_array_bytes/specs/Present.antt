@@ -1,14 +1,14 @@
 -- Elements under a mask: those that are present, extracted and put back.
-use Rattle.std.specs.Prelude.{◌≡◌, ℕ, zero, suc, ◌*◌, ◌==◌, Bool, true, nat_lt, if◌then◌else◌, List, [], ◌∷◌, length, map, replicate, slice_index, take, Result, Ok}
+use Rattle.std.specs.Prelude.{◌≡◌, ℕ, zero, suc, ◌*◌, ◌==◌, Bool, nat_lt, if◌then◌else◌, List, [], ◌∷◌, length, map, slice_index, take, Result, Ok}
 use Rattle.std.specs.List.{filter, list_all, range_with_len}
-use Rattle.zarrs_chunk.specs.Answer.{◌>>=◌, demand, GivesBy}
+use Rattle.zarrs_chunk.specs.Answer.{◌>>=◌, demand}
 use Rattle.zarrs_chunk.specs.declared.codec_error.CodecError.{CodecError}
 use Rattle.zarrs_chunk.specs.declared.codec_error.CodecError.TheVariants.{MaskValue}
 use Rattle.zarrs_data_type.specs.ElementType.{ElementType, optional}
 use Rattle.zarrs_data_type.specs.Element.{Element, absent, present, Chunk}
-use Rattle.zarrs_array_bytes.specs.Held.{Raw, Held, masked, owned_bytes}
+use Rattle.zarrs_array_bytes.specs.Held.{Held, masked, owned_bytes}
 use Rattle.zarrs_array_bytes.specs.Elements.{elements}
-use Rattle.zarrs_array_bytes.specs.Validity.{Holds, sizes_fit, validity, validated}
+use Rattle.zarrs_array_bytes.specs.Validity.{sizes_fit, validity}
 use Rattle.zarrs_array_bytes.specs.Pieces.{pieces_at}
 use Rattle.zarrs_array_bytes.specs.Filled.{blank_elements}
 use Rattle.zarrs_array_bytes.specs.Update.{container_written, pieces_update}
@@ -55,15 +55,6 @@ present_chunk type held mask = do
   _ ← validity type (length mask) held
   Ok (present_elements (elements (optional type) (length mask) (masked held (owned_bytes mask))))
 
--- a container of the elements that are present under a mask is given, or the first error
-abbrev pub ExtractsPresent : ElementType → Held → List ℕ → Result Held CodecError → Type 0
-ExtractsPresent type held mask result = GivesBy (Holds type) result (present_chunk type held mask)
-
--- where all are present, the container itself is given, or the first error
-abbrev pub KeptIfAllPresent : ElementType → Held → List ℕ → Result Held CodecError → Type 0
-KeptIfAllPresent type held mask result =
-    are_all_present mask ≡ true → result ≡ validated type (length mask) held
-
 -- a container has one element for each that is present under a mask of zeros and ones, or the first error
 abbrev pub expansion_fits : ElementType → Held → List ℕ → Result (Unit {0}) CodecError
 expansion_fits type held mask = do
@@ -76,10 +67,6 @@ abbrev pub expanded_chunk : ElementType → Held → List ℕ → Result Chunk C
 expanded_chunk type held mask = do
   _ ← expansion_fits type held mask
   Ok (expansion mask (elements type (length (present_places mask)) held))
-
--- a container of the elements put back under a mask is given, or the first error
-abbrev pub ExpandsPresent : ElementType → Held → List ℕ → Result Held CodecError → Type 0
-ExpandsPresent type held mask result = GivesBy (Holds (optional type)) result (expanded_chunk type held mask)
 
 -- blank elements, as many as there are mask bytes, with those at the present places replaced by the elements of a container in order
 abbrev pub container_spread : ElementType → Held → List ℕ → Held
@@ -96,10 +83,6 @@ expansion_of type held mask = do
   _ ← expansion_fits type held mask
   Ok (container_expansion type held mask)
 
--- the container is the elements of another one, put back under a mask
-abbrev pub IsExpansion : ElementType → Held → Raw → Held → Type 0
-IsExpansion type held mask expanded = expanded ≡ masked (container_expansion type held mask.items) mask
-
 -- the bytes begin with those of the elements of `size` at which a mask byte isn't 0, one after another
 abbrev pub BeginsWithPresent : ℕ → List ℕ → List ℕ → List ℕ → Type 0
 BeginsWithPresent size mask items out =
@@ -108,7 +91,3 @@ BeginsWithPresent size mask items out =
 -- as many elements of `size` as there are mask bytes, with those at which the byte isn't 0 replaced by the new ones in order
 abbrev pub present_update : ℕ → List ℕ → List ℕ → List ℕ → List ℕ
 present_update size mask old new = pieces_update size (length mask) old (present_places mask) new
-
--- the same, where the old ones are zeros
-abbrev pub spread_pieces : ℕ → List ℕ → List ℕ → List ℕ
-spread_pieces size mask new = present_update size mask (replicate (length mask * size) 0) new

@@ -4,11 +4,9 @@ use Rattle.std.specs.List.{list_all}
 use Rattle.zarrs_chunk.specs.Answer.{◌>>=◌, demand}
 use Rattle.zarrs_chunk.specs.declared.codec_error.CodecError.{CodecError}
 use Rattle.zarrs_chunk.specs.declared.codec_error.CodecError.TheVariants.{InvalidOffsets}
-use Rattle.zarrs_data_type.specs.ElementType.{ElementType, optional}
-use Rattle.zarrs_data_type.specs.Element.{Chunk}
+use Rattle.zarrs_data_type.specs.ElementType.{ElementType}
 use Rattle.zarrs_array_bytes.specs.Held.{Raw, Held, flen, vlen, masked}
 use Rattle.zarrs_array_bytes.specs.Offsets.{is_offsets, last_of}
-use Rattle.zarrs_array_bytes.specs.Validity.{Holds}
 use Rattle.zarrs_array_bytes.specs.Blank.{AbsentAreBlank}
 
 -- offsets begin at 0, never fall and end at the end of the bytes
@@ -38,10 +36,6 @@ GivesFlush result = IfOk result IsFlush
 abbrev pub KeepsTight : {E : Type 0} → ElementType → Held → Result Held E → Type 0
 KeepsTight type held result = IsTight type held → IfOk result (IsTight type)
 
--- where a container is tight, so is what is made of it by putting it under a mask
-abbrev pub ExpandsTight : {E : Type 0} → ElementType → Held → Result Held E → Type 0
-ExpandsTight type held result = IsTight type held → IfOk result (IsTight (optional type))
-
 -- where blank elements are under absent ones in a container, what is extracted of it is tight
 abbrev pub ExtractsTight : {E : Type 0} → ElementType → Held → Result Held E → Type 0
 ExtractsTight type held result = AbsentAreBlank type held → IfOk result (IsTight type)
@@ -49,10 +43,6 @@ ExtractsTight type held result = AbsentAreBlank type held → IfOk result (IsTig
 -- where they do in the old elements and in the new ones, what is made of both is tight
 abbrev pub UpdatesTight : {E : Type 0} → ElementType → Held → Held → Result Held E → Type 0
 UpdatesTight type old new result = AbsentAreBlank type old → AbsentAreBlank type new → IfOk result (IsTight type)
-
--- a container holds each chunk that another one holds
-abbrev pub HoldsSame : Held → Held → Type 0
-HoldsSame held other = (type : ElementType) (chunk : Chunk) → Holds type held chunk → Holds type other chunk
 
 -- offsets counted from the first one
 abbrev pub from_first : List ℕ → List ℕ

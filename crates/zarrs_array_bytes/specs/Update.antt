@@ -4,8 +4,7 @@ use Rattle.std.specs.List.{concat, range_with_len}
 use Rattle.zarrs_data_type.specs.ElementType.{ElementType, fixed, text, bytes, optional, element_size}
 use Rattle.zarrs_array_bytes.specs.Held.{Held, flen, vlen, masked, owned_bytes}
 use Rattle.zarrs_array_bytes.specs.Elements.{cut}
-use Rattle.zarrs_array_bytes.specs.Parts.{bytes_in, offsets_in}
-use Rattle.zarrs_array_bytes.specs.Pieces.{pieces, ends, bytes_with_offsets, variable_of, masked_by}
+use Rattle.zarrs_array_bytes.specs.Pieces.{pieces, ends, bytes_with_offsets, variable_of}
 
 -- the list with the item at the first place replaced by the first new one, then the item at the second place by the second, and so on
 abbrev pub update : {A : Type 0} → List A → List ℕ → List A → List A
@@ -40,14 +39,6 @@ with_runs size old (run ∷ runs) new =
 abbrev pub cuts_update : List ℕ → List ℕ → List ℕ → List ℕ → List ℕ → List ℕ × List ℕ
 cuts_update offsets items new_offsets new_items places =
     bytes_with_offsets (λ part. part) (update (cuts (length offsets - 1) offsets items) places (cuts (length new_offsets - 1) new_offsets new_items))
-
--- the same as a container, with the new bytes and offsets from one
-abbrev pub variable_update : List ℕ → List ℕ → List ℕ → Held → Held
-variable_update offsets items places new = variable_of (cuts_update offsets items (offsets_in new) (bytes_in new) places)
-
--- the container under a mask with the flags at the places replaced by the new ones
-abbrev pub mask_update : Held → List ℕ → List ℕ → List ℕ → Held
-mask_update inner flags places new = masked_by inner (update flags places new)
 
 -- the bytes of so many elements of one size, with the elements at the places replaced by the new ones
 abbrev pub pieces_update : ℕ → ℕ → List ℕ → List ℕ → List ℕ → List ℕ

@@ -1,6 +1,6 @@
 -- Whether a container has the kind of a type and so many elements, and the first error where not.
 use Rattle.std.specs.Prelude.{◌≡◌, ℕ, ◌+◌, ◌*◌, length, ◌==◌, ◌^◌, nat_lt, Result, Ok, Err}
-use Rattle.zarrs_chunk.specs.Answer.{◌>>=◌, demand, seen}
+use Rattle.zarrs_chunk.specs.Answer.{◌>>=◌, demand}
 use Rattle.zarrs_chunk.specs.declared.codec_error.CodecError.{CodecError}
 use Rattle.zarrs_chunk.specs.declared.codec_error.CodecError.TheVariants.{Overflow, ArrayBytesKind, InvalidBytesLength, DataMismatch}
 use Rattle.zarrs_data_type.specs.ElementType.{ElementType, fixed, text, bytes, optional, element_size}
@@ -42,10 +42,6 @@ abbrev pub validity : ElementType → ℕ → Held → Result (Unit {0}) CodecEr
 validity type count held = do
   _ ← sizes_fit type count
   levels_fit InvalidBytesLength type count held
-
--- the container, where it has so many elements of the type, or the first error
-abbrev pub validated : ElementType → ℕ → Held → Result Held CodecError
-validated type count held = seen (λ _. held) (validity type count held)
 
 -- any wrong length of new data
 abbrev pub data_mismatch : LengthRefusal

@@ -1,17 +1,19 @@
 //! The container of a chunk's elements: how it is made, its parts, its size and whether it is valid.
 ghost use Rattle.std.specs.Prelude.{◌≡◌, ◌<◌, ◌^◌, Ok, IfOk, true, false, min, length, slice_index};
 ghost use Rattle.std.specs.Cmp.{partial_equiv_from_equiv};
+ghost use Rattle.zarrs_data_type.specs.Element.{Chunk};
+ghost use Rattle.zarrs_data_type.specs.ElementType.{ElementType};
 ghost use Rattle.zarrs_chunk.specs.Answer.{AnswersValue, GivesValue, memory, seen, is_fault};
 ghost use Rattle.zarrs_array_bytes.specs.Held.{flen, vlen, owned_bytes, raw_of, byte_count, is_lent, mask_levels};
 ghost use Rattle.zarrs_array_bytes.specs.Offsets.{is_offsets, last_of};
 ghost use Rattle.zarrs_array_bytes.specs.Extracted.{IsSmall};
 ghost use Rattle.zarrs_array_bytes.specs.SameBytes.{is_same_held};
 ghost use Rattle.zarrs_array_bytes.specs.SameBytesLaws.{is_same_held-equivalence};
-ghost use Rattle.zarrs_array_bytes.specs.Parts.{with_offsets, with_mask, variable_part, optional_part, fixed_part, fixed_items, variable_items, optional_items, lent_both, raw_and_offsets, inner_and_mask};
+ghost use Rattle.zarrs_array_bytes.specs.Parts.{with_offsets, with_mask, variable_part, optional_part, fixed_part, fixed_items, lent_both, raw_and_offsets};
 ghost use Rattle.zarrs_array_bytes.specs.Pieces.{masked_by};
-ghost use Rattle.zarrs_array_bytes.specs.Tight.{IsFlush, GivesFlush, HoldsSame, flush_with_offsets};
-ghost use Rattle.zarrs_array_bytes.specs.Validity.{levels_fit, validity, data_fit};
-ghost use Rattle.zarrs_array_bytes.specs.WrongLength.{refusal_of, LengthsFit};
+ghost use Rattle.zarrs_array_bytes.specs.Tight.{IsFlush, GivesFlush, flush_with_offsets};
+ghost use Rattle.zarrs_array_bytes.specs.Validity.{Holds, levels_fit, sizes_fit, validity, data_fit};
+ghost use Rattle.zarrs_array_bytes.specs.WrongLength.{refusal_of};
 ghost use Rattle.std.specs.List.{list_all};
 ghost use Rattle.std.specs.Prelude.{nat_lt};
 
@@ -100,7 +102,8 @@ impl<'a> ArrayBytes<'a> {
     ) -> Result<ArrayBytes<'a>, CodecError>
         ensures answer { result ≡ flush_with_offsets (raw_of bytes.entry) offsets }
         ensures flush { GivesFlush result }
-        ensures same { IfOk result (HoldsSame (vlen (raw_of bytes.entry) offsets)) }
+        ensures same { IfOk result (λ array. (type : ElementType) (chunk : Chunk)
+            → Holds type (vlen (raw_of bytes.entry) offsets) chunk → Holds type array chunk) }
     {
         let ends = offsets.as_slice();
         if ends[ends.len() - 1] != bytes.len() {
@@ -199,7 +202,8 @@ impl<'a> ArrayBytes<'a> {
     /// The elements under the outermost mask, and that mask. Errors: `ArrayBytesKind` for elements
     /// without a mask.
     pub fn into_optional(self) -> Result<(Box<ArrayBytes<'a>>, ArrayBytesRaw<'a>), CodecError>
-        ensures answer { seen inner_and_mask result ≡ optional_part self.entry }
+        ensures answer { seen (λ parts. (parts.0.value, raw_of parts.1)) result
+            ≡ optional_part self.entry }
     {
         match self.parts {
             Parts::Optional(inner, mask) => Ok((inner, mask)),
@@ -220,7 +224,8 @@ impl<'a> ArrayBytes<'a> {
     /// The bytes and offsets of elements of any length, lent. Errors: `ArrayBytesKind` for any other
     /// elements.
     pub fn as_variable(&self) -> Result<(&[u8], &ArrayBytesOffsets), CodecError>
-        ensures answer { seen lent_both result ≡ variable_items self.now }
+        ensures answer { seen lent_both result
+            ≡ seen (λ parts. (parts.0.items, parts.1)) (variable_part self.now) }
         ensures ending { IfOk result (λ parts. last_of parts.1.now ≡ length parts.0.now) }
     {
         match &self.parts {
@@ -232,7 +237,8 @@ impl<'a> ArrayBytes<'a> {
     /// The elements under the outermost mask, and that mask, lent: a byte for each element, 0 for
     /// absent and 1 for present. Errors: `ArrayBytesKind` for elements without a mask.
     pub fn as_optional(&self) -> Result<(&ArrayBytes<'a>, &[u8]), CodecError>
-        ensures answer { seen lent_both result ≡ optional_items self.now }
+        ensures answer { seen lent_both result
+            ≡ seen (λ parts. (parts.0, parts.1.items)) (optional_part self.now) }
         ensures mask { IfOk result (λ parts. list_all (λ byte. nat_lt byte 2) parts.1.now ≡ true) }
         ensures shallower { IfOk result (λ parts. mask_levels parts.0.now < mask_levels self.now) }
     {
@@ -287,7 +293,8 @@ impl<'a> ArrayBytes<'a> {
         wrong: WrongLength,
     ) -> Result<(), CodecError>
         requires counted { wrong ≡ WrongLength.InvalidBytesLength → count < 2 ^ 64 }
-        requires sizes { LengthsFit wrong data_type.now count }
+        requires sizes { wrong ≡ WrongLength.InvalidBytesLength
+            → sizes_fit data_type.now count ≡ Ok tt }
         ensures exact { result ≡ levels_fit (refusal_of wrong) data_type.now count self.now }
         ensures no_fault { is_fault result ≡ false }
     {

@@ -1,11 +1,13 @@
 //! Views of caller's bytes, into which a chunk is decoded.
 ghost use Rattle.std.specs.Prelude.{◌≡◌, ◌+◌, ◌<◌, ◌≤◌, ◌==◌, map, length, true};
 ghost use Rattle.zarrs_chunk.specs.ChunkShape.{product};
-ghost use Rattle.zarrs_array_bytes.specs.ArrayBytesDecodeIntoTarget.{view_name};
+ghost use Rattle.zarrs_array_bytes.specs.ArrayBytesDecodeIntoTarget.{view_name, under_from};
 ghost use Rattle.zarrs_array_bytes.specs.ArrayBytesFixedView.{view_of};
 ghost use Rattle.zarrs_array_bytes.specs.Tight.{IsFlush};
-ghost use Rattle.zarrs_array_bytes.specs.DecodeTarget.{has_one_size as has_one_size_of, has_masks};
-ghost use Rattle.zarrs_array_bytes.specs.ArrayBytesDecodeIntoTarget.{takes_levels, views_from, has_values_from, written_from, written_under, StaysUnder, StaysWritten};
+ghost use Rattle.zarrs_array_bytes.specs.DecodeTarget.{has_one_size as has_one_size_of, has_masks, levels_taken, has_values, target_fit};
+ghost use Rattle.zarrs_array_bytes.specs.ArrayBytesDecodeIntoTarget.{views_from, written_from};
+ghost use Rattle.zarrs_array_bytes.specs.FixedView.{written_view};
+ghost use Rattle.zarrs_array_bytes.specs.Parts.{bytes_in};
 
 use crate::array_bytes::ArrayBytes;
 use crate::array_bytes_fixed_view::ArrayBytesFixedView;
@@ -24,7 +26,7 @@ pub struct ArrayBytesDecodeIntoTarget<'a> {
 
 impl<'a> ArrayBytesDecodeIntoTarget<'a> {
     ghost use Rattle.zarrs_array_bytes.specs.ArrayBytesDecodeIntoTarget.{target_of, target_names};
-    ghost use Rattle.zarrs_array_bytes.specs.DecodeTarget.{shape_fit, written_target, fills};
+    ghost use Rattle.zarrs_array_bytes.specs.DecodeTarget.{written_target, fills};
 
     /// Whether a chunk of this shape and type can be decoded into the target. Errors, the first that
     /// applies: `UnsupportedTarget` for a type with a variable part; `TargetMismatch` where there is not
@@ -32,7 +34,8 @@ impl<'a> ArrayBytesDecodeIntoTarget<'a> {
     /// a mask of one byte for each, that of the elements of their size.
     #[tactic(auto, using(crate::proofs::TargetLemmas::miscounted))]
     pub fn check(&self, shape: &ChunkShape, data_type: &DataType) -> Result<(), CodecError>
-        ensures answer { result ≡ shape_fit data_type.now shape.now (target_of self.now) }
+        ensures answer { result
+            ≡ target_fit data_type.now (product shape.now) (target_of self.now) }
     {
         if !has_one_size(data_type) {
             return Err(CodecError::UnsupportedTarget);
@@ -88,7 +91,8 @@ fn match_levels(
     count: u64,
     data_type: &DataType,
 ) -> bool
-    ensures value { result ≡ takes_levels data_type.now count masks.now values.now }
+    ensures value { result
+        ≡ levels_taken data_type.now count (map view_of masks.now) (view_of values.now) }
 {
     match (masks, data_type.as_optional()) {
         ([], None) => match data_type.fixed_size() {
@@ -112,11 +116,13 @@ fn write_levels(
 )
     requires level { level ≤ length masks.old }
     requires masks { has_masks (views_from level masks.old) elements.now ≡ true }
-    requires values { has_values_from level masks.old values.old elements.now ≡ true }
+    requires values { has_values (view_of values.old) (under_from level masks.old elements.now)
+        ≡ true }
     ensures masks { map view_of masks.new ≡ written_from level masks.old elements.now }
     ensures mask_names { map view_name masks.new ≡ map view_name masks.old }
     ensures name { view_name values.new ≡ view_name values.old }
-    ensures values { view_of values.new ≡ written_under level masks.old values.old elements.now }
+    ensures values { view_of values.new
+        ≡ written_view (view_of values.old) (bytes_in (under_from level masks.old elements.now)) }
     ensures flush { IsFlush elements.now }
 {
     if level == masks.len() {
@@ -139,8 +145,10 @@ fn write_mask<'b, 'c>(
     ensures len { length masks.new ≡ length masks.old }
     ensures mask_names { map view_name masks.new ≡ map view_name masks.old }
     ensures masks { has_masks (views_from (level + 1) masks.new) result.now ≡ true }
-    ensures under { StaysUnder level masks.old masks.new elements.now result.now }
-    ensures written { StaysWritten level masks.old masks.new elements.now result.now }
+    ensures under { under_from (level + 1) masks.new result.now
+        ≡ under_from level masks.old elements.now }
+    ensures written { written_from (level + 1) masks.new result.now
+        ≡ written_from level masks.old elements.now }
     ensures flush { IsFlush result.now → IsFlush elements.now }
 {
     let (inner, flags) = elements.optional_parts();

@@ -1,6 +1,7 @@
 //! A view of the elements of an array, at the places of a subset.
 ghost use Rattle.std.specs.Prelude.{◌≡◌, ◌+◌, ◌*◌, ◌^◌, ◌<◌, ◌≤◌, All, length};
 ghost use Rattle.zarrs_chunk.specs.Runs.{joined_runs};
+ghost use Rattle.zarrs_chunk.specs.Answer.{Answers, memory};
 
 use crate::runs::count_places;
 use crate::write::write_places;
@@ -22,7 +23,7 @@ pub struct ArrayBytesFixedView<'a> {
 
 impl<'a> ArrayBytesFixedView<'a> {
     ghost use Rattle.std.specs.Prelude.{◌≡◌, OnOk, OnErr, IfOk};
-    ghost use Rattle.zarrs_array_bytes.specs.ArrayBytesFixedView.{view_of, AnswersView, IsWritten};
+    ghost use Rattle.zarrs_array_bytes.specs.ArrayBytesFixedView.{view_of, IsWritten};
     ghost use Rattle.zarrs_array_bytes.specs.DecodeTarget.{takes_elements};
     ghost use Rattle.zarrs_array_bytes.specs.FixedView.{fixed_view, view_length, elements_fit};
 
@@ -38,7 +39,8 @@ impl<'a> ArrayBytesFixedView<'a> {
         shape: &ChunkShape,
         subset: ArraySubset,
     ) -> Result<ArrayBytesFixedView<'a>, CodecError>
-        ensures answer { AnswersView result (fixed_view bytes.old element_size shape.now subset) }
+        ensures answer { Answers memory view_of result
+            (fixed_view bytes.old element_size shape.now subset) }
         ensures same_reference { IfOk result (λ v. v.bytes.ghost_name ≡ bytes.entry.ghost_name) }
     {
         if element_size == 0 {

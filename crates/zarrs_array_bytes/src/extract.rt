@@ -3,8 +3,10 @@ ghost use Rattle.std.specs.Prelude.{◌+◌, ◌≤◌, IfOk, All};
 ghost use Rattle.zarrs_chunk.specs.Runs.{joined_runs};
 ghost use Rattle.zarrs_array_bytes.specs.Tight.{ExtractsTight, GivesFlush};
 ghost use Rattle.zarrs_array_bytes.specs.Extracted.{IsSmall, GivesHeldAt};
-ghost use Rattle.zarrs_array_bytes.specs.Chunks.{ExtractsRuns, ExtractsSelected};
-ghost use Rattle.zarrs_array_bytes.specs.Validity.{HasElements};
+ghost use Rattle.zarrs_array_bytes.specs.Chunks.{chunk_at, selected_chunk};
+ghost use Rattle.zarrs_array_bytes.specs.Validity.{HasElements, Holds};
+ghost use Rattle.zarrs_chunk.specs.Answer.{GivesBy};
+ghost use Rattle.zarrs_chunk.specs.Indexer.{selection_of};
 
 use crate::array_bytes::{ArrayBytes, Parts};
 use crate::gather::{gather_cuts, gather_flags, gather_pieces};
@@ -25,7 +27,8 @@ impl<'a> ArrayBytes<'a> {
         shape: &ChunkShape,
         data_type: &DataType,
     ) -> Result<ArrayBytes<'static>, CodecError>
-        ensures exact { ExtractsSelected data_type.now shape.now indexer.now self.now result }
+        ensures exact { GivesBy (Holds data_type.now) result
+            (selected_chunk data_type.now shape.now (selection_of indexer.now) self.now) }
         ensures flush { GivesFlush result }
         ensures tight { ExtractsTight data_type.now self.now result }
     {
@@ -45,7 +48,8 @@ impl<'a> ArrayBytes<'a> {
         data_type: &DataType,
     ) -> Result<ArrayBytes<'b>, CodecError>
         requires inside { All (λ run. run.0 + run.1 ≤ count) runs.now }
-        ensures answer { ExtractsRuns data_type.now count runs.now self.now result }
+        ensures answer { GivesBy (Holds data_type.now) result
+            (chunk_at data_type.now count (joined_runs runs.now) self.now) }
         ensures flush { GivesFlush result }
         ensures tight { ExtractsTight data_type.now self.now result }
     {

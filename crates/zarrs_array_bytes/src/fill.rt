@@ -1,11 +1,11 @@
 //! Containers of fill values, and of blank elements.
 ghost use Rattle.std.specs.Prelude.{◌≡◌, Ok, IfOk};
-ghost use Rattle.zarrs_chunk.specs.Answer.{GivesValue};
-ghost use Rattle.zarrs_array_bytes.specs.Validity.{sizes_fit};
+ghost use Rattle.zarrs_chunk.specs.Answer.{GivesValue, GivesBy};
+ghost use Rattle.zarrs_array_bytes.specs.Validity.{sizes_fit, Holds};
 ghost use Rattle.zarrs_array_bytes.specs.Tight.{IsTight};
 ghost use Rattle.zarrs_array_bytes.specs.Extracted.{IsSmall};
-ghost use Rattle.zarrs_array_bytes.specs.Filled.{blank_elements as blank_of, container_fill, IsFill};
-ghost use Rattle.zarrs_array_bytes.specs.Chunks.{GivesFill};
+ghost use Rattle.zarrs_array_bytes.specs.Filled.{blank_elements as blank_of, container_fill};
+ghost use Rattle.zarrs_array_bytes.specs.Chunks.{fill_chunk};
 
 use crate::array_bytes::ArrayBytes;
 use crate::repeat::{repeat_bytes, repeat_cuts, same_bytes, zero_offsets};
@@ -25,8 +25,10 @@ impl<'a> ArrayBytes<'a> {
         count: u64,
         fill_value: &FillValue,
     ) -> Result<ArrayBytes<'a>, CodecError>
-        ensures exact { GivesFill data_type.now count fill_value.now result }
-        ensures held { IfOk result (IsFill data_type.now count fill_value.now) }
+        ensures exact { GivesBy (Holds data_type.now) result
+            (fill_chunk data_type.now count fill_value.now) }
+        ensures held { IfOk result
+            (λ array. array ≡ container_fill data_type.now count fill_value.now) }
         ensures tight { IfOk result (IsTight data_type.now) }
     {
         if !fill_value.fits(data_type) {

@@ -1,12 +1,13 @@
 //! Bytes of elements at runs, one after another.
-ghost use Rattle.std.specs.Prelude.{◌≡◌, ◌+◌, ◌-◌, ◌*◌, ◌<◌, ◌^◌, ◌≤◌, All, IfOk, OnOk, length, map, slice_index, true};
+ghost use Rattle.std.specs.Prelude.{◌≡◌, ◌+◌, ◌-◌, ◌*◌, ◌<◌, ◌^◌, ◌≤◌, ◌++◌, All, IfOk, OnOk, length, map, slice_index, true};
 ghost use Rattle.zarrs_chunk.specs.Answer.{Appends};
 ghost use Rattle.zarrs_chunk.specs.Runs.{joined_runs};
-ghost use Rattle.zarrs_array_bytes.specs.Cuts.{run_cuts, run_bytes, run_size, EndsFollow, moved_offsets};
+ghost use Rattle.std.specs.List.{range_with_len};
+ghost use Rattle.zarrs_array_bytes.specs.Cuts.{run_bytes, run_size};
 ghost use Rattle.zarrs_array_bytes.specs.Elements.{cut};
 ghost use Rattle.zarrs_array_bytes.specs.Given.{MakesItems, GivesCuts};
 ghost use Rattle.zarrs_array_bytes.specs.Offsets.{is_offsets, last_of};
-ghost use Rattle.zarrs_array_bytes.specs.Pieces.{pieces_at, cuts_at};
+ghost use Rattle.zarrs_array_bytes.specs.Pieces.{pieces_at, cuts_at, ends as ends_of};
 
 use crate::runs::{bytes_of_cuts, bytes_of_runs};
 use std::alloc::{AllocError, Global};
@@ -88,9 +89,8 @@ pub(crate) fn append_cuts(
     requires ending { last_of offsets.now ≡ length bytes.now }
     requires inside { first + count < length offsets.now }
     ensures bytes { Appends out.old out.new result (run_bytes offsets.now bytes.now first count) }
-    // Wide: the old bytes, the ends before and after, and the run that is put behind them.
-    ensures ends { OnOk result
-        (EndsFollow out.old ends.old ends.new (run_cuts offsets.now bytes.now first count)) }
+    ensures ends { OnOk result (ends.new.items ≡ ends.old.items ++ ends_of (length out.old.items)
+        (map (cut offsets.now bytes.now) (range_with_len first count))) }
 {
     let start = out.len();
     let from = offsets[first];
@@ -119,7 +119,8 @@ fn append_moved(
 ) -> Result<(), AllocError>
     requires above { All (λ offset. from ≤ offset) offsets.now }
     requires fits { All (λ offset. offset - from + start < 2 ^ 64) offsets.now }
-    ensures appended { Appends out.old out.new result (moved_offsets from start offsets.now) }
+    ensures appended { Appends out.old out.new result
+        (map (λ offset. offset - from + start) offsets.now) }
 {
     out.extend(offsets.iter().map(|offset| *offset - from + start))
 }

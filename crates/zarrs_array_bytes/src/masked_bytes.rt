@@ -6,7 +6,7 @@ ghost use Rattle.std.specs.Prelude.{◌≡◌, ◌+◌, ◌*◌, ◌<◌, ◌≤
 ghost use Rattle.std.specs.List.{between};
 ghost use Rattle.zarrs_array_bytes.specs.Given.{MakesItems};
 ghost use Rattle.zarrs_array_bytes.specs.Pieces.{pieces_at};
-ghost use Rattle.zarrs_array_bytes.specs.Present.{present_places, present_update, spread_pieces, BeginsWithPresent};
+ghost use Rattle.zarrs_array_bytes.specs.Present.{present_places, present_update, BeginsWithPresent};
 ghost use Rattle.zarrs_array_bytes.specs.Update.{with_items_at};
 
 use crate::write::copy_to;
@@ -90,7 +90,8 @@ pub(crate) fn spread_elements(
     requires short { size ≤ 16 }
     requires fits { length mask.now * size < 2 ^ 64 }
     requires enough { length bytes.now ≡ length (present_places mask.now) * size }
-    ensures exact { MakesItems result (spread_pieces size mask.now bytes.now) }
+    ensures exact { MakesItems result
+        (present_update size mask.now (replicate (length mask.now * size) 0) bytes.now) }
 {
     let mut out = vec![in alloc; 0u8; mask.len() * size]?;
     put_elements(&mut out, bytes, size, mask);

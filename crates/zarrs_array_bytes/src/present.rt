@@ -1,15 +1,15 @@
 //! Elements that are present under a mask: extracted, and put back.
-ghost use Rattle.std.specs.Prelude.{◌≡◌, ◌<◌, ◌-◌, ◌≤◌, false, Ok, IfOk, OnOk, length};
+ghost use Rattle.std.specs.Prelude.{◌≡◌, ◌<◌, ◌-◌, ◌≤◌, false, Ok, IfOk, OnOk, length, true};
 ghost use Rattle.std.specs.List.{range_with_len};
-ghost use Rattle.zarrs_chunk.specs.Answer.{Gives, GivesValue, is_fault};
+ghost use Rattle.zarrs_chunk.specs.Answer.{Gives, GivesValue, is_fault, GivesBy, seen};
 ghost use Rattle.zarrs_chunk.specs.Runs.{places_in, AddsPlaces, EndWithin, StayWithin};
 ghost use Rattle.zarrs_data_type.specs.ElementType.{optional};
-ghost use Rattle.zarrs_array_bytes.specs.Held.{items_of, raw_of};
-ghost use Rattle.zarrs_array_bytes.specs.Validity.{HasElements, sizes_fit};
-ghost use Rattle.zarrs_array_bytes.specs.Blank.{OuterAreBlank, KeepsBlanks, ExpandsBlanks};
+ghost use Rattle.zarrs_array_bytes.specs.Held.{items_of, raw_of, masked};
+ghost use Rattle.zarrs_array_bytes.specs.Validity.{HasElements, sizes_fit, Holds, validity};
+ghost use Rattle.zarrs_array_bytes.specs.Blank.{OuterAreBlank, AbsentAreBlank};
 ghost use Rattle.zarrs_array_bytes.specs.Extracted.{IsSmall, GivesHeldAt};
-ghost use Rattle.zarrs_array_bytes.specs.Tight.{IsFlush, GivesFlush, KeepsTight, ExpandsTight};
-ghost use Rattle.zarrs_array_bytes.specs.Present.{present_places, present_count, container_spread, expansion_of, IsExpansion, ExtractsPresent, KeptIfAllPresent, ExpandsPresent};
+ghost use Rattle.zarrs_array_bytes.specs.Tight.{IsFlush, GivesFlush, KeepsTight, IsTight};
+ghost use Rattle.zarrs_array_bytes.specs.Present.{present_places, present_count, container_spread, expansion_of, present_chunk, are_all_present, expanded_chunk, container_expansion};
 
 use crate::array_bytes::{ArrayBytes, Parts, is_mask};
 use crate::array_bytes_raw::ArrayBytesRaw;
@@ -123,9 +123,12 @@ impl<'a> ArrayBytes<'a> {
         mask: &[u8],
         data_type: &DataType,
     ) -> Result<ArrayBytes<'a>, CodecError>
-        ensures answer { ExtractsPresent data_type.now self.entry mask.now result }
-        ensures kept { KeptIfAllPresent data_type.now self.entry mask.now result }
-        ensures blank { KeepsBlanks data_type.now self.entry result }
+        ensures answer { GivesBy (Holds data_type.now) result
+            (present_chunk data_type.now self.entry mask.now) }
+        ensures kept { are_all_present mask.now ≡ true → result
+            ≡ seen (λ _. self.entry) (validity data_type.now (length mask.now) self.entry) }
+        ensures blank { AbsentAreBlank data_type.now self.entry
+            → IfOk result (AbsentAreBlank data_type.now) }
         ensures tight { KeepsTight data_type.now self.entry result }
     {
         self.validate(mask.len() as u64, data_type)?;
@@ -176,11 +179,15 @@ impl<'a> ArrayBytes<'a> {
         mask: ArrayBytesRaw<'a>,
         data_type: &DataType,
     ) -> Result<ArrayBytes<'a>, CodecError>
-        ensures answer { ExpandsPresent data_type.now self.entry (items_of mask.entry) result }
-        ensures held { IfOk result (IsExpansion data_type.now self.entry (raw_of mask.entry)) }
+        ensures answer { GivesBy (Holds (optional data_type.now)) result
+            (expanded_chunk data_type.now self.entry (items_of mask.entry)) }
+        ensures held { IfOk result (λ array. array ≡ masked
+            (container_expansion data_type.now self.entry (items_of mask.entry)) (raw_of mask.entry)) }
         ensures absent { IfOk result (OuterAreBlank (optional data_type.now)) }
-        ensures blank { ExpandsBlanks data_type.now self.entry result }
-        ensures tight { ExpandsTight data_type.now self.entry result }
+        ensures blank { AbsentAreBlank data_type.now self.entry
+            → IfOk result (AbsentAreBlank (optional data_type.now)) }
+        ensures tight { IsTight data_type.now self.entry
+            → IfOk result (IsTight (optional data_type.now)) }
     {
         let inner = self.expand_elements(alloc, mask.as_slice(), data_type)?;
         inner.under_mask(alloc, mask)

@@ -1,9 +1,9 @@
 //! Bytes repeated, and their offsets.
-ghost use Rattle.std.specs.Prelude.{◌≡◌, ◌*◌, ◌^◌, ◌<◌, ◌++◌, IfOk, OnOk, OnErr, length, replicate};
-ghost use Rattle.zarrs_array_bytes.specs.Cuts.{even_ends};
+ghost use Rattle.std.specs.Prelude.{◌≡◌, ◌*◌, ◌^◌, ◌<◌, ◌++◌, IfOk, OnOk, OnErr, length, replicate, map, ◌+◌};
 ghost use Rattle.zarrs_array_bytes.specs.Filled.{copies, copies_with_offsets};
 ghost use Rattle.zarrs_array_bytes.specs.Given.{MakesItems, GivesCuts};
 ghost use Rattle.zarrs_array_bytes.specs.Pieces.{IsLonger};
+ghost use Rattle.std.specs.List.{range_with_len};
 
 use std::alloc::{AllocError, Global};
 use zarrs_chunk::CodecError;
@@ -93,7 +93,8 @@ pub(crate) fn repeat_cuts(
 /// Appends where each of `count` elements of `size` bytes ends, if the first one begins at 0.
 fn append_ends(ends: &mut Vec<usize>, size: usize, count: usize) -> Result<(), AllocError>
     requires fits { count * size < 2 ^ 64 }
-    ensures appended { OnOk result (ends.new.items ≡ ends.old.items ++ even_ends size count) }
+    ensures appended { OnOk result (ends.new.items ≡ ends.old.items
+        ++ map (λ place. place * size + size) (range_with_len 0 count)) }
 {
     ends.extend((0..count).map(|place| place * size + size))
 }

@@ -1,9 +1,13 @@
 //! Elements of any length replaced at runs in any order.
-ghost use Rattle.std.specs.Prelude.{◌≡◌, ◌+◌, ◌≤◌, ◌-◌, ◌<◌, ◌^◌, All, IfOk, length, true};
+ghost use Rattle.std.specs.Prelude.{◌≡◌, ◌+◌, ◌≤◌, ◌-◌, ◌<◌, ◌^◌, All, IfOk, length, map, true};
+ghost use Rattle.std.specs.List.{range_with_len};
 ghost use Rattle.zarrs_chunk.specs.Runs.{joined_runs};
-ghost use Rattle.zarrs_array_bytes.specs.Given.{MakesItems, UpdatesCuts, GathersCuts};
+ghost use Rattle.zarrs_array_bytes.specs.Elements.{cut};
+ghost use Rattle.zarrs_array_bytes.specs.Given.{MakesItems, UpdatesCuts, GivesCuts};
 ghost use Rattle.zarrs_array_bytes.specs.Offsets.{is_offsets, last_of};
-ghost use Rattle.zarrs_array_bytes.specs.Sources.{sources, IsSourceOf, AreSources, cut_from};
+ghost use Rattle.zarrs_array_bytes.specs.Sources.{IsSourceOf, AreSources, source_bytes};
+ghost use Rattle.zarrs_array_bytes.specs.Update.{update};
+ghost use Rattle.zarrs_array_bytes.specs.Pieces.{bytes_with_offsets};
 
 use crate::gather::cut_of;
 use crate::runs::places_of_runs;
@@ -48,7 +52,8 @@ pub(crate) fn written_cuts(
 /// For each of `count` places, where its element comes from after writes at these places.
 fn sources_of(alloc: Global, count: usize, places: &[u64]) -> Result<Vec<Source>, CodecError>
     requires inside { All (λ place. place < count) places.now }
-    ensures exact { MakesItems result (sources count places.now) }
+    ensures exact { MakesItems result (update (map Source.Old (range_with_len 0 count))
+        places.now (map Source.New (range_with_len 0 (length places.now)))) }
 {
     let mut from = Vec::with_capacity(alloc, count)?;
     for place in 0..count {
@@ -76,7 +81,8 @@ fn gather_sources(
     requires new_rising { is_offsets new_offsets.now ≡ true }
     requires new_ending { last_of new_offsets.now ≡ length new.now }
     requires known { AreSources old_offsets.now new_offsets.now from.now }
-    ensures exact { GathersCuts old_offsets.now old.now new_offsets.now new.now from.now result }
+    ensures exact { GivesCuts result (bytes_with_offsets
+        (source_bytes (cut old_offsets.now old.now) (cut new_offsets.now new.now)) from.now) }
 {
     let room = bytes_of_sources(old, old_offsets, new, new_offsets, from);
     let mut out = Vec::with_capacity(alloc, room)?;
@@ -125,7 +131,7 @@ fn bytes_at<'a>(
     requires new_ending { last_of new_offsets.now ≡ length new.now }
     requires known { IsSourceOf (length old_offsets.now - 1) (length new_offsets.now - 1) source }
     ensures bytes { result.now
-        ≡ cut_from old_offsets.now old.now new_offsets.now new.now source }
+        ≡ source_bytes (cut old_offsets.now old.now) (cut new_offsets.now new.now) source }
 {
     match source {
         Source::Old(place) => cut_of(old, old_offsets, place),

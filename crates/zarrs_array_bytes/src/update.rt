@@ -1,15 +1,17 @@
 //! Elements of a container replaced at the tuples of an indexer, or at runs.
 ghost use Rattle.std.specs.Prelude.{◌≡◌, ◌+◌, ◌*◌, ◌-◌, ◌≤◌, ◌<◌, Ok, IsOk, IfOk, All, length, nat_lt, true, false};
 ghost use Rattle.std.specs.List.{list_all};
-ghost use Rattle.zarrs_chunk.specs.Answer.{is_fault};
+ghost use Rattle.zarrs_chunk.specs.Answer.{is_fault, GivesBy, GivesValue};
 ghost use Rattle.zarrs_chunk.specs.Runs.{joined_runs};
 ghost use Rattle.zarrs_array_bytes.specs.Held.{items_of, mask_levels};
 ghost use Rattle.zarrs_array_bytes.specs.Offsets.{is_offsets, last_of};
 ghost use Rattle.zarrs_array_bytes.specs.Parts.{fixed_part, variable_part, optional_part, bytes_in, offsets_in, inner_in};
-ghost use Rattle.zarrs_array_bytes.specs.Validity.{HasElements, data_fit};
+ghost use Rattle.zarrs_array_bytes.specs.Validity.{HasElements, data_fit, Holds};
 ghost use Rattle.zarrs_array_bytes.specs.Tight.{UpdatesTight, GivesFlush, IsFlush};
-ghost use Rattle.zarrs_array_bytes.specs.Chunks.{update_fit, UpdatesRuns, UpdatesSelected};
-ghost use Rattle.zarrs_array_bytes.specs.Given.{WritesAtRuns, WritesFixed, WritesVariable, WritesMask};
+ghost use Rattle.zarrs_array_bytes.specs.Chunks.{update_fit, update_at_places, chunk_update};
+ghost use Rattle.zarrs_chunk.specs.Indexer.{selection_of};
+ghost use Rattle.zarrs_array_bytes.specs.Update.{container_written, with_runs, cuts_update, update};
+ghost use Rattle.zarrs_array_bytes.specs.Pieces.{fixed_of, variable_of, masked_by};
 
 use crate::array_bytes::{ArrayBytes, Parts};
 use crate::array_bytes_offsets::ArrayBytesOffsets;
@@ -38,7 +40,8 @@ pub fn update_array_bytes(
     new: &ArrayBytes<'_>,
     data_type: &DataType,
 ) -> Result<ArrayBytes<'static>, CodecError>
-    ensures exact { UpdatesSelected data_type.now shape.now indexer.now array.entry new.now result }
+    ensures exact { GivesBy (Holds data_type.now) result
+        (chunk_update data_type.now shape.now (selection_of indexer.now) array.entry new.now) }
     ensures flush { GivesFlush result }
     ensures tight { UpdatesTight data_type.now array.entry new.now result }
 {
@@ -61,7 +64,8 @@ pub fn update_runs(
     data_type: &DataType,
 ) -> Result<ArrayBytes<'static>, CodecError>
     requires inside { All (λ run. run.0 + run.1 ≤ count) runs.now }
-    ensures answer { UpdatesRuns data_type.now count runs.now array.entry new.now result }
+    ensures answer { GivesBy (Holds data_type.now) result
+        (update_at_places data_type.now count (joined_runs runs.now) array.entry new.now) }
     ensures flush { GivesFlush result }
     ensures tight { UpdatesTight data_type.now array.entry new.now result }
 {
@@ -110,7 +114,8 @@ pub(crate) fn write_elements<'b>(
     requires valid { HasElements data_type.now count array }
     requires data_valid { data_fit data_type.now (length (joined_runs runs.now)) new.now ≡ Ok tt }
     requires inside { All (λ run. run.0 + run.1 ≤ count) runs.now }
-    ensures exact { WritesAtRuns data_type.now count runs.now array.entry new.now result }
+    ensures exact { GivesValue result
+        (Ok (container_written data_type.now count array.entry (joined_runs runs.now) new.now)) }
     ensures flush { GivesFlush result }
 {
     match array.parts {
@@ -139,7 +144,8 @@ fn write_fixed<'b>(
     requires kind { IsOk (fixed_part new.now) }
     requires inside { All (λ run. (run.0 + run.1) * size ≤ length (items_of old)) runs.now }
     requires enough { length (joined_runs runs.now) * size ≤ length (bytes_in new.now) }
-    ensures exact { WritesFixed size (items_of old.entry) runs.now new.now result }
+    ensures exact { GivesValue result
+        (Ok (fixed_of (with_runs size (items_of old.entry) runs.now (bytes_in new.now)))) }
     ensures flush { GivesFlush result }
 {
     let bytes = written_elements(alloc, old, new.fixed_bytes(), size, runs)?;
@@ -159,7 +165,8 @@ fn write_variable<'b>(
     requires ending { last_of offsets ≡ length (items_of old) }
     requires inside { All (λ run. run.0 + run.1 ≤ length offsets - 1) runs.now }
     requires enough { length (offsets_in new.now) ≡ length (joined_runs runs.now) + 1 }
-    ensures exact { WritesVariable offsets (items_of old.entry) runs.now new.now result }
+    ensures exact { GivesValue result (Ok (variable_of (cuts_update offsets (items_of old.entry)
+        (offsets_in new.now) (bytes_in new.now) (joined_runs runs.now)))) }
     ensures flush { GivesFlush result }
 {
     let (new, new_offsets) = new.variable_parts();
@@ -187,7 +194,8 @@ fn write_mask<'b>(
     requires new_flags { list_all (λ byte. nat_lt byte 2) new_mask.now ≡ true }
     requires inside { All (λ run. run.0 + run.1 ≤ length (items_of mask)) runs.now }
     requires enough { length new_mask.now ≡ length (joined_runs runs.now) }
-    ensures exact { WritesMask inner.entry (items_of mask.entry) runs.now new_mask.now result }
+    ensures exact { GivesValue result (Ok (masked_by inner.entry
+        (update (items_of mask.entry) (joined_runs runs.now) new_mask.now))) }
     ensures flush { IfOk result (λ array. IsFlush inner.entry → IsFlush array) }
 {
     let mask = written_flags(alloc, mask, new_mask, runs)?;

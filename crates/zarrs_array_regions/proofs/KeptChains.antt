@@ -16,7 +16,7 @@ use Rattle.zarrs_array_to_array.proofs.AnswerSteps.{step_ok}
 use Rattle.zarrs_array_to_array.proofs.Chains.{codec_map}
 use Rattle.zarrs_array_regions.specs.declared.window.Window.{Window}
 use Rattle.zarrs_array_regions.specs.KeptRegions.{keeps_places, keeps_regions}
-use Rattle.zarrs_array_regions.specs.Windows.{KeepsWindow, window_of, next_window, part_map, behind, last_window, region_map}
+use Rattle.zarrs_array_regions.specs.Windows.{KeepsWindow, window_of, next_window, part_map, behind_window, last_window, region_map}
 use Rattle.zarrs_array_regions.proofs.WindowMaps.{windows_compose, here_is}
 use Rattle.zarrs_array_to_array.proofs.Readers.{same_map}
 use Rattle.zarrs_array_regions.proofs.KeptWindows.{codec_keeps, same_keeps}
@@ -45,10 +45,10 @@ places_stay (codec ∷ codecs) sizes m place h e =
 pub next_sizes : (codec : ArrayMapping) (sizes : List ℕ) (region : Region) (m : CoordinateMap) (next : Window) → coordinates codec sizes ≡ Ok m → next_window codec (window_of sizes region) ≡ Some next → m.encoded ≡ next.sizes
 next_sizes (transpose order) sizes region m next h e =
     let step = step_ok (demand (length order == length sizes) IncompatibleDimensionality) (λ _. Ok (transposition order sizes)) m h in
-    ap (λ (x : CoordinateMap). x.encoded) (sym (same_map m (transposition order sizes) step.2)) ∙ ap (λ (o : Option Window). behind o sizes (λ w. w.sizes)) e
+    ap (λ (x : CoordinateMap). x.encoded) (sym (same_map m (transposition order sizes) step.2)) ∙ ap (λ (o : Option Window). behind_window o sizes (λ w. w.sizes)) e
 next_sizes (reshape dims) sizes region m next h e = absurd (cc)
 next_sizes squeeze sizes region m next h e =
-    ap (λ (x : CoordinateMap). x.encoded) (sym (same_map m (same_places (squeezed sizes)) h)) ∙ ap (λ (o : Option Window). behind o sizes (λ w. w.sizes)) e
+    ap (λ (x : CoordinateMap). x.encoded) (sym (same_map m (same_places (squeezed sizes)) h)) ∙ ap (λ (o : Option Window). behind_window o sizes (λ w. w.sizes)) e
 
 -- codecs behind one that has a next window
 rest_keeps : (codec : ArrayMapping) (codecs : List ArrayMapping) (window next : Window) → next_window codec window ≡ Some next → keeps_regions (codec ∷ codecs) ≡ true → keeps_regions codecs ≡ true
@@ -89,7 +89,7 @@ module _ (codec : ArrayMapping) (codecs : List ArrayMapping) (sizes : List ℕ) 
       subst (λ x. KeepsWindow (product sizes) x (window_of sizes region) (last_window codecs next) (composition (part_map codec (window_of sizes region)) (region_map codecs next))) (same_map m (composition first.0 rest.0) rest.2) both
 
   one_more : (o : Option Window) → next_window codec (window_of sizes region) ≡ o
-      → KeepsWindow (product sizes) m (window_of sizes region) (behind o (window_of sizes region) (last_window codecs)) (behind o (same_places region.lengths) (λ next. composition (part_map codec (window_of sizes region)) (region_map codecs next)))
+      → KeepsWindow (product sizes) m (window_of sizes region) (behind_window o (window_of sizes region) (last_window codecs)) (behind_window o (same_places region.lengths) (λ next. composition (part_map codec (window_of sizes region)) (region_map codecs next)))
   one_more None e = stays_here e
   one_more (Some next) e = goes_on next e
 

@@ -20,7 +20,7 @@ use Rattle.zarrs_array_to_array.proofs.Orders.{permuted_product}
 use Rattle.zarrs_array_regions.specs.declared.window.Window.{Window}
 use Rattle.zarrs_array_regions.specs.OrderedRuns.{AreAxes, ordered_places}
 use Rattle.zarrs_array_regions.specs.Parts.{FitsRegion, EncodesPart}
-use Rattle.zarrs_array_regions.specs.Windows.{TakesRegion, GivesRegionRuns, TransposesRegion, window_places}
+use Rattle.zarrs_array_regions.specs.Windows.{EncodesMapped, TakesRegion, GivesRegionRuns, window_places}
 use Rattle.zarrs_array_regions.proofs.WindowCalls.{first_taken, order_axes, WindowStep, WindowStays}
 use Rattle.zarrs_array_regions.proofs.WindowMaps.{permuted_box}
 
@@ -61,7 +61,7 @@ module _ (order sizes : List ℕ) (region : Region) (takes : TakesRegion (transp
       omega (arith, room, count_there axes shape a s h, takes.counted)
 
 -- runs of the moved region's places and a container of its moved elements are what is asked for
-pub encoded_there : (order sizes : List ℕ) (region : Region) (type : ElementType) (held there : Held) (runs : Vec (ℕ × ℕ) Global) → GivesRegionRuns (transpose order ∷ []) sizes region (Ok runs) → EncodesPart (transpose order) type region held (Ok there) → TransposesRegion order type sizes region held (Ok (runs, there))
+pub encoded_there : (order sizes : List ℕ) (region : Region) (type : ElementType) (held there : Held) (runs : Vec (ℕ × ℕ) Global) → GivesRegionRuns (transpose order ∷ []) sizes region (Ok runs) → EncodesPart (transpose order) type region held (Ok there) → EncodesMapped (transpose order ∷ []) type sizes region held (Ok (runs, there))
 encoded_there order sizes region type held there runs places encoded = record { is = (same _ _ places.is, encoded.is); no_fault = refl }
   where
     same : (xs ys : List ℕ) → ◌≡◌ {A = Result (List ℕ) CodecError} (Ok xs) (Ok ys) → ys ≡ xs

@@ -24,7 +24,7 @@ use Rattle.zarrs_array_to_array.proofs.Orders.{length-permuted}
 use Rattle.zarrs_array_to_array.proofs.Transposition.{shape_of-positive}
 use Rattle.zarrs_array_regions.specs.declared.window.Window.{Window}
 use Rattle.zarrs_array_regions.specs.Parts.{FitsRegion}
-use Rattle.zarrs_array_regions.specs.Windows.{IsWindow, TakesRegion, TakeType, window_of, window_places, permuted_region, next_window, part_map, behind, last_window, region_map}
+use Rattle.zarrs_array_regions.specs.Windows.{IsWindow, TakesRegion, TakeType, window_of, window_places, permuted_region, next_window, part_map, behind_window, last_window, region_map}
 use Rattle.zarrs_array_regions.proofs.KeptChains.{next_sizes}
 use Rattle.zarrs_array_to_array.proofs.BoxNumbers.{factors_positive}
 use Rattle.zarrs_array_regions.proofs.KeptWindows.{codec_keeps}
@@ -134,8 +134,8 @@ window_step all codecs codec sizes region next e mapping takes is =
       part_is = keeps.part_is;
       encoded = keeps.lengths;
       count = ap product (sym keeps.lengths) ∙ keeps.part_is.count;
-      last_is = ap (λ cs. last_window cs (window_of sizes region)) e ∙ ap (λ (o : Option Window). behind o (window_of sizes region) (last_window codecs)) is;
-      map_is = ap (λ cs. region_map cs (window_of sizes region)) e ∙ ap (λ (o : Option Window). behind o (same_places region.lengths) (λ next. composition (part_map codec (window_of sizes region)) (region_map codecs next))) is;
+      last_is = ap (λ cs. last_window cs (window_of sizes region)) e ∙ ap (λ (o : Option Window). behind_window o (window_of sizes region) (last_window codecs)) is;
+      map_is = ap (λ cs. region_map cs (window_of sizes region)) e ∙ ap (λ (o : Option Window). behind_window o (same_places region.lengths) (λ next. composition (part_map codec (window_of sizes region)) (region_map codecs next))) is;
     }
 
 -- where it has none, the window stays
@@ -145,8 +145,8 @@ pub record WindowStays (all : List ArrayMapping) (sizes : List ℕ) (region : Re
 
 window_stays : (all codecs : List ArrayMapping) (codec : ArrayMapping) (sizes : List ℕ) (region : Region) → all ≡ codec ∷ codecs → next_window codec (window_of sizes region) ≡ None → WindowStays all sizes region
 window_stays all codecs codec sizes region e is = record {
-  last_is = ap (λ cs. last_window cs (window_of sizes region)) e ∙ ap (λ (o : Option Window). behind o (window_of sizes region) (last_window codecs)) is;
-  map_is = ap (λ cs. region_map cs (window_of sizes region)) e ∙ ap (λ (o : Option Window). behind o (same_places region.lengths) (λ next. composition (part_map codec (window_of sizes region)) (region_map codecs next))) is;
+  last_is = ap (λ cs. last_window cs (window_of sizes region)) e ∙ ap (λ (o : Option Window). behind_window o (window_of sizes region) (last_window codecs)) is;
+  map_is = ap (λ cs. region_map cs (window_of sizes region)) e ∙ ap (λ (o : Option Window). behind_window o (same_places region.lengths) (λ next. composition (part_map codec (window_of sizes region)) (region_map codecs next))) is;
 }
 
 no_codecs_stay : (all : List ArrayMapping) (sizes : List ℕ) (region : Region) → all ≡ [] → WindowStays all sizes region

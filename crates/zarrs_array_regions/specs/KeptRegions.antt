@@ -1,16 +1,11 @@
 -- Regions that go through array-to-array codecs as regions.
-use Rattle.std.specs.Prelude.{◌≡◌, ℕ, ◌<◌, ◌==◌, ◌&&◌, Bool, true, false, not, is_ok, List, [], ◌∷◌, map, Option, Some, None, IfSome, option_map, if◌then◌else◌}
+use Rattle.std.specs.Prelude.{◌≡◌, ℕ, ◌<◌, ◌==◌, ◌&&◌, Bool, true, false, not, is_ok, List, [], ◌∷◌, Option, Some, None, if◌then◌else◌}
 use Rattle.std.specs.List.{list_all, list_any}
-use Rattle.std.proofs.Common.{Bor}
 use Rattle.zarrs_chunk.specs.ChunkShape.{product}
-use Rattle.zarrs_chunk.specs.Indexer.{selection_of}
 use Rattle.zarrs_chunk.specs.Region.{Region}
 use Rattle.zarrs_chunk.specs.Selection.{Selection, subset, indices, bounds_of}
 use Rattle.zarrs_chunk.specs.Tuples.{is_box_inside}
-use Rattle.zarrs_chunk.specs.declared.indexer.Indexer.{Indexer}
 use Rattle.zarrs_array_to_array.specs.ArrayToArrayCodec.{ArrayMapping, transpose, reshape, squeeze}
-use Rattle.zarrs_array_to_array.specs.Mapping.{mapping_of}
-use Rattle.zarrs_array_to_array.specs.declared.array_to_array_codec.ArrayToArrayCodec.{ArrayToArrayCodec}
 
 -- the codec leaves each place where it is
 abbrev pub keeps_places : ArrayMapping → Bool
@@ -46,13 +41,3 @@ pub record IsKept (codecs : List ArrayMapping) (sizes : List ℕ) (selection : S
   pub inside : is_box_inside sizes region.starts region.lengths ≡ true
   pub filled : 0 < product region.lengths
   pub kept : keeps_regions codecs ≡ true
-
--- what is found is the box that the indexer selects, where it goes through the codecs as a box
-abbrev pub FindsKept : List ArrayToArrayCodec → List ℕ → Indexer → Option (Bor Region) → Type 0
-FindsKept codecs sizes indexer found =
-    option_map (λ region. region.now) found ≡ kept_region (map mapping_of codecs) sizes (selection_of indexer)
-
--- the box that is found, where one is, is kept
-abbrev pub FoundIsKept : List ArrayToArrayCodec → List ℕ → Indexer → Option (Bor Region) → Type 0
-FoundIsKept codecs sizes indexer found =
-    IfSome found (λ region. IsKept (map mapping_of codecs) sizes (selection_of indexer) region.now)

@@ -1,8 +1,8 @@
 -- Runs of a region with the axes of its chunk in another order.
-use Rattle.std.specs.Prelude.{◌≡◌, ℕ, ◌+◌, ◌*◌, ◌<◌, ◌≤◌, ◌^◌, ◌++◌, true, All, List, [], ◌∷◌, Vec, length, map, Result, IfOk, OnOk}
+use Rattle.std.specs.Prelude.{◌≡◌, ℕ, ◌+◌, ◌*◌, ◌<◌, ◌≤◌, ◌^◌, ◌++◌, true, All, List, Vec, length, map, Result, OnOk}
 use Rattle.std.specs.declared.alloc.Global.{Global}
 use Rattle.zarrs_chunk.specs.ChunkShape.{product}
-use Rattle.zarrs_chunk.specs.Levels.{box_places, numbers_behind, AreWhole, LastIsPartial}
+use Rattle.zarrs_chunk.specs.Levels.{box_places, numbers_behind}
 use Rattle.zarrs_chunk.specs.Runs.{joined_runs, AreFilled, EndWithin, AreApart}
 use Rattle.zarrs_chunk.specs.Tuples.{is_box_inside}
 use Rattle.zarrs_array_to_array.specs.Orders.{permuted}
@@ -20,11 +20,6 @@ fronts_over order sizes starts lengths fronts =
 -- a call that returns Ok has put the rows of these fronts behind the old runs
 abbrev pub AppendsRows : {E : Type 0} → Row → List ℕ → Vec (ℕ × ℕ) Global → Vec (ℕ × ℕ) Global → Result (Unit {0}) E → Type 0
 AppendsRows row fronts old new result = OnOk result (new.items ≡ old.items ++ map (row_at row) fronts)
-
--- the same of the rows behind this front, over these axes
-abbrev pub HasRows : {E : Type 0} → ℕ → Row → List ℕ → List ℕ → List ℕ → List ℕ → Vec (ℕ × ℕ) Global → Vec (ℕ × ℕ) Global → Result (Unit {0}) E → Type 0
-HasRows front row order sizes starts lengths old new result =
-    AppendsRows row (fronts_over order sizes starts lengths (front ∷ [])) old new result
 
 -- These are axes of a chunk of such sizes, along which a region lies inside.
 pub record AreAxes (order sizes firsts counts : List ℕ) : Type 0 where
@@ -50,17 +45,3 @@ pub record AreBoxRuns (sizes starts lengths : List ℕ) (runs : List (ℕ × ℕ
   pub filled : AreFilled runs
   pub below : EndWithin (product sizes) runs
   pub apart : AreApart runs
-
--- runs of the region's places are given, in the chunk with its axes in this order
-abbrev pub GivesOrdered : {E : Type 0} → List ℕ → List ℕ → List ℕ → List ℕ → Result (Vec (ℕ × ℕ) Global) E → Type 0
-GivesOrdered order sizes starts lengths result =
-    IfOk result (λ v. AreBoxRuns (permuted order sizes) (permuted order starts) (permuted order lengths) v.items)
-
--- behind the first so many axes of the order the region covers each whole
-abbrev pub IsWholeBehind : ℕ → List ℕ → List ℕ → List ℕ → List ℕ → Type 0
-IsWholeBehind axes order sizes starts lengths =
-    AreWhole axes (length order) (permuted order sizes) (permuted order starts) (permuted order lengths)
-
--- it doesn't cover the last of these whole, if there is one
-abbrev pub IsPartialAt : ℕ → List ℕ → List ℕ → List ℕ → Type 0
-IsPartialAt axes order sizes lengths = LastIsPartial axes (permuted order sizes) (permuted order lengths)

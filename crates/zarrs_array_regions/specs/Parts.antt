@@ -30,10 +30,6 @@ part_decoded (transpose order) type region held =
 part_decoded (reshape dims) type region held = held_elements type region held
 part_decoded squeeze type region held = held_elements type region held
 
--- what is given is a container of them
-abbrev pub DecodesPart : ArrayMapping → ElementType → Region → Held → Result Held CodecError → Type 0
-DecodesPart codec type region held result = GivesBy (Holds type) result (Ok (part_decoded codec type region held))
-
 -- the elements of the window behind the codec, from the region's
 abbrev pub part_encoded : ArrayMapping → ElementType → Region → Held → Chunk
 part_encoded (transpose order) type region held =

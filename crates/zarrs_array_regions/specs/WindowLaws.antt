@@ -1,5 +1,5 @@
 -- Laws of regions that go through array-to-array codecs.
-use Rattle.std.specs.Prelude.{◌≡◌, ◌≢◌, ℕ, ◌<◌, Bool, true, List, [], length, get_or, is_ok, IsOkAnd, map, Result, Ok, Err, Option, Some, All}
+use Rattle.std.specs.Prelude.{◌≡◌, ◌≢◌, ℕ, ◌<◌, Bool, true, List, [], length, get_or, is_ok, IsOkAnd, map, Result, Ok, Option, Some, All}
 use Rattle.std.specs.List.{concat, flat_map, list_all}
 use Rattle.zarrs_chunk.specs.Answer.{◌>>=◌, demand, seen}
 use Rattle.zarrs_chunk.specs.ChunkShape.{product}
@@ -23,11 +23,8 @@ use Rattle.zarrs_array_to_array.specs.Orders.{permuted}
 use Rattle.zarrs_array_to_array.specs.Squeeze.{squeezed}
 use Rattle.zarrs_array_to_array.specs.Transpose.{transposition}
 use Rattle.zarrs_bytes.specs.BytesCodec.{bytes_length}
-use Rattle.zarrs_bytes.specs.PartialRead.{read_places}
 use Rattle.zarrs_bytes.specs.PartialWrite.{bytes_left, with_place_bytes}
-use Rattle.zarrs_packbits.specs.PackBitsSettings.{PackBitsSettings}
-use Rattle.zarrs_packbits.specs.PartialRead.{read_places_of}
-use Rattle.zarrs_array_regions.specs.KeptRegions.{keeps_places, keeps_regions}
+use Rattle.zarrs_array_regions.specs.KeptRegions.{keeps_regions}
 use Rattle.zarrs_array_regions.specs.PlaceReaders.{brought_back, taken_along, ReadsInAnyOrder}
 use Rattle.zarrs_array_regions.specs.Windows.{IsWindow, KeepsWindow, window_count, window_of, window_places, window_elements, permuted_region, next_window, part_map, last_window, region_map, encoded_elements, decoded_elements, decoded_of}
 use Rattle.zarrs_array_regions.specs.declared.window.Window.{Window}
@@ -83,10 +80,6 @@ WindowsCompose =
 
 -- ---- codecs one after another
 
--- Codecs none of which is a transposition leave each place where it is.
-abbrev pub PlacesStay : Type 0
-PlacesStay = (codecs : List ArrayMapping) (sizes : List ℕ) (m : CoordinateMap) (place : ℕ) → list_all keeps_places codecs ≡ true → chained codecs sizes ≡ Ok m → m.to place ≡ place
-
 -- what holds of a region inside a chunk of these sizes that goes as a region through codecs, which do this to such chunks
 abbrev pub OfKeptRegions : (List ArrayMapping → List ℕ → CoordinateMap → Region → Type 0) → Type 0
 OfKeptRegions P =
@@ -114,36 +107,16 @@ RegionsAreWritten = OfKeptRegions (λ codecs sizes m region.
 
 -- ---- reads by places
 
--- `bytes` reads places in any order.
-abbrev pub BytesReadInAnyOrder : Type 0
-BytesReadInAnyOrder = (order : Option Endianness) (type : ElementType) (fill : List ℕ) (stored : Option (List ℕ)) → ReadsInAnyOrder (read_places order type fill stored)
-
--- So does `packbits`.
-abbrev pub PackBitsReadsInAnyOrder : Type 0
-PackBitsReadsInAnyOrder = (settings : PackBitsSettings) (form : Form) (stored : Option (List ℕ)) → ReadsInAnyOrder (read_places_of settings form stored)
-
--- So does what answers for each place an element of its own, as that of a whole chunk or a fill element,
-abbrev pub EachPlaceIsReadInAnyOrder : Type 0
-EachPlaceIsReadInAnyOrder = (element : ℕ → Element) → ReadsInAnyOrder (λ places. Ok (map element places))
-
--- what does so where all places pass a test,
+-- What answers for each place an element of its own, where all places pass a test, reads places in any order.
 abbrev pub TestedPlacesAreReadInAnyOrder : Type 0
 TestedPlacesAreReadInAnyOrder =
     (test : ℕ → Bool) (cause : CodecError) (element : ℕ → Element) → ReadsInAnyOrder (λ places. demand (list_all test places) cause >>= λ _. Ok (map element places))
-
--- and what makes every read fail.
-abbrev pub RefusalsReadInAnyOrder : Type 0
-RefusalsReadInAnyOrder = (cause : CodecError) → ReadsInAnyOrder (λ places. Err cause)
 
 -- What reads places in any order reads where a region's places go just what it reads in the last window, decoded at the region's own lengths; or the same error.
 abbrev pub RegionsAreReadByPlaces : Type 0
 RegionsAreReadByPlaces = OfKeptRegions (λ codecs sizes m region.
     let window = window_of sizes region in
     (read : List ℕ → Result Chunk CodecError) → ReadsInAnyOrder read → read (map m.to (window_places window)) ≡ seen (decoded_elements codecs window) (read (window_places (last_window codecs window))))
-
--- What reads places in any order answers an element for each of them.
-abbrev pub ReadsAreCounted : Type 0
-ReadsAreCounted = (read : List ℕ → Result Chunk CodecError) (places : List ℕ) (chunk : Chunk) → ReadsInAnyOrder read → read places ≡ Ok chunk → length chunk ≡ length places
 
 -- What is decoded at the region's own lengths from a container of what is read in the last window holds what is read where the region's places go.
 abbrev pub RegionsAreDecodedByPlaces : Type 0

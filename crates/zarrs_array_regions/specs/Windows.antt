@@ -72,20 +72,20 @@ part_map squeeze window = same_places (squeezed_lengths window.sizes window.regi
 -- ---- codecs one after another
 
 -- what is made of the next window, or what stays where there is none
-abbrev pub behind : {A : Type 0} → Option Window → A → (Window → A) → A
-behind None stay go = stay
-behind (Some next) stay go = go next
+abbrev pub behind_window : {A : Type 0} → Option Window → A → (Window → A) → A
+behind_window None stay go = stay
+behind_window (Some next) stay go = go next
 
 -- The window that codecs take one of the chunk's own sizes to, one after another. From a reshape on it stays, since all later codecs leave each place where it is.
 abbrev pub last_window : List ArrayMapping → Window → Window
 last_window [] window = window
-last_window (codec ∷ codecs) window = behind (next_window codec window) window (last_window codecs)
+last_window (codec ∷ codecs) window = behind_window (next_window codec window) window (last_window codecs)
 
 -- what they do to its elements
 abbrev pub region_map : List ArrayMapping → Window → CoordinateMap
 region_map [] window = same_places window.region.lengths
 region_map (codec ∷ codecs) window =
-    behind (next_window codec window) (same_places window.region.lengths) (λ next. composition (part_map codec window) (region_map codecs next))
+    behind_window (next_window codec window) (same_places window.region.lengths) (λ next. composition (part_map codec window) (region_map codecs next))
 
 -- the elements of the last window, encoded from those of the window, at the region's own lengths
 abbrev pub encoded_elements : List ArrayMapping → Window → Chunk → Chunk
@@ -111,10 +111,6 @@ TakeType codecs type = All (λ codec. type_taken codec type ≡ Ok tt) codecs
 abbrev pub window_elements : ElementType → Window → Held → Chunk
 window_elements type window held = elements type (window_count window) held
 
--- what is given is the window that the codec makes of this one, if it makes one
-abbrev pub GivesNextWindow : ArrayMapping → Window → Result (Option Window) CodecError → Type 0
-GivesNextWindow codec window result = Gives (λ next. next) result (Ok (next_window codec window))
-
 -- what is given is the window that the codec makes of this one
 abbrev pub GivesThisWindow : ArrayMapping → Window → Result Window CodecError → Type 0
 GivesThisWindow codec window result = Gives Some result (Ok (next_window codec window))
@@ -122,10 +118,6 @@ GivesThisWindow codec window result = Gives Some result (Ok (next_window codec w
 -- the elements of the window, decoded from those that a container has for the last one
 abbrev pub decoded_of : List ArrayMapping → ElementType → Window → Held → Chunk
 decoded_of codecs type window held = decoded_elements codecs window (window_elements type window held)
-
--- what is given is a container of them
-abbrev pub DecodesWindow : List ArrayMapping → ElementType → Window → Held → Result Held CodecError → Type 0
-DecodesWindow codecs type window held result = GivesBy (Holds type) result (Ok (decoded_of codecs type window held))
 
 -- the last window, and its elements, encoded from those that a container has for the window
 abbrev pub encoded_of : List ArrayMapping → ElementType → Window → Held → Window × Chunk
@@ -141,23 +133,11 @@ IsEncodedRegion type answer expected = (places_in answer.0 ≡ window_places exp
 
 -- ---- the same of codecs and of a region of a chunk of these sizes
 
--- what is given is a container of the region's elements, from those that a container has for its last window
-abbrev pub GivesDecoded : List ArrayToArrayCodec → ElementType → List ℕ → Region → Held → Result Held CodecError → Type 0
-GivesDecoded codecs type sizes region held result =
-    DecodesWindow (map mapping_of codecs) type (window_of sizes region) held result
-
--- what the codecs do to the region's elements is a coordinate map
-abbrev pub IsRegionMap : List ArrayToArrayCodec → List ℕ → Region → Type 0
-IsRegionMap codecs sizes region = IsCoordinateMap region.lengths (region_map (map mapping_of codecs) (window_of sizes region))
-
 -- what is given are runs of the places of the region's last window, and a container of its elements
 abbrev pub EncodesMapped : List ArrayMapping → ElementType → List ℕ → Region → Held → Result (Vec (ℕ × ℕ) Global × Held) CodecError → Type 0
 EncodesMapped codecs type sizes region held result =
     GivesBy (IsEncodedRegion type) result (Ok (encoded_of codecs type (window_of sizes region) held))
 
--- the same, of codecs and of a transposition alone
+-- the same of codecs
 abbrev pub EncodesRegion : List ArrayToArrayCodec → ElementType → List ℕ → Region → Held → Result (Vec (ℕ × ℕ) Global × Held) CodecError → Type 0
 EncodesRegion codecs type sizes region held result = EncodesMapped (map mapping_of codecs) type sizes region held result
-
-abbrev pub TransposesRegion : List ℕ → ElementType → List ℕ → Region → Held → Result (Vec (ℕ × ℕ) Global × Held) CodecError → Type 0
-TransposesRegion order type sizes region held result = EncodesMapped (transpose order ∷ []) type sizes region held result

@@ -1,13 +1,13 @@
 //! The elements of a region from those of its last window.
 ghost use Rattle.std.specs.Prelude.{◌≡◌, ◌<◌, ◌^◌, Ok, map};
-ghost use Rattle.zarrs_chunk.specs.Answer.{GivesValue};
+ghost use Rattle.zarrs_chunk.specs.Answer.{GivesBy, GivesValue};
 ghost use Rattle.zarrs_chunk.specs.ChunkShape.{product};
 ghost use Rattle.zarrs_array_bytes.specs.Tight.{KeepsTight};
-ghost use Rattle.zarrs_array_bytes.specs.Validity.{validity};
+ghost use Rattle.zarrs_array_bytes.specs.Validity.{validity, Holds};
 ghost use Rattle.zarrs_array_to_array.specs.CodecAnswers.{type_taken};
 ghost use Rattle.zarrs_array_to_array.specs.Mapping.{mapping_of};
-ghost use Rattle.zarrs_array_regions.specs.Windows.{TakesRegion, TakeType, GivesDecoded};
-ghost use Rattle.zarrs_array_regions.specs.Parts.{FitsRegion, DecodesPart};
+ghost use Rattle.zarrs_array_regions.specs.Windows.{decoded_of, window_of, TakesRegion, TakeType};
+ghost use Rattle.zarrs_array_regions.specs.Parts.{part_decoded, FitsRegion};
 
 use crate::next::next_window;
 use std::alloc::Global;
@@ -40,7 +40,8 @@ fn decoded_part<'a>(
     requires counted { product part.now.lengths < 2 ^ 64 }
     requires takes { type_taken (mapping_of codec.now) data_type.now ≡ Ok tt }
     requires valid { validity data_type.now (product part.now.lengths) held ≡ Ok tt }
-    ensures decoded { DecodesPart (mapping_of codec.now) data_type.now part.now held.entry result }
+    ensures decoded { GivesBy (Holds data_type.now) result
+        (Ok (part_decoded (mapping_of codec.now) data_type.now part.now held.entry)) }
     ensures tight { KeepsTight data_type.now held.entry result }
 {
     match codec {
@@ -77,7 +78,8 @@ pub fn decoded_window<'a>(
     requires takes { TakeType (map mapping_of codecs.now) data_type.now }
     requires filled { 0 < product region.now.lengths }
     requires valid { validity data_type.now (product region.now.lengths) held ≡ Ok tt }
-    ensures decoded { GivesDecoded codecs.now data_type.now shape.now region.now held.entry result }
+    ensures decoded { GivesBy (Holds data_type.now) result (Ok (decoded_of
+        (map mapping_of codecs.now) data_type.now (window_of shape.now region.now) held.entry)) }
     ensures tight { KeepsTight data_type.now held.entry result }
 {
     match codecs {

@@ -6,10 +6,11 @@ ghost use Rattle.zarrs_chunk.specs.Runs.{AreFilled, EndWithin, AreApart};
 ghost use Rattle.zarrs_chunk.specs.Tuples.{is_box_inside};
 ghost use Rattle.zarrs_array_bytes.specs.Tight.{KeepsTight};
 ghost use Rattle.zarrs_array_bytes.specs.Validity.{validity};
+ghost use Rattle.zarrs_codec.specs.CoordinateMap.{IsCoordinateMap};
 ghost use Rattle.zarrs_array_to_array.specs.ArrayToArrayCodec.{transpose};
 ghost use Rattle.zarrs_array_to_array.specs.CodecAnswers.{type_taken};
 ghost use Rattle.zarrs_array_to_array.specs.Mapping.{mapping_of};
-ghost use Rattle.zarrs_array_regions.specs.Windows.{TakesRegion, TakeType, IsRegionMap, GivesRegionRuns, EncodesRegion};
+ghost use Rattle.zarrs_array_regions.specs.Windows.{region_map, window_of, TakesRegion, TakeType, GivesRegionRuns, EncodesRegion};
 ghost use Rattle.zarrs_array_regions.specs.Parts.{FitsRegion, EncodesPart};
 
 use crate::next::next_window;
@@ -112,7 +113,8 @@ pub(crate) fn encoded_runs<'a>(
     ensures filled { IfOk result (λ answer. AreFilled answer.0.items) }
     ensures below { IfOk result (λ answer. EndWithin (product shape.now) answer.0.items) }
     ensures apart { IfOk result (λ answer. AreApart answer.0.items) }
-    ensures map { IfOk result (λ _. IsRegionMap codecs.now shape.now region.now) }
+    ensures map { IfOk result (λ _. IsCoordinateMap region.now.lengths
+        (region_map (map mapping_of codecs.now) (window_of shape.now region.now))) }
 {
     match codecs {
         [] => with_own_runs(alloc, shape, region, held),

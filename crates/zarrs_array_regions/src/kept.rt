@@ -1,8 +1,9 @@
 //! Where a region goes through array-to-array codecs as a region.
-ghost use Rattle.std.specs.Prelude.{◌≡◌, map};
+ghost use Rattle.std.specs.Prelude.{◌≡◌, map, IfSome, option_map};
 ghost use Rattle.std.specs.List.{list_all};
+ghost use Rattle.zarrs_chunk.specs.Indexer.{selection_of};
 ghost use Rattle.zarrs_array_to_array.specs.Mapping.{mapping_of};
-ghost use Rattle.zarrs_array_regions.specs.KeptRegions.{keeps_places as keeps_places_of, keeps_regions as keeps_regions_of, is_filled as is_filled_of, FindsKept, FoundIsKept};
+ghost use Rattle.zarrs_array_regions.specs.KeptRegions.{keeps_places as keeps_places_of, keeps_regions as keeps_regions_of, is_filled as is_filled_of, kept_region as kept_region_of, IsKept};
 
 use zarrs_array_to_array::ArrayToArrayCodec;
 use zarrs_chunk::{ArraySubset, ChunkShape, Indexer};
@@ -55,8 +56,10 @@ pub fn kept_region<'i>(
     shape: &ChunkShape,
     indexer: &'i Indexer,
 ) -> Option<&'i ArraySubset>
-    ensures region { FindsKept codecs.now shape.now indexer.now result }
-    ensures region_kept { FoundIsKept codecs.now shape.now indexer.now result }
+    ensures region { option_map (λ region. region.now) result
+        ≡ kept_region_of (map mapping_of codecs.now) shape.now (selection_of indexer.now) }
+    ensures region_kept { IfSome result (λ region.
+        IsKept (map mapping_of codecs.now) shape.now (selection_of indexer.now) region.now) }
 {
     let Indexer::Subset(region) = indexer else {
         return None;

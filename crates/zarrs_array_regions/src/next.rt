@@ -5,7 +5,7 @@ ghost use Rattle.zarrs_chunk.specs.Tuples.{is_box_inside};
 ghost use Rattle.zarrs_metadata.specs.Orders.{is_order};
 ghost use Rattle.zarrs_array_to_array.specs.ArrayToArrayCodec.{coordinates, transpose, squeeze};
 ghost use Rattle.zarrs_array_to_array.specs.Mapping.{mapping_of};
-ghost use Rattle.zarrs_array_regions.specs.Windows.{window_of, permuted_region, GivesNextWindow, GivesThisWindow};
+ghost use Rattle.zarrs_array_regions.specs.Windows.{next_window as next_window_of, window_of, permuted_region, GivesThisWindow};
 
 use crate::window::Window;
 use std::alloc::Global;
@@ -72,7 +72,8 @@ pub(crate) fn next_window(
 ) -> Result<Option<Window>, CodecError>
     requires taken { is_ok (coordinates (mapping_of codec.now) shape.now) ≡ true }
     requires inside { is_box_inside shape.now part.now.starts part.now.lengths ≡ true }
-    ensures answer { GivesNextWindow (mapping_of codec.now) (window_of shape.now part.now) result }
+    ensures answer { GivesValue result
+        (Ok (next_window_of (mapping_of codec.now) (window_of shape.now part.now))) }
 {
     match codec {
         ArrayToArrayCodec::Transpose(codec) => {

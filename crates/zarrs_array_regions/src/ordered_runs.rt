@@ -1,9 +1,10 @@
 //! The runs of a region with the axes of its chunk in another order.
-ghost use Rattle.std.specs.Prelude.{◌≡◌, ◌<◌, ◌≤◌, ◌^◌, ◌+◌, ◌*◌, length, All};
+ghost use Rattle.std.specs.Prelude.{◌≡◌, ◌<◌, ◌≤◌, ◌^◌, ◌+◌, ◌*◌, ◌∷◌, [], length, All, IfOk};
 ghost use Rattle.std.specs.List.{range_with_len};
 ghost use Rattle.zarrs_chunk.specs.ChunkShape.{product};
+ghost use Rattle.zarrs_chunk.specs.Levels.{AreWhole, LastIsPartial};
 ghost use Rattle.zarrs_array_to_array.specs.Orders.{permuted};
-ghost use Rattle.zarrs_array_regions.specs.OrderedRuns.{AppendsRows, AreAxes, GivesOrdered, HasRoom, HasRows, IsPartialAt, IsWholeBehind};
+ghost use Rattle.zarrs_array_regions.specs.OrderedRuns.{fronts_over, AppendsRows, AreAxes, AreBoxRuns, HasRoom};
 
 use std::alloc::{AllocError, Global};
 
@@ -34,8 +35,10 @@ fn count_elements(order: &[usize], sizes: &[u64]) -> u64
 fn outer_axes(order: &[usize], sizes: &[u64], starts: &[u64], lengths: &[u64]) -> usize
     requires axes { AreAxes order.now sizes.now starts.now lengths.now }
     ensures axes { result ≤ length order.now }
-    ensures whole { IsWholeBehind result order.now sizes.now starts.now lengths.now }
-    ensures partial { IsPartialAt result order.now sizes.now lengths.now }
+    ensures whole { AreWhole result (length order.now) (permuted order.now sizes.now)
+        (permuted order.now starts.now) (permuted order.now lengths.now) }
+    ensures partial { LastIsPartial result
+        (permuted order.now sizes.now) (permuted order.now lengths.now) }
 {
     let mut axes = 0;
     for index in 0..order.len() {
@@ -83,7 +86,8 @@ fn append_rows(
 ) -> Result<(), AllocError>
     requires axes { AreAxes order.now sizes.now starts.now lengths.now }
     requires room { HasRoom front order.now sizes.now row }
-    ensures made { HasRows front row order.now sizes.now starts.now lengths.now out.old out.new result }
+    ensures made { AppendsRows row (fronts_over order.now sizes.now
+        starts.now lengths.now (front ∷ [])) out.old out.new result }
 {
     match order {
         [] => push_rows(out, front, 1, row),
@@ -114,7 +118,8 @@ pub(crate) fn ordered_runs(
     requires axes { AreAxes order.now sizes.now starts.now lengths.now }
     requires filled { All (λ len. 0 < len) lengths.now }
     requires fits { product (permuted order.now sizes.now) < 2 ^ 64 }
-    ensures places { GivesOrdered order.now sizes.now starts.now lengths.now result }
+    ensures places { IfOk result (λ v. AreBoxRuns (permuted order.now sizes.now)
+        (permuted order.now starts.now) (permuted order.now lengths.now) v.items) }
 {
     let axes = outer_axes(order, sizes, starts, lengths);
     if axes == 0 {

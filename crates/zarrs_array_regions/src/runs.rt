@@ -7,7 +7,7 @@ ghost use Rattle.zarrs_array_bytes.specs.Tight.{KeepsTight};
 ghost use Rattle.zarrs_array_bytes.specs.Validity.{validity};
 ghost use Rattle.zarrs_array_to_array.specs.ArrayToArrayCodec.{transpose};
 ghost use Rattle.zarrs_array_to_array.specs.Mapping.{mapping_of};
-ghost use Rattle.zarrs_array_regions.specs.Windows.{TakesRegion, TakeType, EncodesRegion, TransposesRegion, GivesRegionRuns};
+ghost use Rattle.zarrs_array_regions.specs.Windows.{TakesRegion, TakeType, EncodesMapped, EncodesRegion, GivesRegionRuns};
 
 use crate::encoded::{encoded_runs, transposed_part};
 use crate::kept::is_filled;
@@ -97,7 +97,8 @@ fn transposed_region<'b>(
     requires region { TakesRegion (transpose codec.now ∷ []) shape.now region.now }
     requires filled { 0 < product region.now.lengths }
     requires valid { validity data_type.now (product region.now.lengths) held.now ≡ Ok tt }
-    ensures encoded { TransposesRegion codec.now data_type.now shape.now region.now held.now result }
+    ensures encoded { EncodesMapped (transpose codec.now ∷ [])
+        data_type.now shape.now region.now held.now result }
     ensures tight { KeepsTight data_type.now held.now (seen (λ answer. answer.1) result) }
     ensures filled { IfOk result (λ answer. AreFilled answer.0.items) }
     ensures below { IfOk result (λ answer. EndWithin (product shape.now) answer.0.items) }

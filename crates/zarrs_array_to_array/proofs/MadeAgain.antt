@@ -7,8 +7,8 @@ use Rattle.zarrs_metadata.specs.Orders.{is_order}
 use Rattle.zarrs_metadata.specs.ReshapeConfiguration.{write_reshape}
 use Rattle.zarrs_metadata.specs.TransposeConfiguration.{write_transpose}
 use Rattle.zarrs_metadata.proofs.MadeAgain.{transpose-made_again, reshape-made_again}
-use Rattle.zarrs_array_to_array.specs.ArrayToArrayCodec.{transpose, reshape, squeeze}
-use Rattle.zarrs_array_to_array.specs.MappingMetadata.{MappingsMadeAgain}
+use Rattle.zarrs_array_to_array.specs.ArrayToArrayCodec.{ArrayMapping, IsMapping, transpose, reshape, squeeze}
+use Rattle.zarrs_array_to_array.specs.MappingMetadata.{mapping_configuration, mapping_made, mapping_name}
 
 pub order_made_again : (order : List ℕ) (members : Members) → is_order order ≡ true → write_transpose order ≡ members → transpose_made (codec_metadata transpose_name members) ≡ Ok order
 order_made_again order members h e = rw (sym e) (transpose-made_again order h)
@@ -16,7 +16,7 @@ order_made_again order members h e = rw (sym e) (transpose-made_again order h)
 pub dims_made_again : (dims : List Dim) (members : Members) → is_reshape dims ≡ true → write_reshape dims ≡ members → reshape_made (codec_metadata reshape_name members) ≡ Ok dims
 dims_made_again dims members h e = rw (sym e) (reshape-made_again dims h)
 
-pub mappings_made_again : MappingsMadeAgain
+pub mappings_made_again : (codec : ArrayMapping) → IsMapping codec → mapping_made (codec_metadata (mapping_name codec) (mapping_configuration codec)) ≡ Ok codec
 mappings_made_again (transpose order) h = rw (transpose-made_again order h) refl
 mappings_made_again (reshape dims) h = rw (reshape-made_again dims h) refl
 mappings_made_again squeeze h = refl

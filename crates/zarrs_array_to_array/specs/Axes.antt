@@ -1,12 +1,11 @@
 -- The places of a chunk's elements, axis by axis.
-use Rattle.std.specs.Prelude.{◌≡◌, ℕ, ◌+◌, ◌*◌, ◌-◌, ◌<◌, ◌≤◌, List, Vec, [], ◌∷◌, length, map, slice_index, Result, IfOk}
+use Rattle.std.specs.Prelude.{◌≡◌, ℕ, ◌+◌, ◌*◌, ◌-◌, ◌<◌, ◌≤◌, List, Vec, [], ◌∷◌, length, map, slice_index, Result}
 use Rattle.std.specs.List.{between, flat_map}
 use Rattle.std.specs.declared.alloc.Global.{Global}
 use Rattle.zarrs_chunk.specs.Answer.{Appends}
 use Rattle.zarrs_array_bytes.specs.Pieces.{pieces_at}
 use Rattle.zarrs_array_to_array.specs.declared.transpose.axis.Axis.{Axis}
-use Rattle.zarrs_array_to_array.specs.Orders.{permuted}
-use Rattle.zarrs_array_to_array.specs.Strides.{row, next_rows, strides, stepped, last_tuple, all_stepped}
+use Rattle.zarrs_array_to_array.specs.Strides.{row, next_rows}
 
 -- the axes of a chunk in an order: each has its index count among the sizes and its step among the steps
 abbrev pub axes_of : List ℕ → List ℕ → List ℕ → List Axis
@@ -33,22 +32,6 @@ HaveBehind axis old new = axes_places new ≡ next_rows axis.step axis.size (axe
 -- the new axes reach no further than the old ones with this one behind them
 abbrev pub ReachBehind : Axis → List Axis → List Axis → Type 0
 ReachBehind axis old new = reach new ≤ reach old + (axis.size - 1) * axis.step
-
--- the answered axes have the places of these
-abbrev pub HavePlacesOf : {E : Type 0} → List Axis → Result (Vec Axis Global) E → Type 0
-HavePlacesOf axes result = IfOk result (λ v. axes_places v.items ≡ axes_places axes)
-
--- the answered axes reach no further than these
-abbrev pub ReachWithin : {E : Type 0} → List Axis → Result (Vec Axis Global) E → Type 0
-ReachWithin axes result = IfOk result (λ v. reach v.items ≤ reach axes)
-
--- the places of a chunk's elements with its axes in this order, the last of them fastest
-abbrev pub ordered_places : List ℕ → List ℕ → List ℕ
-ordered_places order sizes = all_stepped (permuted order sizes) (permuted order (strides sizes))
-
--- the last one of them
-abbrev pub last_ordered_place : List ℕ → List ℕ → ℕ
-last_ordered_place order sizes = stepped (permuted order (strides sizes)) (last_tuple (permuted order sizes))
 
 -- the places of a plane, from its first one on, row by row
 abbrev pub plane_places : ℕ → Axis → Axis → List ℕ
@@ -80,35 +63,15 @@ abbrev pub AppendsRow : {E : Type 0} → ℕ → ℕ → ℕ → ℕ → ℕ →
 AppendsRow len size front step count bytes old new result =
     Appends old new result (stretches_at len size bytes (row front step count))
 
--- the same of a row of whole groups, of eight elements each
-abbrev pub AppendsGroups : {E : Type 0} → ℕ → ℕ → ℕ → ℕ → ℕ → List ℕ → Vec ℕ Global → Vec ℕ Global → Result (Unit {0}) E → Type 0
-AppendsGroups len size front step groups bytes old new result =
-    AppendsRow len size front step (groups * 8) bytes old new result
-
 -- the same of the row along an axis
 abbrev pub AppendsAlong : {E : Type 0} → ℕ → ℕ → ℕ → Axis → List ℕ → Vec ℕ Global → Vec ℕ Global → Result (Unit {0}) E → Type 0
 AppendsAlong len size front axis bytes old new result =
     AppendsRow len size front axis.step axis.size bytes old new result
 
--- so many bytes from the element of each tuple over the axes on, the last axis fastest
-abbrev pub AppendsStretches : {E : Type 0} → ℕ → ℕ → ℕ → List Axis → List ℕ → Vec ℕ Global → Vec ℕ Global → Result (Unit {0}) E → Type 0
-AppendsStretches len size front axes bytes old new result =
-    Appends old new result (stretches_at len size bytes (behind axes (front ∷ [])))
-
--- the elements of all tuples over the axes, the last axis fastest
-abbrev pub AppendsElements : {E : Type 0} → ℕ → ℕ → List Axis → List ℕ → Vec ℕ Global → Vec ℕ Global → Result (Unit {0}) E → Type 0
-AppendsElements size front axes bytes old new result =
-    Appends old new result (pieces_at size bytes (behind axes (front ∷ [])))
-
 -- so many neighbouring columns, one after another: a column has the elements of all tuples over the axes
 abbrev pub AppendsColumns : {E : Type 0} → ℕ → ℕ → ℕ → List Axis → List ℕ → Vec ℕ Global → Vec ℕ Global → Result (Unit {0}) E → Type 0
 AppendsColumns size front width axes bytes old new result =
     Appends old new result (pieces_at size bytes (behind axes (row front 1 width)))
-
--- the columns of a block, one after another: it has `count` rows of `width` elements
-abbrev pub AppendsBlock : {E : Type 0} → ℕ → ℕ → ℕ → List ℕ → Vec ℕ Global → Vec ℕ Global → Result (Unit {0}) E → Type 0
-AppendsBlock size count width block old new result =
-    Appends old new result (pieces_at size block (next_rows width count (row 0 1 width)))
 
 -- the elements of a plane, its rows one after another
 abbrev pub AppendsPlane : {E : Type 0} → ℕ → ℕ → Axis → Axis → List ℕ → Vec ℕ Global → Vec ℕ Global → Result (Unit {0}) E → Type 0

@@ -1,8 +1,7 @@
 -- Boxes whose ends 64 bits hold, and lists of tuples.
 use Rattle.std.specs.Prelude.{ℕ, ◌+◌, ◌<◌, ◌^◌, List, Vec, map, slice_index, Result, Ok}
 use Rattle.std.specs.declared.alloc.Global.{Global}
-use Rattle.zarrs_chunk.specs.Answer.{Gives, GivesItems}
-use Rattle.zarrs_chunk.specs.Indices.{indices_behind, box_tuple}
+use Rattle.zarrs_chunk.specs.Answer.{Gives}
 use Rattle.zarrs_chunk.specs.Tuples.{box_tuples}
 use Rattle.zarrs_chunk.specs.declared.codec_error.CodecError.{CodecError}
 use Rattle.zarrs_array_to_array.specs.Orders.{permuted}
@@ -18,15 +17,6 @@ tuples_in tuples = map (λ tuple. tuple.items) tuples.items
 -- each of these tuples in this order of axes
 abbrev pub ordered_tuples : List ℕ → List (Vec ℕ Global) → List (List ℕ)
 ordered_tuples order tuples = map (λ tuple. permuted order tuple.items) tuples
-
--- the indices of a tuple, each behind its start, in this order of axes
-abbrev pub ordered_indices : List ℕ → List ℕ → List ℕ → List ℕ
-ordered_indices order starts tuple = permuted order (indices_behind starts tuple)
-
--- the tuple of a box that has this number is given, in this order of axes
-abbrev pub GivesBoxTuple : List ℕ → List ℕ → List ℕ → ℕ → Result (Vec ℕ Global) CodecError → Type 0
-GivesBoxTuple order starts lengths number result =
-    GivesItems result (Ok (permuted order (box_tuple starts lengths number)))
 
 -- the tuples of a box are given, each in this order of axes
 abbrev pub GivesBox : List ℕ → List ℕ → List ℕ → Result (Vec (Vec ℕ Global) Global) CodecError → Type 0

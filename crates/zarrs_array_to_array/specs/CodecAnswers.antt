@@ -7,7 +7,7 @@ use Rattle.zarrs_data_type.specs.ElementType.{ElementType, inner_of}
 use Rattle.zarrs_data_type.specs.Form.{Form}
 use Rattle.zarrs_array_bytes.specs.Held.{Held}
 use Rattle.zarrs_array_bytes.specs.Validity.{Holds}
-use Rattle.zarrs_codec.specs.MappedChunk.{encoded_form, encoded_type, IsSource, EncodesMoved, DecodesMoved, LeavesUnfit}
+use Rattle.zarrs_codec.specs.MappedChunk.{encoded_form, IsSource, EncodesMoved, DecodesMoved, LeavesUnfit}
 use Rattle.zarrs_array_to_array.specs.ArrayToArrayCodec.{ArrayMapping, transpose, reshape, squeeze, coordinates}
 use Rattle.zarrs_array_to_array.specs.TransposeCodec.{transposed_back_sizes, transpose_encoded, transpose_decoded}
 use Rattle.zarrs_array_to_array.specs.declared.transpose.transpose_codec.TheConstants.{TRANSPOSE}
@@ -17,10 +17,6 @@ abbrev pub type_taken : ArrayMapping → ElementType → Result (Unit {0}) Codec
 type_taken (transpose order) type = demand (not (is_some (inner_of type))) (UnsupportedDataType TRANSPOSE)
 type_taken (reshape dims) type = Ok tt
 type_taken squeeze type = Ok tt
-
--- the type of the moved elements: the same, where the codec accepts it
-abbrev pub type_moved : ArrayMapping → ElementType → Result ElementType CodecError
-type_moved codec type = encoded_type (type_taken codec) type
 
 -- the sizes of the decoded chunk, where those of the moved one fix them
 abbrev pub sizes_before : ArrayMapping → List ℕ → Result (Option (List ℕ)) CodecError
@@ -35,10 +31,6 @@ AnswersSizesBefore codec sizes result = AnswersValue memory result (sizes_before
 -- the sizes that are returned, where there are some, are the only ones of which the codec makes the moved ones
 abbrev pub AnswersSource : ArrayMapping → List ℕ → Result (Option (List ℕ)) CodecError → Type 0
 AnswersSource codec encoded result = IfOk result (IsSource (coordinates codec) encoded)
-
--- where no sizes are fixed, that is returned in no new memory
-abbrev pub NoneInPlace : ArrayMapping → List ℕ → Result (Option (List ℕ)) CodecError → Type 0
-NoneInPlace codec encoded result = sizes_before codec encoded ≡ Ok None → result ≡ Ok None
 
 -- what `encode` gives of a container: transposition its moved chunk or its first error, the others the container as it is
 abbrev pub HeldMoved : ArrayMapping → ElementType → List ℕ → Held → Result Held CodecError → Type 0
@@ -73,11 +65,3 @@ MovesBack codec type sizes held result =
 abbrev pub LeavesUnmoved : ArrayMapping → ElementType → List ℕ → Held → Result Held CodecError → Type 0
 LeavesUnmoved codec type sizes held result =
     LeavesUnfit (type_taken codec) (coordinates codec) type sizes held result
-
--- `Moves` of squeezing
-abbrev pub SqueezesChunk : ElementType → List ℕ → Held → Result Held CodecError → Type 0
-SqueezesChunk type sizes held result = Moves squeeze type sizes held result
-
--- `MovesBack` of squeezing
-abbrev pub SqueezesBack : ElementType → List ℕ → Held → Result Held CodecError → Type 0
-SqueezesBack type sizes held result = MovesBack squeeze type sizes held result

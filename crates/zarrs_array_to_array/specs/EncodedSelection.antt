@@ -1,8 +1,6 @@
 -- Which elements of a moved chunk are those that are selected of the decoded one.
-use Rattle.std.specs.Prelude.{◌==◌, ◌&&◌, ℕ, Bool, List, map, length, replicate, Result, Ok, if◌then◌else◌}
+use Rattle.std.specs.Prelude.{◌==◌, ◌&&◌, ℕ, Bool, List, map, length, replicate, Result, if◌then◌else◌}
 use Rattle.std.specs.List.{list_any, zip}
-use Rattle.zarrs_chunk.specs.Answer.{Answers, Gives, memory}
-use Rattle.zarrs_chunk.specs.Indexer.{selection_of}
 use Rattle.zarrs_chunk.specs.Region.{Region}
 use Rattle.zarrs_chunk.specs.Selection.{Selection, subset, indices, tuples_of}
 use Rattle.zarrs_chunk.specs.Tuples.{row_major}
@@ -11,7 +9,7 @@ use Rattle.zarrs_chunk.specs.declared.indexer.Indexer.{Indexer}
 use Rattle.zarrs_codec.specs.MappedSelection.{AsksImage, KeepsPlaces}
 use Rattle.zarrs_array_to_array.specs.ArrayToArrayCodec.{ArrayMapping, transpose, reshape, squeeze, coordinates}
 use Rattle.zarrs_array_to_array.specs.Orders.{permuted}
-use Rattle.zarrs_array_to_array.specs.Squeeze.{kept_indices, or_zero, or_one, squeezed, squeezed_tuple}
+use Rattle.zarrs_array_to_array.specs.Squeeze.{kept_indices, or_zero, or_one, squeezed_tuple}
 use Rattle.zarrs_chunk.specs.Indices.{tuple_of_number}
 
 -- one of the axes that a squeeze drops has an empty range
@@ -45,13 +43,3 @@ MovesIndexer codec sizes indexer result = AsksImage (coordinates codec) (selecti
 -- the indexer that is returned selects of the moved chunk, in the same order, the elements that the given one selects
 abbrev pub MovesPlaces : ArrayMapping → List ℕ → Indexer → Result Indexer CodecError → Type 0
 MovesPlaces codec sizes indexer result = KeepsPlaces (coordinates codec) sizes indexer result
-
--- the tuples that an indexer selects are given, each in this order of axes
-abbrev pub GivesOrdered : List ℕ → Indexer → Result Indexer CodecError → Type 0
-GivesOrdered order indexer result =
-    Gives selection_of result (Ok (indices (map (permuted order) (tuples_of (selection_of indexer)))))
-
--- the indexer that is answered is what squeezing asks for of the squeezed chunk, or `OutOfMemory`
-abbrev pub AnswersSqueezed : List ℕ → Indexer → Result Indexer CodecError → Type 0
-AnswersSqueezed sizes indexer result =
-    Answers memory selection_of result (Ok (selection_in squeeze sizes (squeezed sizes) (selection_of indexer)))

@@ -1,18 +1,13 @@
 -- Lists of tuples whose places are moved as they are numbered.
-use Rattle.std.specs.Prelude.{◌≡◌, ◌<◌, ◌^◌, ℕ, List, Vec, ◌∷◌, map, length, Option, Result, Ok}
+use Rattle.std.specs.Prelude.{◌≡◌, ◌<◌, ◌^◌, ℕ, List, Vec, ◌∷◌, map, length, Ok}
 use Rattle.std.specs.declared.alloc.Global.{Global}
 use Rattle.zarrs_chunk.specs.ChunkShape.{product}
-use Rattle.zarrs_chunk.specs.Indexer.{selection_of}
 use Rattle.zarrs_chunk.specs.Numbering.{numbers_of_tuples}
 use Rattle.zarrs_chunk.specs.Selection.{Selection, indices_of, places_of}
 use Rattle.zarrs_chunk.specs.Tuples.{row_major}
-use Rattle.zarrs_chunk.specs.declared.indexer.Indexer.{Indexer}
 use Rattle.zarrs_array_to_array.specs.ArrayToArrayCodec.{ArrayMapping, transpose}
-use Rattle.zarrs_array_to_array.specs.Mapping.{mapping_of}
 use Rattle.zarrs_array_to_array.specs.Orders.{permuted}
 use Rattle.zarrs_array_to_array.specs.Transpose.{transposed_place}
-use Rattle.zarrs_array_to_array.specs.Vectors.{IfFound}
-use Rattle.zarrs_array_to_array.specs.declared.array_to_array_codec.ArrayToArrayCodec.{ArrayToArrayCodec}
 
 -- the number of a tuple in a chunk with its axes in this order
 abbrev pub ordered_number : List ℕ → List ℕ → List ℕ → ℕ
@@ -41,7 +36,3 @@ pub record StartsList (codecs : List ArrayMapping) (sizes : List ℕ) (selection
   pub tuples : List (Vec ℕ Global)
   pub listed : selection ≡ indices_of tuples
   pub moves : MovesList order sizes tuples places
-
--- the places that were found, where some were, are those where the first of the codecs takes the indexer's
-abbrev pub FindsStart : {E : Type 0} → List ArrayToArrayCodec → List ℕ → Indexer → Result (Option (Vec ℕ Global)) E → Type 0
-FindsStart codecs sizes indexer result = IfFound (StartsList (map mapping_of codecs) sizes (selection_of indexer)) result

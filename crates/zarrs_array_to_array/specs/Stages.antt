@@ -33,18 +33,8 @@ IsStageOfMapping mapping sizes stage = (mapping_of (codec_of stage) ≡ mapping)
 
 -- ---- what is made of a stage for chunks of these sizes, this type and this fill value, by the codec
 
--- the parts of a stage that transposes, and the stage
-abbrev pub MakesTransposerParts : List ℕ → List ℕ → ElementType → List ℕ → Result (List ℕ × List ℕ) CodecError → Type 0
-MakesTransposerParts order sizes type fill result =
-    MakesParts (λ codec. codec) order (transpose order) (form_of sizes type fill) result
-
 abbrev pub MakesTransposer : {T I : Type 0} → List ℕ → List ℕ → ElementType → List ℕ → Result T (Refused I) → Type 0
 MakesTransposer order sizes type fill result = MakesStage (transpose order) (form_of sizes type fill) result
-
--- those of a stage that reshapes
-abbrev pub MakesReshaperParts : List Dim → List ℕ → ElementType → List ℕ → Result (List Dim × List ℕ) CodecError → Type 0
-MakesReshaperParts dims sizes type fill result =
-    MakesParts (λ codec. codec) dims (reshape dims) (form_of sizes type fill) result
 
 abbrev pub MakesReshaper : {T I : Type 0} → List Dim → List ℕ → ElementType → List ℕ → Result T (Refused I) → Type 0
 MakesReshaper dims sizes type fill result = MakesStage (reshape dims) (form_of sizes type fill) result
@@ -56,11 +46,6 @@ MakesSqueezerParts codec sizes type fill result =
 
 abbrev pub MakesSqueezer : {T I : Type 0} → List ℕ → ElementType → List ℕ → Result T (Refused I) → Type 0
 MakesSqueezer sizes type fill result = MakesStage squeeze (form_of sizes type fill) result
-
--- those of a stage that moves elements as a codec does which is one of several
-abbrev pub MakesMoverParts : ArrayToArrayCodec → List ℕ → ElementType → List ℕ → Result (ArrayToArrayCodec × List ℕ) CodecError → Type 0
-MakesMoverParts codec sizes type fill result =
-    MakesParts mapping_of codec (mapping_of codec) (form_of sizes type fill) result
 
 abbrev pub MakesMover : {T I : Type 0} → ArrayToArrayCodec → List ℕ → ElementType → List ℕ → Result T (Refused I) → Type 0
 MakesMover codec sizes type fill result = MakesStage (mapping_of codec) (form_of sizes type fill) result

@@ -6,7 +6,8 @@ ghost use Rattle.zarrs_codec.specs.ArrayWriter.{mapped_writer};
 ghost use Rattle.zarrs_array_to_array.specs.ArrayToArrayCodecPartial.{codec_of, input_of, sizes_of};
 ghost use Rattle.zarrs_codec.specs.Refused.{outcome};
 ghost use Rattle.zarrs_array_to_array.specs.Mapping.{mapping_of};
-ghost use Rattle.zarrs_array_to_array.specs.Stages.{MakesMoverParts, MakesMover, IsStageOfMapping};
+ghost use Rattle.zarrs_array_to_array.specs.Stages.{MakesMover, IsStageOfMapping, MakesParts};
+ghost use Rattle.zarrs_data_type.specs.Form.{form_of};
 
 use crate::array_to_array_codec::ArrayToArrayCodec;
 use std::alloc::Global;
@@ -154,7 +155,7 @@ impl ArrayToArrayCodec {
         data_type: &DataType,
         fill_value: &FillValue,
     ) -> Result<(ArrayToArrayCodec, ChunkShape), CodecError>
-        ensures answer { MakesMoverParts self.now shape.now data_type.now fill_value.now result }
+        ensures answer { MakesParts mapping_of self.now (mapping_of self.now) (form_of shape.now data_type.now fill_value.now) result }
     {
         self.encoded_representation(alloc, shape, data_type, fill_value)?;
         let codec = self.clone()?;

@@ -2,8 +2,9 @@
 ghost use Rattle.std.specs.Prelude.{◌≡◌, ◌<◌, Ok, length, map, All};
 ghost use Rattle.zarrs_chunk.specs.Answer.{Gives, GivesItems};
 ghost use Rattle.zarrs_chunk.specs.ChunkShape.{product};
-ghost use Rattle.zarrs_chunk.specs.Indices.{tuple_of_number};
-ghost use Rattle.zarrs_array_to_array.specs.Boxes.{EndsFit, tuples_in, ordered_indices, GivesBoxTuple, GivesBox};
+ghost use Rattle.zarrs_chunk.specs.Indices.{tuple_of_number, box_tuple, indices_behind};
+ghost use Rattle.zarrs_array_to_array.specs.Boxes.{EndsFit, tuples_in, GivesBox};
+ghost use Rattle.zarrs_array_to_array.specs.Orders.{permuted};
 ghost use Rattle.zarrs_array_to_array.specs.Vectors.{ItemsAre};
 
 use std::alloc::{AllocError, Global};
@@ -46,7 +47,7 @@ fn indices_behind(
     requires order { All (λ axis. axis < length starts.now) order.now }
     requires axes { length tuple.now ≡ length starts.now }
     requires fits { EndsFit starts.now tuple.now }
-    ensures value { ItemsAre (ordered_indices order.now starts.now tuple.now) result }
+    ensures value { ItemsAre (permuted order.now (indices_behind starts.now tuple.now)) result }
 {
     let mut indices = Vec::with_capacity(alloc, order.len())?;
     for axis in order {
@@ -67,7 +68,7 @@ fn box_tuple(
     requires axes { length lengths.now ≡ length starts.now }
     requires fits { EndsFit starts.now lengths.now }
     requires known { number < product lengths.now }
-    ensures answer { GivesBoxTuple order.now starts.now lengths.now number result }
+    ensures answer { GivesItems result (Ok (permuted order.now (box_tuple starts.now lengths.now number))) }
 {
     let tuple = tuple_at(alloc, number, lengths)?;
     let indices = indices_behind(alloc, order, starts, tuple.as_slice())?;

@@ -22,4 +22,5 @@ mod metadata;
 mod present;
 mod selections;
 mod settings;
+mod sharding;
 mod views;

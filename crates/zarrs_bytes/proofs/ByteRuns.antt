@@ -1,5 +1,5 @@
 -- Runs of elements as runs of their bytes.
-use Rattle.std.proofs.Common.{◌≡◌, ℕ, zero, suc, ◌+◌, ◌*◌, ◌<◌, ◌^◌, max, true, nat_lt, Result, Ok, List, [], ◌∷◌, ◌++◌, length, take, drop, set, get_or, arith, refl, ap, ap₂, sym, ◌∙◌}
+use Rattle.std.proofs.Common.{◌≡◌, ℕ, zero, suc, ◌+◌, ◌*◌, ◌<◌, ◌^◌, max, true, nat_lt, Result, Ok, List, [], ◌∷◌, ◌++◌, length, map, take, drop, set, get_or, arith, refl, ap, ap₂, sym, ◌∙◌}
 use Rattle.std.specs.List.{All, list_all, range_with_len}
 use Rattle.std.proofs.Math.Seq.{set-append_seam}
 use Rattle.std.proofs.lemmas.List.{drop_more, take_more, map-append, length-map, length-take-le, append_assoc}
@@ -9,7 +9,7 @@ use Rattle.zarrs_chunk.specs.declared.codec_error.CodecError.{CodecError}
 use Rattle.zarrs_codec.specs.BytePieces.{end_of, furthest_end, pieces_fit, with_zeros, with_pieces}
 use Rattle.zarrs_array_bytes.specs.Update.{update}
 use Rattle.zarrs_bytes.specs.PartialRead.{place_bytes}
-use Rattle.zarrs_bytes.specs.PartialWrite.{end_of_places, with_place_bytes, byte_runs}
+use Rattle.zarrs_bytes.specs.PartialWrite.{end_of_places, with_place_bytes}
 use Rattle.zarrs_bytes.proofs.Ranges.{place_bytes-run, place_bytes-append, place_lengths}
 use Rattle.zarrs_chunk.proofs.WholeAxes.{positive_whole}
 use Rattle.zarrs_codec.specs.SampleLaws.{eq_test}
@@ -19,6 +19,10 @@ use Rattle.zarrs_chunk.proofs.Inside.{lt_test}
 
 abbrev byte_run : ℕ → ℕ × ℕ → ℕ × ℕ
 byte_run size run = (run.0 * size, run.1 * size)
+
+-- runs of elements of one size as runs of their bytes
+abbrev pub byte_runs : ℕ → List (ℕ × ℕ) → List (ℕ × ℕ)
+byte_runs size runs = map (λ run. (run.0 * size, run.1 * size)) runs
 
 pub length-byte_runs : (size : ℕ) (runs : List (ℕ × ℕ)) → length (byte_runs size runs) ≡ length runs
 length-byte_runs size runs = length-map runs (byte_run size)

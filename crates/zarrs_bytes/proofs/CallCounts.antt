@@ -17,7 +17,7 @@ use Rattle.zarrs_bytes.specs.PartialRead.{bytes_at, place_bytes, place_size}
 use Rattle.zarrs_bytes.proofs.BytesAt.{has_all, none_if}
 use Rattle.zarrs_bytes.proofs.Coding.{ok}
 use Rattle.zarrs_bytes.specs.PartialWrite.{bytes_left, bytes_replaced}
-use Rattle.zarrs_bytes.specs.ReadingCalls.{are_many_short, are_scattered, batch_count, calls_by_batches, calls_for_places, calls_for_runs, consecutive_runs, first_count, reading_calls}
+use Rattle.zarrs_bytes.specs.ReadingCalls.{are_many_short, are_scattered, batch_count, calls_by_batches, calls_for_places, calls_for_runs, consecutive_runs, reading_calls}
 
 -- a reading call is one, where it is accepted
 pub one_read : {T : Type 0} (r : Result T CodecError) (before after : Option Calls) → after ≡ after_reads (ok_count r) before → OnOk r (after ≡ after_reads 1 before)
@@ -72,7 +72,7 @@ stored_where_found size None places bytes read = cc
 stored_where_found size (Some value) places bytes read = refl
 
 -- a first call, and the batches behind it
-pub some_counted : (size : ℕ) (stored : Option (List ℕ)) (runs rest : List (ℕ × ℕ)) (before mid after : Option Calls) → is_some stored ≡ true → length rest ≡ length runs - first_count size runs → mid ≡ after_reads 1 before → after ≡ after_reads (batch_count (length rest)) mid → after ≡ after_reads (calls_for_runs size stored runs) before
+pub some_counted : (size : ℕ) (stored : Option (List ℕ)) (runs rest : List (ℕ × ℕ)) (before mid after : Option Calls) → is_some stored ≡ true → length rest ≡ length runs - (if are_many_short size runs then 1024 else length runs) → mid ≡ after_reads 1 before → after ≡ after_reads (batch_count (length rest)) mid → after ≡ after_reads (calls_for_runs size stored runs) before
 some_counted size None runs rest before mid after there is one more = absurd cc
 some_counted size (Some value) runs rest before mid after there is one more =
     let test = are_many_short size runs in

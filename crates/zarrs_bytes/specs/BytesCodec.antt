@@ -3,7 +3,7 @@ use Rattle.std.specs.Prelude.{◌≡◌, ℕ, ◌*◌, ◌<◌, ◌^◌, ◌==�
 use Rattle.std.proofs.Common.{Global}
 use Rattle.std.specs.List.{range_with_len}
 use Rattle.std.specs.declared.borrow.CowSlice.{CowSlice}
-use Rattle.zarrs_chunk.specs.Answer.{◌>>=◌, Gives, demand, checked_u64, seen}
+use Rattle.zarrs_chunk.specs.Answer.{◌>>=◌, demand, checked_u64, seen}
 use Rattle.zarrs_chunk.specs.ChunkShape.{product}
 use Rattle.zarrs_chunk.specs.declared.codec_error.CodecError.{CodecError}
 use Rattle.zarrs_chunk.specs.declared.codec_error.CodecError.TheVariants.{UnsupportedDataType, InvalidFillValue, EndiannessMissing, InvalidBytesLength}
@@ -16,8 +16,6 @@ use Rattle.zarrs_array_bytes.specs.Elements.{piece, elements}
 use Rattle.zarrs_array_bytes.specs.Held.{Held, flen, items_of, raw_of}
 use Rattle.zarrs_array_bytes.specs.Validity.{validity}
 use Rattle.zarrs_data_type.specs.Form.{Form, form_of}
-use Rattle.zarrs_codec.specs.ChunkCodec.{RepresentsBy, EncodesBy, DecodesBy, CompactsNone}
-use Rattle.zarrs_codec.specs.CodecMembers.{DecodesAgain}
 use Rattle.zarrs_codec.specs.declared.bytes_representation.BytesRepresentation.{BytesRepresentation}
 use Rattle.zarrs_codec.specs.declared.bytes_representation.BytesRepresentation.TheVariants.{FixedSize}
 use Rattle.zarrs_bytes.specs.ByteOrder.{bytes_in_order, has_order, spelled_chunk}
@@ -50,18 +48,9 @@ bytes_represented order form = seen FixedSize (bytes_length order form)
 abbrev pub RepresentsNow : Option Endianness → List ℕ → ElementType → List ℕ → Result BytesRepresentation CodecError → Type 0
 RepresentsNow order sizes type fill result = result ≡ bytes_represented order (form_of sizes type fill)
 
--- the same of a call that takes memory
-abbrev pub RepresentsBytes : Option Endianness → List ℕ → ElementType → List ℕ → Result BytesRepresentation CodecError → Type 0
-RepresentsBytes order sizes type fill result = RepresentsBy (bytes_represented order) (form_of sizes type fill) result
-
 -- the codec accepts such chunks
 abbrev pub BytesTakes : Option Endianness → Form → Type 0
 BytesTakes order form = is_ok (bytes_length order form) ≡ true
-
--- what such a chunk is made of is given, where the codec accepts such chunks, or the first error
-abbrev pub Copies : Option Endianness → Form → Result (List ℕ × ElementType × List ℕ) CodecError → Type 0
-Copies order form result =
-    Gives (λ parts. parts) result (seen (λ _. (form.sizes, form.type, form.fill)) (bytes_length order form))
 
 -- ---- its grammar: the elements of the chunk in order, each component in the byte order
 
@@ -112,11 +101,6 @@ bytes_chunk order form value = do
   _ ← demand (length value == len) (InvalidBytesLength (length value) len)
   Ok (map (bytes_element order form.type value) (range_with_len 0 (product form.sizes)))
 
--- a value that is answered is decoded again, to the chunk that the container holds
-abbrev pub DecodesBack : Option Endianness → List ℕ → ElementType → List ℕ → Held → Result (CowSlice ℕ Global) CodecError → Type 0
-DecodesBack order sizes type fill held result =
-    DecodesAgain (bytes_chunk order) (λ type chunk. chunk) (form_of sizes type fill) held result
-
 -- how many bytes the components have that the order turns round; none, where it leaves all bytes in their places
 abbrev pub turn_size : Option Endianness → ElementType → Option ℕ
 turn_size (Some Big) (fixed width components sign) =
@@ -140,29 +124,10 @@ DecodesInPlace order form given result =
 
 -- ---- the same of chunks of these sizes, this type and this fill value
 
--- the value of the chunk that a container holds is answered, or the first error
-abbrev pub Encoded : Option Endianness → List ℕ → ElementType → List ℕ → Held → Result (CowSlice ℕ Global) CodecError → Type 0
-Encoded order sizes type fill held result = EncodesBy (bytes_value order) (form_of sizes type fill) held result
-
--- the same where no memory is taken for the container's bytes, and it is never out of memory
+-- where no memory is taken for the container's bytes, its chunk's value is answered, or the first error; it is never out of memory
 abbrev pub EncodedNow : Option Endianness → List ℕ → ElementType → List ℕ → Held → Result (CowSlice ℕ Global) CodecError → Type 0
 EncodedNow order sizes type fill held result = EncodesInPlace order (form_of sizes type fill) held result
 
--- a container of the chunk that a value stands for is answered, or the first error
-abbrev pub Decoded : Option Endianness → List ℕ → ElementType → List ℕ → CowSlice ℕ Global → Result Held CodecError → Type 0
-Decoded order sizes type fill given result =
-    DecodesBy (bytes_chunk order) (form_of sizes type fill) (items_of given) result
-
--- the same where no memory is taken for the value's bytes, and it is never out of memory
+-- where no memory is taken for the value's bytes, a container of its chunk is answered, or the first error; it is never out of memory
 abbrev pub DecodedNow : Option Endianness → List ℕ → ElementType → List ℕ → CowSlice ℕ Global → Result Held CodecError → Type 0
 DecodedNow order sizes type fill given result = DecodesInPlace order (form_of sizes type fill) given result
-
--- no value of fewer bytes is returned, or the first error is
-abbrev pub CompactsBytes : Option Endianness → List ℕ → ElementType → List ℕ → CowSlice ℕ Global → Result (Option (CowSlice ℕ Global)) CodecError → Type 0
-CompactsBytes order sizes type fill given result =
-    CompactsNone (λ form _. seen (λ _. tt) (bytes_length order form)) (form_of sizes type fill) (items_of given) result
-
--- the same; it is never out of memory
-abbrev pub CompactsNow : Option Endianness → List ℕ → ElementType → List ℕ → Result (Option (CowSlice ℕ Global)) CodecError → Type 0
-CompactsNow order sizes type fill result =
-    result ≡ seen (λ _. None) (bytes_length order (form_of sizes type fill))

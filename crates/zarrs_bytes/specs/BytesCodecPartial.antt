@@ -1,6 +1,5 @@
 -- What a partial coder of `bytes` is made of, and what it reads and writes of a chunk.
-use Rattle.std.specs.Prelude.{◌≡◌, ℕ, Bool, true, Option, is_some, List, Result, Ok, Err, IfOk, Vec}
-use Rattle.std.proofs.Common.{Global}
+use Rattle.std.specs.Prelude.{◌≡◌, ℕ, Bool, true, Option, is_some, List, Result, Ok, Err, IfOk}
 use Rattle.zarrs_chunk.specs.Indexer.{selection_of}
 use Rattle.zarrs_chunk.specs.Selection.{places_of}
 use Rattle.zarrs_chunk.specs.declared.codec_error.CodecError.{CodecError}
@@ -10,17 +9,15 @@ use Rattle.zarrs_data_type.specs.declared.endianness.Endianness.{Endianness}
 use Rattle.zarrs_array_bytes.specs.Held.{Held}
 use Rattle.zarrs_codec.specs.ArrayReader.{ArrayReader}
 use Rattle.zarrs_codec.specs.ArrayWriter.{ArrayWriter}
-use Rattle.zarrs_codec.specs.ByteSpan.{ByteSpan}
-use Rattle.zarrs_codec.specs.Calls.{Calls, MakesReads, MakesWrite, after_reads, ok_count}
+use Rattle.zarrs_codec.specs.Calls.{Calls, MakesReads, MakesWrite}
 use Rattle.zarrs_codec.specs.ChunkEdits.{data_checked}
-use Rattle.zarrs_codec.specs.StorageState.{StorageState, KeptIfAtomic, are_sure}
+use Rattle.zarrs_codec.specs.StorageState.{StorageState, are_sure}
 use Rattle.zarrs_codec.specs.declared.refused.Refused.{Refused}
 use Rattle.zarrs_bytes.specs.BytesGrammar.{bytes_grammar, bytes_reads_part}
 use Rattle.zarrs_data_type.specs.Form.{Form, form_of}
-use Rattle.zarrs_codec.specs.CodersOverHandles.{ReadsPart, OnlyReads, EditsPart, OnlyWrites}
+use Rattle.zarrs_codec.specs.CodersOverHandles.{ReadsPart, OnlyReads, EditsPart}
 use Rattle.zarrs_bytes.specs.PartialRead.{bytes_plan, bytes_read, place_size}
 use Rattle.zarrs_bytes.specs.PartialWrite.{bytes_replaced, bytes_written}
-use Rattle.zarrs_bytes.specs.PlannedRanges.{PlansPlaces}
 use Rattle.zarrs_bytes.specs.ReadingCalls.{calls_for_runs, consecutive_runs}
 use Rattle.zarrs_bytes.specs.declared.bytes_codec_partial.BytesCodecPartial.{BytesCodecPartial}
 
@@ -76,20 +73,10 @@ CountsReads state calls before after indexer result =
     IfOk (places_of (selection_of indexer) before.shape) (λ places.
     MakesReads (coder_calls calls) (calls_for_runs (place_size before.data_type) (stored_in state before) (consecutive_runs places)) before after result)
 
--- a call of a coder makes one reading call
-abbrev pub AsksOnce : {H T : Type 0} → (H → Option Calls) → BytesCodecPartial H → BytesCodecPartial H → Result T CodecError → Type 0
-AsksOnce calls before after result =
-    coder_calls calls after ≡ after_reads (ok_count result) (coder_calls calls before)
-
 -- that a call of a decoder changes nothing
 abbrev pub Leaves : {H T L : Type 0} → (H → StorageState) → (H → L) → BytesCodecPartial H → BytesCodecPartial H → Result T CodecError → Type 0
 Leaves state lent before after result =
     OnlyReads (coder_state state) (coder_lent lent) bytes_form_of before after result
-
--- the ranges that a decoder plans are the plan of a read of the places that the indexer selects, or the first error is returned
-abbrev pub Plans : {H : Type 0} → BytesCodecPartial H → Indexer → Result (Vec ByteSpan Global) CodecError → Type 0
-Plans decoder indexer result =
-    PlansPlaces (place_size decoder.data_type) result (places_of (selection_of indexer) decoder.shape)
 
 -- whether a read is sure that asks for bytes of these numbers, or fails before it asks
 abbrev pub plan_is_sure : Option (ℕ → Bool) → Result (List ℕ) CodecError → Bool
@@ -125,12 +112,3 @@ abbrev pub CountsEdit : {H T : Type 0} → (H → StorageState) → (H → Optio
 CountsEdit state calls before after indexer new result =
     IfOk (places_of (selection_of indexer) before.shape) (λ places.
     MakesWrite (coder_calls calls) 1 (bytes_replaced before.codec (form_of before.shape before.data_type before.fill_value) (stored_in state before) places new) before after result)
-
--- that a call of a coder makes one writing call at most, and changes nothing else
-abbrev pub WritesAtMostOnce : {H T L : Type 0} → (H → StorageState) → (H → L) → Bool → BytesCodecPartial H → BytesCodecPartial H → Result T CodecError → Type 0
-WritesAtMostOnce state lent atomic before after result =
-    OnlyWrites (coder_state state) (coder_lent lent) bytes_form_of atomic before after result
-
--- a failed call of a coder leaves the value as it was, where its handle is atomic
-abbrev pub CoderKeptIfAtomic : {H T : Type 0} → Bool → (H → StorageState) → BytesCodecPartial H → BytesCodecPartial H → Result T CodecError → Type 0
-CoderKeptIfAtomic atomic state before after result = KeptIfAtomic atomic (coder_state state) before after result

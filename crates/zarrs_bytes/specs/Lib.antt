@@ -2,7 +2,6 @@ pub mod ByteOrder
 pub mod BytesCodec
 pub mod BytesCodecPartial
 pub mod BytesGrammar
-pub mod ChunkLengths
 pub mod GivenBytes
 pub mod Laws
 pub mod MemberLaws
@@ -27,7 +26,10 @@ pub use Rattle.zarrs_array_bytes.specs.Validity
 pub use Rattle.zarrs_codec.specs.ArrayReader
 pub use Rattle.zarrs_codec.specs.ArrayWriter
 pub use Rattle.zarrs_codec.specs.ByteRanges
+pub use Rattle.zarrs_codec.specs.Calls
+pub use Rattle.zarrs_codec.specs.ChunkCodec
 pub use Rattle.zarrs_codec.specs.ChunkEdits
+pub use Rattle.zarrs_codec.specs.CodecMembers
 pub use Rattle.zarrs_codec.specs.CodersOverHandles
 pub use Rattle.zarrs_codec.specs.Grammar
 pub use Rattle.zarrs_codec.specs.Refused

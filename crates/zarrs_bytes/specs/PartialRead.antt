@@ -2,7 +2,7 @@
 use Rattle.std.specs.Prelude.{◌≡◌, ℕ, ◌+◌, ◌*◌, ◌^◌, ◌<◌, ◌++◌, Bool, nat_le, Option, Some, None, option_map, All, List, Vec, length, map, Result, Ok, IfOk}
 use Rattle.std.proofs.Common.{Global}
 use Rattle.std.specs.List.{concat, flat_map, list_all, range_with_len}
-use Rattle.zarrs_chunk.specs.Answer.{◌>>=◌, Answers, AnswersBy, Gives, demand, memory_or_fault, seen}
+use Rattle.zarrs_chunk.specs.Answer.{◌>>=◌, Answers, AnswersBy, demand, memory_or_fault, seen}
 use Rattle.zarrs_chunk.specs.Runs.{joined_runs}
 use Rattle.zarrs_chunk.specs.Selection.{Selection, places_of}
 use Rattle.zarrs_chunk.specs.declared.codec_error.CodecError.{CodecError}
@@ -13,8 +13,6 @@ use Rattle.zarrs_data_type.specs.declared.endianness.Endianness.{Endianness}
 use Rattle.zarrs_array_bytes.specs.Elements.{piece}
 use Rattle.zarrs_array_bytes.specs.Held.{Held}
 use Rattle.zarrs_array_bytes.specs.Validity.{Holds}
-use Rattle.zarrs_codec.specs.ByteRanges.{range_indices}
-use Rattle.zarrs_codec.specs.ByteSpan.{ByteSpan}
 use Rattle.zarrs_codec.specs.StorageState.{StorageState, are_sure}
 use Rattle.zarrs_data_type.specs.Form.{Form}
 use Rattle.zarrs_bytes.specs.BytesCodec.{bytes_element}
@@ -25,12 +23,12 @@ abbrev pub place_bytes : ℕ → List ℕ → List ℕ
 place_bytes size places = flat_map (λ place. range_with_len (place * size) size) places
 
 -- the same of the places of these runs, each a start and a length
-abbrev pub run_bytes : ℕ → List (ℕ × ℕ) → List ℕ
-run_bytes size runs = place_bytes size (joined_runs runs)
+abbrev pub run_byte_numbers : ℕ → List (ℕ × ℕ) → List ℕ
+run_byte_numbers size runs = place_bytes size (joined_runs runs)
 
 -- all bytes of elements of one size at the places of these runs are sure to be read
 abbrev pub runs_are_sure : ℕ → StorageState → List (ℕ × ℕ) → Bool
-runs_are_sure size before runs = are_sure before.sure (run_bytes size runs)
+runs_are_sure size before runs = are_sure before.sure (run_byte_numbers size runs)
 
 -- the bytes of elements of one size at these places of what is stored, joined in order, where the value has all of them; none, where nothing is stored
 abbrev pub bytes_at : ℕ → Option (List ℕ) → List ℕ → Result (Option (List ℕ)) CodecError
@@ -59,11 +57,6 @@ with_read before read = seen (option_map (λ more. before ++ more)) read
 abbrev pub AddsRuns : Vec ℕ Global → Vec ℕ Global → ℕ → StorageState → List (ℕ × ℕ) → Result (Unit {0}) CodecError → Type 0
 AddsRuns old new size before runs result =
     Answers memory_or_fault (λ _. Some new.items) result (with_read old.items (bytes_at_runs size before runs))
-
--- the same at places that are given one by one
-abbrev pub AddsAt : Vec ℕ Global → Vec ℕ Global → ℕ → StorageState → List ℕ → Result (Unit {0}) CodecError → Type 0
-AddsAt old new size before places result =
-    Answers memory_or_fault (λ _. Some new.items) result (with_read old.items (bytes_at_places size before places))
 
 -- 64 bits count the bytes of elements of one size up to the end of each of these places
 abbrev pub AreCounted : ℕ → List ℕ → Type 0
@@ -105,31 +98,15 @@ bytes_read order form stored selection = do
   places ← places_of selection form.sizes
   read_places order form.type form.fill stored places
 
--- The answer is a container of the elements at the places of these runs: those of the stored value, where it has all their bytes; the fill element at each, where nothing is stored. Only a lack of memory or a failure of the handle may come in its place.
-abbrev pub ReadsRuns : Option Endianness → ElementType → List ℕ → StorageState → List (ℕ × ℕ) → Result Held CodecError → Type 0
-ReadsRuns order type fill before runs result =
-    AnswersBy memory_or_fault (Holds type) result (read_places order type fill before.value (joined_runs runs))
-
--- Where all bytes of the elements at the places of these runs are sure, no failure of the handle comes.
-abbrev pub ReadsRunsSurely : {T : Type 0} → ElementType → StorageState → List (ℕ × ℕ) → Result T CodecError → Type 0
-ReadsRunsSurely type before runs result = NeverFailsIf (runs_are_sure (place_size type) before runs) result
-
--- the same of places that are given one by one
+-- The answer is a container of the elements at these places: those of the stored value, where it has all their bytes; the fill element at each, where nothing is stored. Only a lack of memory or a failure of the handle may come in its place.
 abbrev pub ReadsPlaces : Option Endianness → ElementType → List ℕ → StorageState → List ℕ → Result Held CodecError → Type 0
 ReadsPlaces order type fill before places result =
     AnswersBy memory_or_fault (Holds type) result (read_places order type fill before.value places)
 
+-- Where all bytes of the elements at these places are sure, no failure of the handle comes.
 abbrev pub ReadsPlacesSurely : {T : Type 0} → ElementType → StorageState → List ℕ → Result T CodecError → Type 0
 ReadsPlacesSurely type before places result = NeverFailsIf (places_are_sure (place_size type) before places) result
-
--- how many bytes the elements at the places of these runs have
-abbrev pub byte_count_of : ElementType → List (ℕ × ℕ) → ℕ
-byte_count_of type runs = length (joined_runs runs) * place_size type
 
 -- the numbers of the bytes that such a read asks for, or the first error
 abbrev pub bytes_plan : List ℕ → ElementType → Selection → Result (List ℕ) CodecError
 bytes_plan sizes type selection = seen (place_bytes (place_size type)) (places_of selection sizes)
-
--- the ranges that are given are the bytes of the places of these runs, in order; only a lack of memory may come in their place
-abbrev pub PlansRuns : ElementType → List (ℕ × ℕ) → Result (Vec ByteSpan Global) CodecError → Type 0
-PlansRuns type runs result = Gives (λ ranges. range_indices ranges.items) result (Ok (run_bytes (place_size type) runs))

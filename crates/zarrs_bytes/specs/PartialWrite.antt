@@ -1,12 +1,10 @@
 -- What a write in part leaves: of a stored value all but the bytes of the places that are written.
-use Rattle.std.specs.Prelude.{◌≡◌, ℕ, ◌+◌, ◌*◌, max, true, is_some, Option, Some, None, List, [], ◌∷◌, length, map, replicate, Vec, Result, Ok, OnOk}
+use Rattle.std.specs.Prelude.{◌≡◌, ℕ, ◌+◌, ◌*◌, max, true, is_some, Option, Some, None, List, [], ◌∷◌, length, replicate, Result, Ok, OnOk}
 use Rattle.std.proofs.Common.{Global}
 use Rattle.std.specs.declared.borrow.CowSlice.{CowSlice}
 use Rattle.zarrs_chunk.specs.Answer.{◌>>=◌, Answers, Gives, is_fault, memory_or_fault}
 use Rattle.zarrs_chunk.specs.ChunkShape.{product}
-use Rattle.zarrs_chunk.specs.Runs.{joined_runs, places_in}
-use Rattle.zarrs_chunk.specs.Indexer.{selection_of}
-use Rattle.zarrs_chunk.specs.declared.indexer.Indexer.{Indexer}
+use Rattle.zarrs_chunk.specs.Runs.{joined_runs}
 use Rattle.zarrs_chunk.specs.Selection.{Selection}
 use Rattle.zarrs_chunk.specs.declared.codec_error.CodecError.{CodecError}
 use Rattle.zarrs_data_type.specs.Element.{Chunk, fill_element}
@@ -39,10 +37,6 @@ end_of_places size (place ∷ places) = max (place * size + size) (end_of_places
 abbrev pub with_place_bytes : ℕ → List ℕ → List ℕ → List ℕ → List ℕ
 with_place_bytes size value places new =
     update (with_zeros value (end_of_places size places)) (place_bytes size places) new
-
--- runs of elements of one size as runs of their bytes
-abbrev pub byte_runs : ℕ → List (ℕ × ℕ) → List (ℕ × ℕ)
-byte_runs size runs = map (λ run. (run.0 * size, run.1 * size)) runs
 
 -- an accepted call leaves the value of a handle, or an empty one where there was none, with these bytes in the place of those of the runs' elements, each of one size (`state` states what is seen of a handle)
 abbrev pub PutsBytes : {H E : Type 0} → ℕ → List (ℕ × ℕ) → List ℕ → (H → StorageState) → H → H → Result (Unit {0}) E → Type 0
@@ -89,11 +83,6 @@ GivesBytes result bytes = Gives items_of result (Ok bytes)
 abbrev pub FillsUp : Option Endianness → List ℕ → ElementType → List ℕ → List (ℕ × ℕ) → Held → Result (CowSlice ℕ Global) CodecError → Type 0
 FillsUp order sizes type fill runs new result =
     GivesBytes result (bytes_left order (form_of sizes type fill) None (joined_runs runs) new)
-
--- runs of the places that an indexer selects, where there is one new element for each, or the first error
-abbrev pub GivesDataPlaces : List ℕ → ElementType → Indexer → Held → Result (Vec (ℕ × ℕ) Global) CodecError → Type 0
-GivesDataPlaces sizes type indexer new result =
-    Gives places_in result (data_places sizes type (selection_of indexer) new)
 
 -- where the handle has sure bytes, a failure that is answered is that of the writing call, so no call failed that reads the value
 abbrev pub FailsByWriting : {C T : Type 0} → (C → StorageState) → C → C → Result T CodecError → Type 0

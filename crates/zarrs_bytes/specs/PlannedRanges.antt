@@ -1,5 +1,5 @@
 -- Ranges of bytes that a read asks for.
-use Rattle.std.specs.Prelude.{◌≡◌, ℕ, ◌+◌, ◌-◌, ◌*◌, ◌<◌, List, length, map, Vec, Result, IfOk}
+use Rattle.std.specs.Prelude.{◌≡◌, ℕ, ◌+◌, ◌-◌, ◌*◌, ◌<◌, List, length, map, Vec, Result}
 use Rattle.std.specs.List.{All, sum_by}
 use Rattle.std.proofs.Common.{Global}
 use Rattle.zarrs_chunk.specs.Answer.{GivesBy}
@@ -16,10 +16,6 @@ NoneIsEmpty ranges = All (λ range. range.start < range.end) ranges
 -- how many bytes the ranges have, all together
 abbrev pub ranges_len : List ByteSpan → ℕ
 ranges_len ranges = sum_by (λ range. range.end - range.start) ranges
-
--- the answered ranges have so many bytes, all together
-abbrev pub SumTo : {E : Type 0} → Result (Vec ByteSpan Global) E → ℕ → Type 0
-SumTo result count = IfOk result (λ ranges. ranges_len ranges.items ≡ count)
 
 -- where ranges start and end
 abbrev pub spans : List ByteSpan → List (ℕ × ℕ)
@@ -42,11 +38,6 @@ pub record IsPlan (size : ℕ) (places : List ℕ) (ranges : List ByteSpan) : Ty
   pub each : spans ranges ≡ map (element_span size) runs
   pub bytes : range_indices ranges ≡ place_bytes size places
   pub sum : ranges_len ranges ≡ length places * size
-
--- where these runs are apart, the answered ranges are the plan of a read of their places
-abbrev pub PlansApart : ℕ → List (ℕ × ℕ) → Result (Vec ByteSpan Global) CodecError → Type 0
-PlansApart size runs result =
-    AreApart runs → IfOk result (λ ranges. IsPlan size (joined_runs runs) ranges.items)
 
 -- the answered ranges are the plan of a read of the expected places, or the first error is returned
 abbrev pub PlansPlaces : ℕ → Result (Vec ByteSpan Global) CodecError → Result (List ℕ) CodecError → Type 0

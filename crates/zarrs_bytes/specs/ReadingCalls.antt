@@ -1,10 +1,8 @@
 -- How many reading calls a read in part makes.
 use Rattle.std.specs.Prelude.{ℕ, suc, ◌+◌, ◌-◌, ◌*◌, ◌/◌, ◌==◌, ◌&&◌, nat_lt, Bool, if◌then◌else◌, Option, Some, None, List, [], ◌∷◌, length, Result}
 use Rattle.zarrs_chunk.specs.Runs.{joined_runs}
-use Rattle.zarrs_data_type.specs.ElementType.{ElementType}
 use Rattle.zarrs_codec.specs.Calls.{Calls, MakesReads}
 use Rattle.zarrs_codec.specs.StorageState.{StorageState}
-use Rattle.zarrs_bytes.specs.PartialRead.{place_size}
 
 -- how many batches of 1,024 so many are
 abbrev pub batch_count : ℕ → ℕ
@@ -14,10 +12,6 @@ batch_count count = (count + 1023) / 1024
 abbrev pub are_many_short : ℕ → List (ℕ × ℕ) → Bool
 are_many_short size runs =
     nat_lt 1024 (length runs) && nat_lt (length (joined_runs runs) * size) (length runs * 16)
-
--- how many of the runs are asked for by the first reading call
-abbrev pub first_count : ℕ → List (ℕ × ℕ) → ℕ
-first_count size runs = if are_many_short size runs then 1024 else length runs
 
 -- how many reading calls a read of these runs makes of a stored value: one; of many short runs one for each batch
 abbrev pub reading_calls : ℕ → List (ℕ × ℕ) → ℕ
@@ -77,15 +71,6 @@ calls_for_places size (Some value) places = reading_calls_at size places
 abbrev pub CountsRuns : {H E T : Type 0} → ℕ → (H → StorageState) → (H → Option Calls) → H → H → List (ℕ × ℕ) → Result T E → Type 0
 CountsRuns size state calls before after runs result =
     MakesReads calls (calls_for_runs size (state before).value runs) before after result
-
--- the same of elements of a type
-abbrev pub CountsRunsOf : {H E T : Type 0} → ElementType → (H → StorageState) → (H → Option Calls) → H → H → List (ℕ × ℕ) → Result T E → Type 0
-CountsRunsOf type = CountsRuns (place_size type)
-
--- an accepted read of elements of this type at these places does
-abbrev pub CountsAt : {H E T : Type 0} → ElementType → (H → StorageState) → (H → Option Calls) → H → H → List ℕ → Result T E → Type 0
-CountsAt type state calls before after places result =
-    MakesReads calls (calls_for_places (place_size type) (state before).value places) before after result
 
 -- an accepted read that asks for these places a batch at a time does
 abbrev pub CountsBatches : {H E T : Type 0} → (H → StorageState) → (H → Option Calls) → H → H → List ℕ → Result T E → Type 0

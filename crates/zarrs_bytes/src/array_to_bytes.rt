@@ -9,9 +9,12 @@ use zarrs_data_type::{DataType, FillValue};
 impl ArrayToBytesCodecTraits for BytesCodec {
     ghost use Rattle.std.specs.Prelude.{◌≡◌, None, IfOk};
     ghost use Rattle.zarrs_chunk.specs.Answer.{seen};
+    ghost use Rattle.zarrs_data_type.specs.Form.{form_of};
+    ghost use Rattle.zarrs_array_bytes.specs.Held.{items_of};
     ghost use Rattle.zarrs_array_bytes.specs.Tight.{IsTight};
-    ghost use Rattle.zarrs_bytes.specs.BytesCodec.{bytes_represented, bytes_length, bytes_value, bytes_chunk, turn_size, RepresentsBytes, RepresentsNow, DecodesBack, Encoded, EncodedNow, Decoded, DecodedNow, CompactsBytes, CompactsNow};
-    ghost use Rattle.zarrs_codec.specs.ChunkCodec.{GivesValid};
+    ghost use Rattle.zarrs_bytes.specs.BytesCodec.{bytes_represented, bytes_length, bytes_value, bytes_chunk, turn_size, RepresentsNow, EncodedNow, DecodedNow};
+    ghost use Rattle.zarrs_codec.specs.ChunkCodec.{GivesValid, RepresentsBy, EncodesBy, DecodesBy, CompactsNone};
+    ghost use Rattle.zarrs_codec.specs.CodecMembers.{DecodesAgain};
     ghost use Rattle.zarrs_bytes.specs.GivenBytes.{IsGiven, HoldsGiven};
 
     ghost represented = { λ order form. bytes_represented order form };
@@ -33,7 +36,8 @@ impl ArrayToBytesCodecTraits for BytesCodec {
         data_type: &DataType,
         fill_value: &FillValue,
     ) -> Result<BytesRepresentation, CodecError>
-        ensures answer { RepresentsBytes self.now shape.now data_type.now fill_value.now result }
+        ensures answer { RepresentsBy (bytes_represented self.now)
+            (form_of shape.now data_type.now fill_value.now) result }
         ensures in_place { RepresentsNow self.now shape.now data_type.now fill_value.now result }
     {
         let lengths = self.lengths(shape, data_type, fill_value)?;
@@ -48,12 +52,12 @@ impl ArrayToBytesCodecTraits for BytesCodec {
         data_type: &DataType,
         fill: &FillValue,
     ) -> Result<ArrayBytesRaw<'a>, CodecError>
-        ensures answer { Encoded self.now shape.now data_type.now fill.now given.entry result }
+        ensures answer { EncodesBy (bytes_value self.now)
+            (form_of shape.now data_type.now fill.now) given.entry result }
         ensures in_place { EncodedNow self.now shape.now data_type.now fill.now given.entry result }
         ensures kept { turn_size self.now data_type.now ≡ None → IsGiven given.entry result }
-        // Wide: the three parameters of a form, the container and the answer.
-        ensures decoded_again { DecodesBack self.now
-            shape.now data_type.now fill.now given.entry result }
+        ensures decoded_again { DecodesAgain (bytes_chunk self.now) (λ t chunk. chunk)
+            (form_of shape.now data_type.now fill.now) given.entry result }
     {
         BytesCodec::encode(self, alloc, given, shape, data_type, fill)
     }
@@ -67,7 +71,8 @@ impl ArrayToBytesCodecTraits for BytesCodec {
         data_type: &DataType,
         fill: &FillValue,
     ) -> Result<ArrayBytes<'a>, CodecError>
-        ensures answer { Decoded self.now shape.now data_type.now fill.now value.entry result }
+        ensures answer { DecodesBy (bytes_chunk self.now)
+            (form_of shape.now data_type.now fill.now) (items_of value.entry) result }
         ensures valid { GivesValid data_type.now shape.now result }
         ensures in_place { DecodedNow self.now shape.now data_type.now fill.now value.entry result }
         ensures kept { turn_size self.now data_type.now ≡ None → HoldsGiven value.entry result }
@@ -86,10 +91,10 @@ impl ArrayToBytesCodecTraits for BytesCodec {
         data_type: &DataType,
         fill_value: &FillValue,
     ) -> Result<Option<ArrayBytesRaw<'a>>, CodecError>
-        // Wide: the three parameters of a form, the value and the answer.
-        ensures answer { CompactsBytes self.now
-            shape.now data_type.now fill_value.now value.entry result }
-        ensures in_place { CompactsNow self.now shape.now data_type.now fill_value.now result }
+        ensures answer { CompactsNone (λ form _. seen (λ _. tt) (bytes_length self.now form))
+            (form_of shape.now data_type.now fill_value.now) (items_of value.entry) result }
+        ensures in_place { result ≡ seen (λ _. None)
+            (bytes_length self.now (form_of shape.now data_type.now fill_value.now)) }
     {
         self.lengths(shape, data_type, fill_value)?;
         Ok(None)

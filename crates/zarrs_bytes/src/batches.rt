@@ -2,14 +2,14 @@
 //!
 //! A range takes 16 bytes of memory, more than most elements have. So where a read asks for many
 //! short ranges, they are made and asked for a batch at a time.
-ghost use Rattle.std.specs.Prelude.{◌≡◌, ◌<◌, ◌≤◌, ◌+◌, ◌*◌, ◌^◌, true, IfOk, All, is_some, length};
+ghost use Rattle.std.specs.Prelude.{◌≡◌, ◌<◌, ◌≤◌, ◌+◌, ◌*◌, ◌^◌, if◌then◌else◌, true, IfOk, All, is_some, length};
 ghost use Rattle.zarrs_codec.specs.ByteRanges.{range_indices};
 ghost use Rattle.zarrs_codec.specs.Calls.{MakesReads};
 ghost use Rattle.zarrs_codec.specs.StorageState.{after_reading};
 ghost use Rattle.zarrs_codec.specs.HandleCalls.{NeverFailsIf, ReadsBytes};
-ghost use Rattle.zarrs_bytes.specs.PartialRead.{bytes_at_runs, run_bytes, runs_are_sure, AddsRuns};
+ghost use Rattle.zarrs_bytes.specs.PartialRead.{bytes_at_runs, run_byte_numbers, runs_are_sure, AddsRuns};
 ghost use Rattle.zarrs_bytes.specs.PlannedRanges.{NoneIsEmpty, AreOfRuns};
-ghost use Rattle.zarrs_bytes.specs.ReadingCalls.{first_count, CountsRuns, MakesBatches};
+ghost use Rattle.zarrs_bytes.specs.ReadingCalls.{are_many_short, CountsRuns, MakesBatches};
 
 use std::alloc::{AllocError, Global};
 use zarrs_chunk::{CodecError, count_places};
@@ -27,7 +27,7 @@ pub fn run_ranges(
     requires filled { All (λ run. 0 < run.1) runs.now }
     requires ends { All (λ run. (run.0 + run.1) * size < 2 ^ 64) runs.now }
     requires sized { 0 < size }
-    ensures bytes { IfOk result (λ ranges. range_indices ranges.items ≡ run_bytes size runs.now) }
+    ensures bytes { IfOk result (λ ranges. range_indices ranges.items ≡ run_byte_numbers size runs.now) }
     ensures filled { IfOk result (λ ranges. NoneIsEmpty ranges.items) }
     ensures each { IfOk result (AreOfRuns size runs.now) }
 {
@@ -46,7 +46,7 @@ pub fn run_ranges(
 /// than their bytes.
 fn first_batch(size: u64, runs: &[(u64, u64)]) -> usize
     ensures within { result ≤ length runs.now }
-    ensures count { result ≡ first_count size runs.now }
+    ensures count { result ≡ (if are_many_short size runs.now then 1024 else length runs.now) }
 {
     let count = runs.len();
     if count <= BATCH {

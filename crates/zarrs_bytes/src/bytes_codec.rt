@@ -1,14 +1,13 @@
 //! The codec `bytes`, of whole chunks.
 ghost use Rattle.std.specs.Prelude.{◌≡◌, ◌<◌, Some, None, IfOk, IfSome, false};
-ghost use Rattle.zarrs_chunk.specs.Answer.{is_fault};
+ghost use Rattle.zarrs_chunk.specs.Answer.{is_fault, seen};
 ghost use Rattle.zarrs_chunk.specs.ChunkShape.{product};
 ghost use Rattle.zarrs_array_bytes.specs.Held.{items_of};
 ghost use Rattle.zarrs_bytes.specs.ByteOrder.{has_order};
 ghost use Rattle.zarrs_data_type.specs.Form.{form_of};
 ghost use Rattle.zarrs_bytes.specs.BytesGrammar.{bytes_grammar};
 ghost use Rattle.zarrs_codec.specs.Grammar.{Encodes, Decodes};
-ghost use Rattle.zarrs_bytes.specs.BytesCodec.{turn_size as turn_size_of, RepresentsNow, EncodedNow, DecodedNow};
-ghost use Rattle.zarrs_bytes.specs.ChunkLengths.{MeasuresBytes};
+ghost use Rattle.zarrs_bytes.specs.BytesCodec.{bytes_length, turn_size as turn_size_of, RepresentsNow, EncodedNow, DecodedNow};
 ghost use Rattle.zarrs_bytes.specs.GivenBytes.{IsGiven, HoldsGiven};
 
 use crate::byte_order::turn;
@@ -111,7 +110,8 @@ impl BytesCodec {
         data_type: &DataType,
         fill_value: &FillValue,
     ) -> Result<ChunkLengths, CodecError>
-        ensures answer { MeasuresBytes self.now shape.now data_type.now fill_value.now result }
+        ensures answer { seen (λ lengths. lengths.bytes) result
+            ≡ bytes_length self.now (form_of shape.now data_type.now fill_value.now) }
         ensures elements { IfOk result (λ lengths. lengths.elements ≡ product shape.now) }
         ensures no_fault { is_fault result ≡ false }
     {
@@ -161,10 +161,8 @@ impl BytesCodec {
         data_type: &DataType,
         fill_value: &FillValue,
     ) -> Result<ArrayBytesRaw<'a>, CodecError>
-        // Wide: the names of its parameters, which the Rust crate has too, fill the row.
         ensures encodes { Encodes (bytes_grammar self.now)
             (form_of shape.now data_type.now fill_value.now) elements.entry result }
-        // Wide: the names of its parameters, which the Rust crate has too, fill the row.
         ensures in_place { EncodedNow self.now
             shape.now data_type.now fill_value.now elements.entry result }
         ensures kept { turn_size_of self.now data_type.now ≡ None → IsGiven elements.entry result }
@@ -189,7 +187,6 @@ impl BytesCodec {
         data_type: &DataType,
         fill_value: &FillValue,
     ) -> Result<ArrayBytes<'a>, CodecError>
-        // Wide: the names of its parameters, which the Rust crate has too, fill the row.
         ensures decodes { Decodes (bytes_grammar self.now)
             (form_of shape.now data_type.now fill_value.now) (items_of value.entry) result }
         ensures in_place { DecodedNow self.now shape.now data_type.now fill_value.now value.entry result }

@@ -1,20 +1,25 @@
 //! Coders of a chunk in part, over a storage handle, and the read of runs of places.
 ghost use Rattle.zarrs_data_type.specs.Form.{form_of};
 ghost use Rattle.std.specs.Prelude.{◌≡◌, ◌<◌, ◌+◌, ◌*◌, ◌^◌, true, None, Ok, IfOk, IfErr, All, is_some, length};
-ghost use Rattle.zarrs_chunk.specs.Answer.{Answers, fault};
-ghost use Rattle.zarrs_chunk.specs.Runs.{joined_runs, EndWithin};
+ghost use Rattle.zarrs_chunk.specs.Answer.{fault, seen, Answers, Gives, GivesValue};
+ghost use Rattle.zarrs_chunk.specs.Indexer.{selection_of};
+ghost use Rattle.zarrs_chunk.specs.Runs.{joined_runs, places_in, EndWithin};
+ghost use Rattle.zarrs_chunk.specs.Selection.{places_of};
 ghost use Rattle.zarrs_data_type.specs.ElementType.{fixed_size_of};
 ghost use Rattle.zarrs_data_type.specs.FillValue.{fill_fits};
 ghost use Rattle.zarrs_array_bytes.specs.Tight.{IsTight};
 ghost use Rattle.zarrs_chunk.specs.ChunkShape.{product};
-ghost use Rattle.zarrs_codec.specs.StorageState.{after_reading, LeftByWriting};
-ghost use Rattle.zarrs_bytes.specs.BytesCodec.{BytesTakes, Copies};
+ghost use Rattle.zarrs_codec.specs.Calls.{after_reads, ok_count};
+ghost use Rattle.zarrs_codec.specs.ChunkEdits.{data_places};
+ghost use Rattle.zarrs_codec.specs.CodersOverHandles.{OnlyWrites};
+ghost use Rattle.zarrs_codec.specs.StorageState.{after_reading, KeptIfAtomic, LeftByWriting};
+ghost use Rattle.zarrs_bytes.specs.BytesCodec.{bytes_length, BytesTakes};
 ghost use Rattle.zarrs_codec.specs.HandleCalls.{NeverFailsIf, Tells};
 ghost use Rattle.zarrs_bytes.specs.MadeCoders.{GivesBytesCoder};
-ghost use Rattle.zarrs_bytes.specs.PartialRead.{place_size, IsFilledType, ReadsRuns, ReadsRunsSurely, RepeatsFill};
-ghost use Rattle.zarrs_bytes.specs.PartialWrite.{FailsByWriting, FitRuns, GivesDataPlaces};
-ghost use Rattle.zarrs_bytes.specs.PlannedRanges.{NoneIsEmpty};
-ghost use Rattle.zarrs_bytes.specs.ReadingCalls.{CountsRunsOf};
+ghost use Rattle.zarrs_bytes.specs.PartialRead.{place_size, IsFilledType, ReadsPlaces, ReadsPlacesSurely, RepeatsFill};
+ghost use Rattle.zarrs_bytes.specs.PartialWrite.{FailsByWriting, FitRuns};
+ghost use Rattle.zarrs_bytes.specs.PlannedRanges.{NoneIsEmpty, PlansPlaces};
+ghost use Rattle.zarrs_bytes.specs.ReadingCalls.{CountsRuns};
 
 use crate::batches::{read_bytes, run_ranges};
 use crate::byte_order::hold_turned;
@@ -91,14 +96,15 @@ impl BytesCodec {
         requires filling { fill_fits data_type.now fill_value.now ≡ true }
         requires filled { All (λ run. 0 < run.1) runs.now }
         requires ends { All (λ run. (run.0 + run.1) * place_size data_type.now < 2 ^ 64) runs.now }
-        // Wide: the names of its parameters fill the row.
-        ensures answer { ReadsRuns self.now data_type.now fill_value.now
-            (H.state handle.old) runs.now result }
-        ensures sure { ReadsRunsSurely data_type.now (H.state handle.old) runs.now result }
+        ensures answer { ReadsPlaces self.now data_type.now fill_value.now
+            (H.state handle.old) (joined_runs runs.now) result }
+        ensures sure { ReadsPlacesSurely data_type.now
+            (H.state handle.old) (joined_runs runs.now) result }
         ensures tight { IfOk result (IsTight data_type.now) }
         ensures left { H.state handle.new ≡ after_reading result (H.state handle.old) }
         ensures same_reference { H.lent handle.new ≡ H.lent handle.old }
-        ensures counted { CountsRunsOf data_type.now H.state H.calls handle.old handle.new runs.now result }
+        ensures counted { CountsRuns (place_size data_type.now)
+            H.state H.calls handle.old handle.new runs.now result }
     {
         let size = element_size(data_type, fill_value);
         match read_bytes(alloc, handle, size as u64, runs)? {
@@ -117,7 +123,8 @@ impl BytesCodec {
         data_type: &DataType,
         fill_value: &FillValue,
     ) -> Result<(ChunkShape, DataType, FillValue), CodecError>
-        ensures answer { Copies self.now (form_of shape.now data_type.now fill_value.now) result }
+        ensures answer { GivesValue result (seen (λ _. (shape.now, data_type.now, fill_value.now))
+            (bytes_length self.now (form_of shape.now data_type.now fill_value.now))) }
         ensures taken { IfOk result (λ all. BytesTakes self.now (form_of all.0 all.1 all.2)) }
     {
         self.encoded_representation(shape, data_type, fill_value)?;
@@ -183,7 +190,8 @@ fn runs_for(
     data_type: &DataType,
     elements: &ArrayBytes<'_>,
 ) -> Result<Vec<(u64, u64)>, CodecError>
-    ensures answer { GivesDataPlaces shape.now data_type.now indexer.now elements.now result }
+    ensures answer { Gives places_in result
+        (data_places shape.now data_type.now (selection_of indexer.now) elements.now) }
     ensures filled { IfOk result (λ runs. All (λ run. 0 < run.1) runs.items) }
     ensures below { IfOk result (λ runs. EndWithin (product shape.now) runs.items) }
     ensures fit { IfOk result (λ runs. FitRuns data_type.now runs.items elements.now) }
@@ -194,7 +202,7 @@ fn runs_for(
 }
 
 impl<H: BytesPartialDecoderTraits> BytesCodecPartial<H> {
-    ghost use Rattle.zarrs_bytes.specs.BytesCodecPartial.{bytes_form_of, bytes_handle_of, coder_state, stored_in, AsksOnce, CountsReads, Reads, Plans, Leaves};
+    ghost use Rattle.zarrs_bytes.specs.BytesCodecPartial.{bytes_form_of, bytes_handle_of, coder_calls, coder_state, stored_in, CountsReads, Reads, Leaves};
 
     /// The type of the elements.
     pub fn data_type(&self) -> &DataType
@@ -236,7 +244,8 @@ impl<H: BytesPartialDecoderTraits> BytesCodecPartial<H> {
         alloc: Global,
         indexer: &Indexer,
     ) -> Result<Vec<ByteRange>, CodecError>
-        ensures plan { Plans self.now indexer.now result }
+        ensures plan { PlansPlaces (place_size (bytes_form_of self.now).type) result
+            (places_of (selection_of indexer.now) (bytes_form_of self.now).sizes) }
         ensures filled { IfOk result (λ ranges. NoneIsEmpty ranges.items) }
     {
         let asked = indexer.runs(alloc, &self.shape)?;
@@ -249,7 +258,8 @@ impl<H: BytesPartialDecoderTraits> BytesCodecPartial<H> {
     pub fn exists(&mut self) -> Result<bool, CodecError>
         ensures answer { Tells result (is_some (stored_in H.state self.old)) }
         ensures sure { NeverFailsIf (is_some (coder_state H.state self.old).sure) result }
-        ensures counted { AsksOnce H.calls self.old self.new result }
+        ensures counted { coder_calls H.calls self.new
+            ≡ after_reads (ok_count result) (coder_calls H.calls self.old) }
         ensures left { Leaves H.state H.lent self.old self.new result }
     {
         self.handle.exists()
@@ -271,7 +281,7 @@ impl<H: BytesPartialDecoderTraits> BytesCodecPartial<H> {
 }
 
 impl<H: BytesPartialEncoderTraits> BytesCodecPartial<H> {
-    ghost use Rattle.zarrs_bytes.specs.BytesCodecPartial.{bytes_form_of, coder_calls, coder_lent, coder_state, stored_in, CoderKeptIfAtomic, CountsEdit, Edits, WritesAtMostOnce};
+    ghost use Rattle.zarrs_bytes.specs.BytesCodecPartial.{bytes_form_of, coder_calls, coder_lent, coder_state, stored_in, CountsEdit, Edits};
 
     /// Writes these elements at the places that the indexer selects, in its order: where a place comes
     /// twice, the last one stands. Of a stored value the places' bytes alone are replaced, and it
@@ -291,10 +301,10 @@ impl<H: BytesPartialEncoderTraits> BytesCodecPartial<H> {
     ) -> Result<(), CodecError>
         ensures edits { Edits H.state self.old self.new indexer.now elements.now result }
         ensures unread { FailsByWriting (coder_state H.state) self.old self.new result }
-        // Wide: the handle's record and state, the coder before and after, and the edit.
         ensures counted { CountsEdit H.state H.calls
             self.old self.new indexer.now elements.now result }
-        ensures left { WritesAtMostOnce H.state H.lent H.atomic self.old self.new result }
+        ensures left { OnlyWrites (coder_state H.state) (coder_lent H.lent) bytes_form_of
+            H.atomic self.old self.new result }
     {
         let runs = runs_for(alloc, indexer, &self.shape, &self.data_type, elements)?;
         self.codec.write_runs(
@@ -312,7 +322,7 @@ impl<H: BytesPartialEncoderTraits> BytesCodecPartial<H> {
     pub fn erase(&mut self) -> Result<(), CodecError>
         ensures answer { Answers fault (λ _. stored_in H.state self.new) result (Ok None) }
         ensures left { LeftByWriting (coder_state H.state) self.old self.new result }
-        ensures kept_if_atomic { CoderKeptIfAtomic H.atomic H.state self.old self.new result }
+        ensures kept_if_atomic { KeptIfAtomic H.atomic (coder_state H.state) self.old self.new result }
         ensures counted { coder_calls H.calls self.new ≡ coder_calls H.calls self.old }
         ensures same_reference { coder_lent H.lent self.new ≡ coder_lent H.lent self.old }
         ensures form_kept { bytes_form_of self.new ≡ bytes_form_of self.old }

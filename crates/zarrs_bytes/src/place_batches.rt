@@ -2,16 +2,17 @@
 //!
 //! A run takes 16 bytes of memory, more than most elements have. So where many places follow no other
 //! one, their runs are made and read a batch at a time.
-ghost use Rattle.std.specs.Prelude.{◌≡◌, ◌<◌, ◌≤◌, true, Ok, IfOk, is_some, length};
-ghost use Rattle.zarrs_chunk.specs.Answer.{Gives};
+ghost use Rattle.std.specs.Prelude.{◌≡◌, ◌<◌, ◌≤◌, true, Ok, Some, IfOk, is_some, length};
+ghost use Rattle.zarrs_chunk.specs.Answer.{memory_or_fault, Answers, Gives};
 ghost use Rattle.zarrs_chunk.specs.Runs.{places_in, AreApart, AreFilled, EndsBelow};
 ghost use Rattle.zarrs_data_type.specs.ElementType.{fixed_size_of};
 ghost use Rattle.zarrs_data_type.specs.FillValue.{fill_fits};
 ghost use Rattle.zarrs_array_bytes.specs.Tight.{IsTight};
+ghost use Rattle.zarrs_codec.specs.Calls.{MakesReads};
 ghost use Rattle.zarrs_codec.specs.StorageState.{after_reading};
 ghost use Rattle.zarrs_codec.specs.HandleCalls.{NeverFailsIf, ReadsBytes};
-ghost use Rattle.zarrs_bytes.specs.PartialRead.{bytes_at_places, place_size, places_are_sure, AddsAt, AreCounted, ReadsPlaces, ReadsPlacesSurely, RepeatsFill};
-ghost use Rattle.zarrs_bytes.specs.ReadingCalls.{are_scattered, follows_count, CountsBatches, CountsAt, MakesBatches};
+ghost use Rattle.zarrs_bytes.specs.PartialRead.{bytes_at_places, place_size, places_are_sure, with_read, AreCounted, ReadsPlaces, ReadsPlacesSurely, RepeatsFill};
+ghost use Rattle.zarrs_bytes.specs.ReadingCalls.{are_scattered, calls_for_places, follows_count, CountsBatches, MakesBatches};
 
 use crate::batches::{BATCH, append_batch, read_batch};
 use crate::byte_order::hold_turned;
@@ -59,7 +60,8 @@ fn append_places<H: BytesPartialDecoderTraits>(
     requires ends { AreCounted size places.now }
     requires sized { 0 < size }
     requires stored { is_some (H.state handle.old).value ≡ true }
-    ensures answer { AddsAt elements.old elements.new size (H.state handle.old) places.now result }
+    ensures answer { Answers memory_or_fault (λ _. Some elements.new.items) result
+        (with_read elements.old.items (bytes_at_places size (H.state handle.old) places.now)) }
     ensures sure { NeverFailsIf (places_are_sure size (H.state handle.old) places.now) result }
     ensures left { H.state handle.new ≡ after_reading result (H.state handle.old) }
     ensures same_reference { H.lent handle.new ≡ H.lent handle.old }
@@ -135,7 +137,6 @@ impl BytesCodec {
         requires fixed { is_some (fixed_size_of data_type.now) ≡ true }
         requires filling { fill_fits data_type.now fill_value.now ≡ true }
         requires ends { AreCounted (place_size data_type.now) places.now }
-        // Wide: as that of `read_places`.
         ensures answer { ReadsPlaces self.now data_type.now fill_value.now
             (H.state handle.old) places.now result }
         ensures sure { ReadsPlacesSurely data_type.now (H.state handle.old) places.now result }
@@ -170,14 +171,14 @@ impl BytesCodec {
         requires fixed { is_some (fixed_size_of data_type.now) ≡ true }
         requires filling { fill_fits data_type.now fill_value.now ≡ true }
         requires ends { AreCounted (place_size data_type.now) places.items }
-        // Wide: the names of its parameters fill the row.
         ensures answer { ReadsPlaces self.now data_type.now fill_value.now
             (H.state handle.old) places.items result }
         ensures sure { ReadsPlacesSurely data_type.now (H.state handle.old) places.items result }
         ensures tight { IfOk result (IsTight data_type.now) }
         ensures left { H.state handle.new ≡ after_reading result (H.state handle.old) }
         ensures same_reference { H.lent handle.new ≡ H.lent handle.old }
-        ensures counted { CountsAt data_type.now H.state H.calls handle.old handle.new places.items result }
+        ensures counted { MakesReads H.calls (calls_for_places (place_size data_type.now)
+            (H.state handle.old).value places.items) handle.old handle.new result }
     {
         if are_scattered(&places) {
             return self.read_scattered(alloc, handle, data_type, fill_value, &places);

@@ -1,9 +1,12 @@
 //! The ranges of bytes that a read of runs asks for.
-ghost use Rattle.std.specs.Prelude.{◌≡◌, ◌<◌, ◌+◌, ◌*◌, ◌^◌, true, IfOk, All, is_some};
+ghost use Rattle.std.specs.Prelude.{◌≡◌, ◌<◌, ◌+◌, ◌*◌, ◌^◌, true, Ok, IfOk, All, is_some, length};
+ghost use Rattle.zarrs_chunk.specs.Answer.{Gives};
+ghost use Rattle.zarrs_chunk.specs.Runs.{joined_runs, AreApart};
 ghost use Rattle.zarrs_data_type.specs.ElementType.{fixed_size_of};
 ghost use Rattle.zarrs_data_type.specs.FillValue.{fill_fits};
-ghost use Rattle.zarrs_bytes.specs.PartialRead.{byte_count_of, place_size, PlansRuns};
-ghost use Rattle.zarrs_bytes.specs.PlannedRanges.{NoneIsEmpty, SumTo, AreOfRuns, PlansApart};
+ghost use Rattle.zarrs_codec.specs.ByteRanges.{range_indices};
+ghost use Rattle.zarrs_bytes.specs.PartialRead.{place_size, run_byte_numbers};
+ghost use Rattle.zarrs_bytes.specs.PlannedRanges.{ranges_len, NoneIsEmpty, AreOfRuns, IsPlan};
 
 use crate::batches::run_ranges;
 use crate::bytes_codec::BytesCodec;
@@ -29,11 +32,14 @@ impl BytesCodec {
         requires filling { fill_fits data_type.now fill_value.now ≡ true }
         requires filled { All (λ run. 0 < run.1) runs.now }
         requires ends { All (λ run. (run.0 + run.1) * place_size data_type.now < 2 ^ 64) runs.now }
-        ensures bytes { PlansRuns data_type.now runs.now result }
+        ensures bytes { Gives (λ ranges. range_indices ranges.items) result
+            (Ok (run_byte_numbers (place_size data_type.now) runs.now)) }
         ensures filled { IfOk result (λ ranges. NoneIsEmpty ranges.items) }
         ensures each { IfOk result (AreOfRuns (place_size data_type.now) runs.now) }
-        ensures plan { PlansApart (place_size data_type.now) runs.now result }
-        ensures sum { SumTo result (byte_count_of data_type.now runs.now) }
+        ensures plan { AreApart runs.now → IfOk result
+            (λ ranges. IsPlan (place_size data_type.now) (joined_runs runs.now) ranges.items) }
+        ensures sum { IfOk result (λ ranges. ranges_len ranges.items
+            ≡ length (joined_runs runs.now) * place_size data_type.now) }
     {
         let size = element_size(data_type, fill_value);
         let ranges = run_ranges(alloc, size as u64, runs)?;

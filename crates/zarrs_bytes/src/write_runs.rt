@@ -1,6 +1,6 @@
 //! New elements written at runs of places, over a handle that keeps a chunk's value.
 ghost use Rattle.zarrs_data_type.specs.Form.{form_of};
-ghost use Rattle.std.specs.Prelude.{◌≡◌, ◌<◌, ◌+◌, ◌*◌, ◌^◌, Ok, All, IsOk, OnOk, OnErr, length};
+ghost use Rattle.std.specs.Prelude.{◌≡◌, ◌<◌, ◌+◌, ◌*◌, ◌^◌, Ok, All, IsOk, OnOk, OnErr, length, map};
 ghost use Rattle.zarrs_chunk.specs.Answer.{Answers, memory_or_fault, seen};
 ghost use Rattle.zarrs_chunk.specs.ChunkShape.{product};
 ghost use Rattle.zarrs_chunk.specs.Runs.{joined_runs, EndWithin};
@@ -9,8 +9,8 @@ ghost use Rattle.zarrs_bytes.specs.BytesCodec.{BytesTakes};
 ghost use Rattle.zarrs_codec.specs.Calls.{CountsWrite};
 ghost use Rattle.zarrs_codec.specs.StorageState.{KeptIfAtomic, LeftByWriting};
 ghost use Rattle.zarrs_codec.specs.ArrayWriter.{LeftByRefusal};
-ghost use Rattle.zarrs_bytes.specs.PartialRead.{run_bytes};
-ghost use Rattle.zarrs_bytes.specs.PartialWrite.{byte_runs, value_bytes, CountsWriteOfRuns, FailsByWriting, FillsUp, FitRuns, GivesBytes, PutsBytes, WritesRuns};
+ghost use Rattle.zarrs_bytes.specs.PartialRead.{run_byte_numbers};
+ghost use Rattle.zarrs_bytes.specs.PartialWrite.{value_bytes, CountsWriteOfRuns, FailsByWriting, FillsUp, FitRuns, GivesBytes, PutsBytes, WritesRuns};
 
 use crate::byte_order::turn;
 use crate::bytes_codec::BytesCodec;
@@ -25,7 +25,7 @@ use zarrs_data_type::{DataType, FillValue};
 /// Makes runs of elements of `size` bytes runs of their bytes, in place.
 fn scale_runs(runs: &mut [(u64, u64)], size: u64)
     requires ends { All (λ run. (run.0 + run.1) * size < 2 ^ 64) runs.old }
-    ensures scaled { runs.new ≡ byte_runs size runs.old }
+    ensures scaled { runs.new ≡ map (λ run. (run.0 * size, run.1 * size)) runs.old }
 {
     for index in 0..runs.len() {
         let (start, len) = runs[index];
@@ -51,8 +51,7 @@ fn put_runs<H: BytesPartialEncoderTraits>(
     ensures kept_if_atomic { KeptIfAtomic H.atomic H.state handle.old handle.new result }
     ensures left { LeftByWriting H.state handle.old handle.new result }
     ensures same_reference { H.lent handle.new ≡ H.lent handle.old }
-    // Wide: the record of the handle's calls, and the numbers of the runs' bytes.
-    ensures counted { CountsWrite H.calls handle.old handle.new (run_bytes size runs.items) result }
+    ensures counted { CountsWrite H.calls handle.old handle.new (run_byte_numbers size runs.items) result }
 {
     scale_runs(&mut runs, size);
     handle.partial_encode_many(alloc, runs.as_slice(), bytes)
@@ -108,9 +107,8 @@ impl BytesCodec {
         ensures unread { FailsByWriting H.state handle.old handle.new result }
         ensures kept_if_atomic { KeptIfAtomic H.atomic H.state handle.old handle.new result }
         ensures same_reference { H.lent handle.new ≡ H.lent handle.old }
-        // Wide: the record of the handle's calls, and the numbers of the runs' bytes.
         ensures counted { CountsWrite H.calls
-            handle.old handle.new (run_bytes size runs.items) result }
+            handle.old handle.new (run_byte_numbers size runs.items) result }
     {
         let bytes = self.spell(alloc, elements, data_type)?;
         put_runs(alloc, handle, size, runs, bytes.as_slice())
@@ -179,7 +177,6 @@ impl BytesCodec {
         requires filled { All (λ run. 0 < run.1) runs.items }
         requires below { EndWithin (product shape.now) runs.items }
         requires fit { FitRuns data_type.now runs.items elements }
-        // Wide: the names of its parameters fill the row.
         ensures answer { WritesRuns self.now (form_of shape.now data_type.now fill_value.now)
             runs.items elements.entry H.state handle.old handle.new result }
         ensures one_write { OnOk result (LeftByWriting H.state handle.old handle.new result) }
@@ -216,7 +213,6 @@ impl BytesCodec {
         requires filled { All (λ run. 0 < run.1) runs.items }
         requires below { EndWithin (product shape.now) runs.items }
         requires fit { FitRuns data_type.now runs.items elements.now }
-        // Wide: the names of its parameters fill the row.
         ensures answer { WritesRuns self.now (form_of shape.now data_type.now fill_value.now)
             runs.items elements.now H.state handle.old handle.new result }
         ensures one_write { OnOk result (LeftByWriting H.state handle.old handle.new result) }

@@ -2,7 +2,7 @@
 use Rattle.std.proofs.Common.{◌≡◌, ◌↔◌, ◌∙◌, ℕ, true, zero, suc, ◌+◌, ◌-◌, ◌<◌, ◌≤◌, inl, inr, List, [], ◌∷◌, length, get_or, map, arith, refl, ap, sym}
 use Rattle.std.specs.List.{Contains, flat_map, range_with_len}
 use Rattle.std.proofs.lemmas.List.Elements.{Contains-append_left, Contains-append_right, Contains-append_cases}
-use Rattle.zarrs_chunk.specs.Laws.{IsInBox, IsBoxInShape}
+use Rattle.zarrs_chunk.specs.InsideByAxis.{IsInBox, IsBoxInShape}
 use Rattle.zarrs_chunk.specs.Tuples.{box_tuples, is_box_inside, is_tuple_inside}
 use Rattle.zarrs_chunk.proofs.Inside.{is_box_inside-all, is_box_inside-at, is_box_inside-lengths, is_tuple_inside-all}
 

@@ -3,7 +3,7 @@ use Rattle.std.proofs.Common.{◌≡◌, ◌↔◌, ℕ, ◌+◌, ◌*◌, ◌<�
 use Rattle.std.proofs.lemmas.Bool.{and_parts}
 use Rattle.std.proofs.Math.Nat.{mul-le-mul_right}
 use Rattle.zarrs_chunk.specs.ChunkShape.{product}
-use Rattle.zarrs_chunk.specs.Laws.{IsInShape}
+use Rattle.zarrs_chunk.specs.InsideByAxis.{IsInShape}
 use Rattle.zarrs_chunk.specs.Tuples.{row_major, is_tuple_inside}
 use Rattle.zarrs_chunk.proofs.Inside.{is_tuple_inside-length, is_tuple_inside-at, is_tuple_inside-all, row_major-below}
 

@@ -1,41 +1,41 @@
 -- Numbers of tuples, and tuples of numbers.
-use Rattle.std.proofs.Common.{◌≡◌, ℕ, ◌+◌, ◌*◌, ◌/◌, ◌%◌, ◌^◌, ◌<◌, ◌≤◌, ◌∙◌, true, false, Some, None, List, length, get_or, drop, set, nat_lt, arith, refl, ap, sym}
+use Rattle.std.proofs.Common.{◌≡◌, ℕ, ◌+◌, ◌*◌, ◌/◌, ◌%◌, ◌^◌, ◌<◌, ◌≤◌, ◌∙◌, ◌&&◌, if◌then◌else◌, Bool, true, false, Some, None, List, length, get_or, drop, set, nat_lt, arith, refl, ap, sym}
 use Rattle.std.specs.List.{All}
 use Rattle.std.proofs.lemmas.Bool.Decides.{nat_tests}
 use Rattle.std.proofs.lemmas.Bool.{and_from}
 use Rattle.std.proofs.lemmas.List.{drop_more, drop-set}
 use Rattle.std.proofs.Math.Nat.{div-add-mod, mod-lt}
 use Rattle.zarrs_chunk.specs.ChunkShape.{product}
-use Rattle.zarrs_chunk.specs.Indices.{number_of_tuple}
 use Rattle.zarrs_chunk.specs.Levels.{number_behind}
 use Rattle.zarrs_chunk.specs.Tuples.{row_major, is_tuple_inside}
 use Rattle.zarrs_chunk.proofs.Inside.{is_tuple_inside-length, number_behind-more, number_behind-end, number_behind-drop-le}
 
 -- ---- ravel
 
-pub number_of_tuple-inside : (sizes tuple : List ℕ) → is_tuple_inside sizes tuple ≡ true → row_major sizes tuple < 2 ^ 64 → number_of_tuple sizes tuple ≡ Some (row_major sizes tuple)
-number_of_tuple-inside sizes tuple h l =
-    let t : nat_lt (row_major sizes tuple) (2 ^ 64) ≡ true = grind (arith, nat_tests) in
+-- the number of a tuple inside, where 64 bits hold it
+fits : (inside : Bool) (number : ℕ) → inside ≡ true → number < 2 ^ 64 → (if inside && nat_lt number (2 ^ 64) then Some number else None) ≡ Some number
+fits inside number h l =
+    let t : nat_lt number (2 ^ 64) ≡ true = grind (arith, nat_tests) in
     rw (h, t) refl
 
-pub number_of_tuple-overflow : (sizes tuple : List ℕ) → is_tuple_inside sizes tuple ≡ true → 2 ^ 64 ≤ row_major sizes tuple → number_of_tuple sizes tuple ≡ None
-number_of_tuple-overflow sizes tuple h l =
-    let t : nat_lt (row_major sizes tuple) (2 ^ 64) ≡ false = grind (arith, nat_tests) in
+overflows : (inside : Bool) (number : ℕ) → inside ≡ true → 2 ^ 64 ≤ number → (if inside && nat_lt number (2 ^ 64) then Some number else None) ≡ None
+overflows inside number h l =
+    let t : nat_lt number (2 ^ 64) ≡ false = grind (arith, nat_tests) in
     rw (h, t) refl
 
 -- where one axis more passes 64 bits, so does the whole number
-pub number_of_tuple-fails : (sizes tuple : List ℕ) (number axis : ℕ) → is_tuple_inside sizes tuple ≡ true → axis < length sizes → number_behind number (drop axis sizes) (drop axis tuple) ≡ row_major sizes tuple → 2 ^ 64 ≤ number * get_or sizes axis 0 + get_or tuple axis 0 → number_of_tuple sizes tuple ≡ None
-number_of_tuple-fails sizes tuple number axis inside h e passes =
+pub ravel_overflows : (sizes tuple : List ℕ) (number axis : ℕ) → is_tuple_inside sizes tuple ≡ true → axis < length sizes → number_behind number (drop axis sizes) (drop axis tuple) ≡ row_major sizes tuple → 2 ^ 64 ≤ number * get_or sizes axis 0 + get_or tuple axis 0 → (if is_tuple_inside sizes tuple && nat_lt (row_major sizes tuple) (2 ^ 64) then Some (row_major sizes tuple) else None) ≡ None
+ravel_overflows sizes tuple number axis inside h e passes =
     let l : axis < length tuple = omega (arith, is_tuple_inside-length sizes tuple inside) in
     let more = number_behind-more sizes tuple number axis h l ∙ e in
     let le = number_behind-drop-le sizes tuple (number * get_or sizes axis 0 + get_or tuple axis 0) (axis + 1) inside in
-    number_of_tuple-overflow sizes tuple inside (omega (arith, more, le))
+    overflows (is_tuple_inside sizes tuple) (row_major sizes tuple) inside (omega (arith, more, le))
 
 -- behind all axes, the number is the tuple's
-pub number_of_tuple-end : (sizes tuple : List ℕ) (number axis : ℕ) → is_tuple_inside sizes tuple ≡ true → length sizes ≤ axis → number < 2 ^ 64 → number_behind number (drop axis sizes) (drop axis tuple) ≡ row_major sizes tuple → Some number ≡ number_of_tuple sizes tuple
-number_of_tuple-end sizes tuple number axis inside h small e =
+pub ravel_ends : (sizes tuple : List ℕ) (number axis : ℕ) → is_tuple_inside sizes tuple ≡ true → length sizes ≤ axis → number < 2 ^ 64 → number_behind number (drop axis sizes) (drop axis tuple) ≡ row_major sizes tuple → Some number ≡ (if is_tuple_inside sizes tuple && nat_lt (row_major sizes tuple) (2 ^ 64) then Some (row_major sizes tuple) else None)
+ravel_ends sizes tuple number axis inside h small e =
     let same : number ≡ row_major sizes tuple = sym (number_behind-end sizes tuple number axis h) ∙ e in
-    ap (λ n. Some n) same ∙ sym (number_of_tuple-inside sizes tuple inside (omega (arith, same)))
+    ap (λ n. Some n) same ∙ sym (fits (is_tuple_inside sizes tuple) (row_major sizes tuple) inside (omega (arith, same)))
 
 -- ---- unravel
 

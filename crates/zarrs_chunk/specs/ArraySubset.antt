@@ -1,5 +1,5 @@
 -- A box of index tuples: one range an axis.
-use Rattle.std.specs.Prelude.{ℕ, ◌+◌, ◌-◌, ◌^◌, ◌==◌, nat_le, nat_lt, List, map, length, replicate, Result, Ok, Bool}
+use Rattle.std.specs.Prelude.{ℕ, ◌+◌, ◌-◌, ◌^◌, ◌==◌, nat_le, nat_lt, List, map, length, Result, Ok, Bool}
 use Rattle.std.specs.List.{list_all, zip}
 use Rattle.std.specs.declared.ops.Range.{Range}
 use Rattle.zarrs_chunk.specs.Answer.{◌>>=◌, demand}
@@ -23,7 +23,3 @@ subset_of_start_shape starts lengths = do
   _ ← demand (length starts == length lengths) IncompatibleDimensionality
   _ ← demand (ends_fit starts lengths) Overflow
   Ok (record { starts = starts; lengths = lengths })
-
--- the box of all tuples of a shape
-abbrev pub subset_of_shape : List ℕ → Region
-subset_of_shape sizes = record { starts = replicate (length sizes) 0; lengths = sizes }

@@ -5,7 +5,7 @@ pub mod ChunkShape
 pub mod CodecError
 pub mod Indexer
 pub mod Indices
-pub mod Laws
+pub mod InsideByAxis
 pub mod Levels
 pub mod Numbering
 pub mod Region

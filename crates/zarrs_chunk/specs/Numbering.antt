@@ -1,9 +1,8 @@
 -- Lists of index tuples that are tested and numbered in one pass.
-use Rattle.std.specs.Prelude.{◌≡◌, ◌==◌, ◌<◌, ◌^◌, ℕ, Bool, true, false, List, Vec, map, length, Result, MatchResult}
+use Rattle.std.specs.Prelude.{◌≡◌, ◌==◌, ℕ, Bool, true, false, List, Vec, map, length, Result, MatchResult}
 use Rattle.std.specs.List.{list_all}
 use Rattle.std.specs.declared.alloc.Global.{Global}
 use Rattle.zarrs_chunk.specs.Answer.{Excused, memory}
-use Rattle.zarrs_chunk.specs.ChunkShape.{product}
 use Rattle.zarrs_chunk.specs.Tuples.{row_major, is_tuple_inside}
 use Rattle.zarrs_chunk.specs.declared.codec_error.CodecError.{CodecError}
 use Rattle.zarrs_chunk.specs.declared.codec_error.CodecError.TheVariants.{OutOfBounds}
@@ -19,10 +18,6 @@ are_tuples_inside sizes tuples = list_all (λ tuple. is_tuple_inside sizes tuple
 -- the row-major numbers of the tuples, in list order
 abbrev pub numbers_of_tuples : List ℕ → List (Vec ℕ Global) → List ℕ
 numbers_of_tuples sizes tuples = map (λ tuple. row_major sizes tuple.items) tuples
-
--- each of the tuples has one number an axis, and 64 bits count the elements of the chunk
-abbrev pub AreCountable : List ℕ → List (Vec ℕ Global) → Type 0
-AreCountable sizes tuples = (are_of_axes (length sizes) tuples ≡ true) × (product sizes < 2 ^ 64)
 
 -- the call is Ok only where this test for what lies inside passes, and returns `OutOfBounds` where it doesn't; `OutOfMemory` may come at any time
 abbrev pub IsOkInside : {T : Type 0} → Bool → Result T CodecError → Type 0

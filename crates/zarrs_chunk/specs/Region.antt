@@ -6,11 +6,6 @@ pub record Region : Type 0 where
   pub starts : List ℕ
   pub lengths : List ℕ
 
--- each range of the box ends below `2^64`
-abbrev pub EndBelow64Bits : List ℕ → List ℕ → Type 0
-EndBelow64Bits starts lengths =
-    (axis : ℕ) → axis < length starts → slice_index starts axis + slice_index lengths axis < 2 ^ 64
-
 -- the box has a length for each start, and each of its ranges ends below `2^64`
 pub record IsRegion (starts lengths : List ℕ) : Type 0 where
   pub axes : length starts ≡ length lengths

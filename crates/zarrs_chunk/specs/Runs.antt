@@ -1,5 +1,5 @@
 -- Places in runs of consecutive numbers.
-use Rattle.std.specs.Prelude.{◌≡◌, ℕ, ◌+◌, ◌-◌, ◌<◌, ◌≤◌, ◌≢◌, ◌++◌, List, Vec, length, slice_index, All, Result, IfOk, OnOk}
+use Rattle.std.specs.Prelude.{◌≡◌, ℕ, ◌+◌, ◌<◌, ◌≤◌, ◌≢◌, ◌++◌, List, Vec, length, All, Result, IfOk, OnOk}
 use Rattle.std.specs.declared.alloc.Global.{Global}
 use Rattle.std.specs.List.{flat_map, range_with_len, AllAdjacentBelow}
 
@@ -27,19 +27,9 @@ StayWithin limit old new = EndWithin limit old → EndWithin limit new
 abbrev pub AreApart : List (ℕ × ℕ) → Type 0
 AreApart runs = AllAdjacentBelow (λ run next. run.0 + run.1 ≢ next.0) runs (length runs)
 
--- the place behind the first `count` doesn't follow the last of them
-abbrev pub EndsRun : ℕ → List ℕ → Type 0
-EndsRun count places =
-    count < length places → slice_index places count ≢ slice_index places (count - 1) + 1
-
 -- a call that returns Ok has put runs of these places behind the old ones
 abbrev pub AddsPlaces : {E : Type 0} → Vec (ℕ × ℕ) Global → Vec (ℕ × ℕ) Global → Result (Unit {0}) E → List ℕ → Type 0
 AddsPlaces old new result places = OnOk result (places_in new ≡ places_in old ++ places)
-
--- below each limit of the place, a call that returns Ok keeps the runs within that limit
-abbrev pub KeepsBelow : {E : Type 0} → ℕ → Vec (ℕ × ℕ) Global → Vec (ℕ × ℕ) Global → Result (Unit {0}) E → Type 0
-KeepsBelow place old new result =
-    (limit : ℕ) → place < limit → OnOk result (StayWithin limit old.items new.items)
 
 -- below each limit of all the places, the returned runs end within that limit
 abbrev pub EndsBelow : {E : Type 0} → List ℕ → Result (Vec (ℕ × ℕ) Global) E → Type 0

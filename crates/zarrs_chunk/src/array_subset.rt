@@ -1,13 +1,12 @@
 //! Boxes of index tuples.
-ghost use Rattle.std.specs.Prelude.{◌≡◌, Ok, length, ◌&&◌};
+ghost use Rattle.std.specs.Prelude.{◌≡◌, ◌+◌, ◌^◌, ◌<◌, ◌&&◌, ℕ, Ok, length, replicate, slice_index};
 ghost use Rattle.std.specs.Bool.{nat_eq};
 ghost use Rattle.std.specs.Cmp.Lexicographic.{pointwise};
 ghost use Rattle.std.specs.Cmp.Rules.{comparing};
 ghost use Rattle.std.proofs.Common.{rules};
 ghost use Rattle.zarrs_chunk.specs.Answer.{memory, checked_u64, AnswersValue};
-ghost use Rattle.zarrs_chunk.specs.ArraySubset.{ends_fit, subset_of_ranges, subset_of_shape, subset_of_start_shape};
+ghost use Rattle.zarrs_chunk.specs.ArraySubset.{ends_fit, subset_of_ranges, subset_of_start_shape};
 ghost use Rattle.zarrs_chunk.specs.ChunkShape.{product};
-ghost use Rattle.zarrs_chunk.specs.Region.{EndBelow64Bits};
 ghost use Rattle.zarrs_chunk.specs.Selection.{subset as subset_of, len_of};
 
 use crate::boxes::checked_product;
@@ -81,7 +80,8 @@ impl ArraySubset {
 
     /// The box of all tuples of `shape`. Errors: `OutOfMemory`.
     pub fn new_with_shape(alloc: Global, shape: Vec<u64>) -> Result<ArraySubset, CodecError>
-        ensures made { AnswersValue memory result (Ok (subset_of_shape shape.items)) }
+        ensures made { AnswersValue memory result
+            (Ok (record { starts = replicate (length shape.items) 0; lengths = shape.items })) }
     {
         let starts = vec![in alloc; 0; shape.len()]?;
         Ok(ArraySubset {
@@ -101,7 +101,8 @@ impl ArraySubset {
     pub fn shape(&self) -> &[u64]
         ensures value { result.now ≡ self.now.lengths }
         ensures axes { length self.now.starts ≡ length self.now.lengths }
-        ensures ends { EndBelow64Bits self.now.starts self.now.lengths }
+        ensures ends { (axis : ℕ) → axis < length self.now.starts
+            → slice_index self.now.starts axis + slice_index self.now.lengths axis < 2 ^ 64 }
     {
         self.lengths.as_slice()
     }

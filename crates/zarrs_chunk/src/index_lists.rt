@@ -1,8 +1,8 @@
 //! Places and runs of a list of index tuples.
-ghost use Rattle.std.specs.Prelude.{◌≡◌, ◌<◌, ◌++◌, ◌∷◌, [], ◌^◌, length, true, false, IfOk, IfErr, OnOk, All};
+ghost use Rattle.std.specs.Prelude.{◌≡◌, ◌<◌, ◌∷◌, [], ◌^◌, length, true, false, IfOk, IfErr, OnOk, All};
 ghost use Rattle.zarrs_chunk.specs.Answer.{is_fault, Gives, Appends, GivesItems};
 ghost use Rattle.zarrs_chunk.specs.ChunkShape.{product};
-ghost use Rattle.zarrs_chunk.specs.Numbering.{are_of_axes, are_tuples_inside, numbers_of_tuples, AreCountable, IsOkInside};
+ghost use Rattle.zarrs_chunk.specs.Numbering.{are_of_axes, are_tuples_inside, numbers_of_tuples, IsOkInside};
 ghost use Rattle.zarrs_chunk.specs.Runs.{places_in, AreFilled, EndWithin, StayWithin, AreApart, AddsPlaces};
 ghost use Rattle.zarrs_chunk.specs.Selection.{indices_of, bounds_of, places_of};
 ghost use Rattle.zarrs_chunk.specs.Tuples.{row_major as row_major_of, is_tuple_inside as tuple_inside};
@@ -43,7 +43,8 @@ pub fn check_indices(sizes: &[u64], tuples: &[ArrayIndices]) -> Result<(), Codec
 /// What comes before tuples are numbered: each has one number an axis, and 64 bits count the
 /// elements. Where they don't, a tuple outside is the first error.
 fn check_countable(sizes: &[u64], tuples: &[ArrayIndices]) -> Result<(), CodecError>
-    ensures countable { OnOk result (AreCountable sizes.now tuples.now) }
+    ensures axes { OnOk result (are_of_axes (length sizes.now) tuples.now ≡ true) }
+    ensures fits { OnOk result (product sizes.now < 2 ^ 64) }
     ensures cause { IfErr result (λ e. places_of (indices_of tuples.now) sizes.now ≡ Err e) }
 {
     if !have_axes(sizes.len(), tuples) {

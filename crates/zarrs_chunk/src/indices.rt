@@ -1,9 +1,9 @@
 //! Index tuples, and their row-major numbers.
-ghost use Rattle.std.specs.Prelude.{◌≡◌, ◌<◌, ◌^◌, length, All};
+ghost use Rattle.std.specs.Prelude.{◌≡◌, ◌<◌, ◌^◌, ◌&&◌, true, nat_lt, if◌then◌else◌, Some, None, SomeIff, option_map, length, All};
 ghost use Rattle.zarrs_chunk.specs.Answer.{AnswersBy, memory, no_refusal};
 ghost use Rattle.zarrs_chunk.specs.ChunkShape.{product};
-ghost use Rattle.zarrs_chunk.specs.Indices.{number_of_tuple, FindsTuple, FindsPlace};
-ghost use Rattle.zarrs_chunk.specs.Tuples.{is_tuple_inside as tuple_inside};
+ghost use Rattle.zarrs_chunk.specs.Indices.{IsTupleOfNumber};
+ghost use Rattle.zarrs_chunk.specs.Tuples.{row_major, is_tuple_inside as tuple_inside};
 
 use crate::chunk_shape::ChunkShape;
 use crate::codec_error::CodecError;
@@ -32,7 +32,8 @@ pub fn place_inside(sizes: &[u64], tuple: &[u64]) -> Option<u64>
     requires axes { length tuple.now ≡ length sizes.now }
     requires positive { All (λ size. 0 < size) sizes.now }
     requires fits { product sizes.now < 2 ^ 64 }
-    ensures value { FindsPlace sizes.now tuple.now result }
+    ensures value { SomeIff result (tuple_inside sizes.now tuple.now ≡ true)
+        (row_major sizes.now tuple.now) }
 {
     let mut place = 0;
     for axis in 0..sizes.len() {
@@ -49,7 +50,8 @@ pub fn place_inside(sizes: &[u64], tuple: &[u64]) -> Option<u64>
 /// The row-major number of a tuple in a chunk. `None` where the tuple lies outside, or has another
 /// number of axes, or where its number passes `2^64 - 1`.
 pub fn ravel_indices(indices: &[u64], shape: &ChunkShape) -> Option<u64>
-    ensures answer { result ≡ number_of_tuple shape.now indices.now }
+    ensures answer { let number = row_major shape.now indices.now in result ≡
+        if tuple_inside shape.now indices.now && nat_lt number (2 ^ 64) then Some number else None }
 {
     let sizes = shape.as_slice();
     if !is_tuple_inside(sizes, indices) {
@@ -69,7 +71,8 @@ pub fn unravel_index(
     index: u64,
     shape: &ChunkShape,
 ) -> Result<Option<ArrayIndices>, CodecError>
-    ensures answer { AnswersBy memory (FindsTuple shape.now index) result no_refusal }
+    ensures answer { AnswersBy memory (λ found _. IsTupleOfNumber shape.now index
+        (option_map (λ tuple. tuple.items) found)) result no_refusal }
 {
     let sizes = shape.as_slice();
     let mut indices = vec![in alloc; 0; sizes.len()]?;

@@ -1,30 +1,53 @@
 //! Laws of the definitions that the contracts of this crate cite. The functions do nothing: their
 //! contracts hold for all lists, and proofs may take them from here.
-ghost use Rattle.zarrs_chunk.specs.Laws.{BoxHasItsTuples, BoxesAreInsideByAxis, BoxesInsideHaveTuplesInside, TuplesAreInsideByAxis, NumbersAreBelow, NumbersDiffer, NumbersHaveTuples, TuplesAreFound, BoxesAreCounted, PlacesAreBelow, SubsetPlacesRise, WholeChunkIsCounted};
+ghost use Rattle.std.specs.Prelude.{◌≡◌, ◌<◌, ◌↔◌, ℕ, true, List, length, map, replicate, All, Contains, IfOk};
+ghost use Rattle.std.specs.List.{range_with_len};
+ghost use Rattle.std.specs.List.Sorted.{IsStrictlyIncreasing};
+ghost use Rattle.zarrs_chunk.specs.ChunkShape.{product};
+ghost use Rattle.zarrs_chunk.specs.Indices.{tuple_of_number, box_tuple};
+ghost use Rattle.zarrs_chunk.specs.InsideByAxis.{IsInBox, IsInShape, IsBoxInShape};
+ghost use Rattle.zarrs_chunk.specs.Region.{Region};
+ghost use Rattle.zarrs_chunk.specs.Selection.{Selection, subset, places_of};
+ghost use Rattle.zarrs_chunk.specs.Tuples.{row_major, box_tuples, is_box_inside as box_inside, is_tuple_inside as tuple_inside};
 
 /// Which tuples are selected: a box has those whose numbers lie in its ranges. A tuple or a box is
 /// inside a shape where it is so along each axis, and a box inside has tuples inside alone.
 pub fn tuples_go_by_axis()
-    ensures in_box { BoxHasItsTuples }
-    ensures in_shape { TuplesAreInsideByAxis }
-    ensures box_in_shape { BoxesAreInsideByAxis }
-    ensures inside { BoxesInsideHaveTuplesInside }
+    ensures in_box { (starts lengths tuple : List ℕ) → length starts ≡ length lengths
+        → Contains (box_tuples starts lengths) tuple ↔ IsInBox starts lengths tuple }
+    ensures in_shape { (sizes tuple : List ℕ)
+        → (tuple_inside sizes tuple ≡ true) ↔ IsInShape sizes tuple }
+    ensures box_in_shape { (sizes starts lengths : List ℕ)
+        → (box_inside sizes starts lengths ≡ true) ↔ IsBoxInShape sizes starts lengths }
+    ensures inside { (sizes starts lengths tuple : List ℕ) → box_inside sizes starts lengths ≡ true
+        → Contains (box_tuples starts lengths) tuple → tuple_inside sizes tuple ≡ true }
 {}
 
 /// The tuples inside a shape have numbers of their own, all of them below the number of elements,
 /// and the whole chunk's are counted from 0 on with no gap. Each number below the number of elements
-/// names its tuple, and the tuples of a box are numbered from 0 on in their order.
+/// names a tuple inside, whose number it is. The tuples of a box are numbered from 0 on in their
+/// order.
 pub fn numbers_name_elements()
-    ensures below { NumbersAreBelow }
-    ensures unique { NumbersDiffer }
-    ensures counted { WholeChunkIsCounted }
-    ensures named { NumbersHaveTuples }
-    ensures found { TuplesAreFound }
-    ensures in_box { BoxesAreCounted }
+    ensures below { (sizes tuple : List ℕ) → tuple_inside sizes tuple ≡ true
+        → row_major sizes tuple < product sizes }
+    ensures unique { (sizes one two : List ℕ) → tuple_inside sizes one ≡ true
+        → tuple_inside sizes two ≡ true → row_major sizes one ≡ row_major sizes two → one ≡ two }
+    ensures counted { (sizes : List ℕ) → map (row_major sizes)
+        (box_tuples (replicate (length sizes) 0) sizes) ≡ range_with_len 0 (product sizes) }
+    ensures inside { (sizes : List ℕ) (number : ℕ) → number < product sizes
+        → tuple_inside sizes (tuple_of_number sizes number) ≡ true }
+    ensures named { (sizes : List ℕ) (number : ℕ) → number < product sizes
+        → row_major sizes (tuple_of_number sizes number) ≡ number }
+    ensures found { (sizes tuple : List ℕ) → tuple_inside sizes tuple ≡ true
+        → tuple_of_number sizes (row_major sizes tuple) ≡ tuple }
+    ensures in_box { (starts lens : List ℕ) → length starts ≡ length lens
+        → box_tuples starts lens ≡ map (box_tuple starts lens) (range_with_len 0 (product lens)) }
 {}
 
 /// The places of any selection are places of the chunk, and those of a subset rise.
 pub fn places_are_in_order()
-    ensures below { PlacesAreBelow }
-    ensures rising { SubsetPlacesRise }
+    ensures below { (selection : Selection) (sizes : List ℕ)
+        → IfOk (places_of selection sizes) (All (λ place. place < product sizes)) }
+    ensures rising { (region : Region) (sizes : List ℕ)
+        → IfOk (places_of (subset region) sizes) IsStrictlyIncreasing }
 {}

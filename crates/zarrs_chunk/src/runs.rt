@@ -1,8 +1,8 @@
 //! Runs of consecutive places.
-ghost use Rattle.std.specs.Prelude.{◌≡◌, ◌≢◌, ◌<◌, ◌≤◌, ◌+◌, ◌-◌, ◌^◌, ◌++◌, ◌∷◌, [], ℕ, length, min, take, slice_index, true, IfOk, OnOk, Ok, All, ◌↔◌};
+ghost use Rattle.std.specs.Prelude.{◌≡◌, ◌≢◌, ◌<◌, ◌≤◌, ◌+◌, ◌-◌, ◌^◌, ◌∷◌, [], ℕ, length, min, take, slice_index, true, IfOk, OnOk, Ok, ◌↔◌};
 ghost use Rattle.std.specs.List.{range_with_len};
 ghost use Rattle.zarrs_chunk.specs.Answer.{Gives};
-ghost use Rattle.zarrs_chunk.specs.Runs.{joined_runs, places_in, AreFilled, AreApart, EndsRun, AddsPlaces, KeepsBelow, EndsBelow};
+ghost use Rattle.zarrs_chunk.specs.Runs.{joined_runs, places_in, AreFilled, StayWithin, AreApart, AddsPlaces, EndsBelow};
 
 use crate::codec_error::CodecError;
 use std::alloc::{AllocError, Global};
@@ -20,7 +20,8 @@ fn run_length(places: &[u64]) -> usize
     ensures some { 0 < result }
     ensures within { result ≤ length places.now }
     ensures run { take result places.now ≡ range_with_len (slice_index places.now 0) result }
-    ensures longest { EndsRun result places.now }
+    ensures longest { result < length places.now
+        → slice_index places.now result ≢ slice_index places.now (result - 1) + 1 }
 {
     for index in 1..places.len() {
         if !follows(places[index - 1], places[index]) {
@@ -59,7 +60,8 @@ pub fn append_place(runs: &mut Vec<(u64, u64)>, place: u64) -> Result<(), AllocE
     requires room { place + 1 < 2 ^ 64 }
     ensures places { AddsPlaces runs.old runs.new result (place ∷ []) }
     ensures filled { OnOk result (AreFilled runs.old.items → AreFilled runs.new.items) }
-    ensures below { KeepsBelow place runs.old runs.new result }
+    ensures below { (limit : ℕ) → place < limit
+        → OnOk result (StayWithin limit runs.old.items runs.new.items) }
     ensures apart { OnOk result (AreApart runs.old.items → AreApart runs.new.items) }
 {
     let count = runs.len();

@@ -31,15 +31,16 @@ pub from_fence : (test : ℕ → Bool) (at fence end : ℕ) → at < fence → l
 from_fence test at fence end further all =
     passed test (fence - at) (end - at) at fence (end - fence) (omega arith) (omega arith) all
 
-counted : (test : ℕ → Bool) (n at : ℕ) → ((byte : ℕ) → at ≤ byte → byte < at + n → test byte ≡ true) → list_all test (range_with_len at n) ≡ true
-counted test zero at each = refl
-counted test (suc n) at each =
-    both_true (each at (omega arith) (omega arith)) (counted test n (at + 1) (λ byte low high. each byte (omega arith) (omega arith)))
+-- what each number from one on passes, all so many pass
+pub range_passes : (test : ℕ → Bool) (at n : ℕ) → ((k : ℕ) → at ≤ k → k < at + n → test k ≡ true) → list_all test (range_with_len at n) ≡ true
+range_passes test at zero each = refl
+range_passes test at (suc n) each =
+    both_true (each at (omega arith) (omega arith)) (range_passes test (at + 1) n (λ k low high. each k (omega arith) (omega arith)))
 
 -- a range has all bytes from one of its own up to its end
 pub inside_fence : (ranges : List ByteSpan) (range : ByteSpan) (i byte end : ℕ) → i < length ranges → range ≡ get_or ranges i range → range.start ≤ byte → end ≡ range.end → list_all (is_fenced ranges) (range_with_len byte (end - byte)) ≡ true
 inside_fence ranges range i byte end below is low ends =
-    counted (is_fenced ranges) (end - byte) byte
+    range_passes (is_fenced ranges) byte (end - byte)
     (λ other from to.
     let starts : nat_le range.start other ≡ true = le-leb range.start other (omega arith) in
     let stops : nat_lt other range.end ≡ true = lt-ltb other range.end (omega arith) in

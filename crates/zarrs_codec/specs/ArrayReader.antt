@@ -1,14 +1,10 @@
 -- What contracts see of a partial decoder of chunks.
-use Rattle.std.specs.Prelude.{◌≡◌, ℕ, Bool, true, ◌&&◌, List, length, Result, Ok, Err, IfErr}
-use Rattle.zarrs_chunk.specs.Answer.{◌>>=◌, AnswersBy, memory, memory_or_fault}
-use Rattle.zarrs_chunk.specs.Indexer.{selection_of}
+use Rattle.std.specs.Prelude.{◌≡◌, ℕ, Bool, true, ◌&&◌, List, length, Result, Ok, Err}
+use Rattle.zarrs_chunk.specs.Answer.{◌>>=◌}
 use Rattle.zarrs_chunk.specs.Selection.{Selection, bounds_of, tuples_of}
 use Rattle.zarrs_chunk.specs.declared.codec_error.CodecError.{CodecError}
-use Rattle.zarrs_chunk.specs.declared.indexer.Indexer.{Indexer}
 use Rattle.zarrs_data_type.specs.ElementType.{ElementType}
 use Rattle.zarrs_data_type.specs.Element.{Chunk}
-use Rattle.zarrs_array_bytes.specs.Held.{Held}
-use Rattle.zarrs_array_bytes.specs.Validity.{Holds}
 use Rattle.zarrs_codec.specs.CoordinateMap.{CoordinateMap}
 use Rattle.zarrs_codec.specs.MappedSelection.{image_of}
 
@@ -36,16 +32,6 @@ mapped_reader coordinates asked in_part sizes input = record {
   sure = λ selection. image_is_sure input.sure (image_of coordinates asked sizes selection);
   in_part = in_part && input.in_part;
 }
-
--- The answer is a container of the elements that the reader answers of the selection, or the reader's first error. Only lack of memory or a failure of the handle may come in its place.
-abbrev pub ReadsSelection : ArrayReader → Selection → Result Held CodecError → Type 0
-ReadsSelection reader selection result =
-    AnswersBy memory_or_fault (Holds reader.type) result (reader.answer selection)
-
--- A read by an indexer that the chunk has no room for answers that error, or lack of memory: no failure of the handle comes in its place.
-abbrev pub IndexerFirstOfRead : ArrayReader → Indexer → Result Held CodecError → Type 0
-IndexerFirstOfRead reader indexer result =
-    IfErr (bounds_of (selection_of indexer) reader.sizes) (λ cause. AnswersBy memory (Holds reader.type) result (Err cause))
 
 -- What is answered of a selection is of tuples inside the chunk, and has an element for each.
 pub record CountsTuples (reader : ArrayReader) (selection : Selection) (chunk : Chunk) : Type 0 where

@@ -1,6 +1,6 @@
 -- What contracts see of a partial encoder of chunks.
-use Rattle.std.specs.Prelude.{◌≡◌, ◌⊎◌, ℕ, Bool, false, Option, Some, is_some, List, [], length, Result, Ok, Err, IfErr, OnErr}
-use Rattle.zarrs_chunk.specs.Answer.{◌>>=◌, Answers, memory, memory_or_fault, no_refusal, seen}
+use Rattle.std.specs.Prelude.{◌≡◌, ◌⊎◌, ℕ, Bool, false, Option, Some, is_some, List, [], length, Result, Ok, Err, IfErr}
+use Rattle.zarrs_chunk.specs.Answer.{◌>>=◌, no_refusal, seen}
 use Rattle.zarrs_chunk.specs.Indexer.{selection_of}
 use Rattle.zarrs_chunk.specs.Selection.{Selection, bounds_of, tuples_of}
 use Rattle.zarrs_chunk.specs.declared.codec_error.CodecError.{CodecError}
@@ -56,23 +56,3 @@ written_value writer state indexer new = seen Some (writer.written state.value (
 -- that new elements can be written at an indexer's places, as far as that is seen without the handle, or the first error
 abbrev pub edit_check : ArrayWriter → Indexer → Held → Result (Unit {0}) CodecError
 edit_check writer indexer new = writer.checks (selection_of indexer) new
-
--- The value afterwards is the one that is stored once new elements are written at an indexer's places, or the first error is returned; lack of memory or a failure of the handle may come in its place. `state` and `writer` are what a coder keeps and what it writes.
-abbrev pub WritesPart : {C : Type 0} → (C → StorageState) → (C → ArrayWriter) → C → C → Indexer → Held → Result (Unit {0}) CodecError → Type 0
-WritesPart state writer before after indexer new result =
-    Answers memory_or_fault (λ _. (state after).value) result (written_value (writer before) (state before) indexer new)
-
--- new elements that are rejected without the handle leave all as it was
-abbrev pub KeptIfUnfit : {C : Type 0} → (C → StorageState) → (C → ArrayWriter) → C → C → Indexer → Held → Type 0
-KeptIfUnfit state writer before after indexer new =
-    OnErr (edit_check (writer before) indexer new) (state after ≡ state before)
-
--- A write by an indexer that the chunk has no room for answers that error, or lack of memory: no failure of the handle comes in its place.
-abbrev pub IndexerFirst : ArrayReader → Indexer → Result (Unit {0}) CodecError → Type 0
-IndexerFirst reader indexer result =
-    IfErr (bounds_of (selection_of indexer) reader.sizes) (λ cause. Answers memory (λ done. done) result (Err cause))
-
--- What can be seen without the handle, of the indexer and of the new elements, fails with its error, or for lack of memory: no failure of the handle comes in its place.
-abbrev pub ChecksFirst : ArrayWriter → Indexer → Held → Result (Unit {0}) CodecError → Type 0
-ChecksFirst writer indexer new result =
-    IfErr (edit_check writer indexer new) (λ cause. Answers memory (λ done. done) result (Err cause))

@@ -1,5 +1,5 @@
 -- The bytes of a stored value, by ranges of them.
-use Rattle.std.specs.Prelude.{◌≡◌, ℕ, ◌-◌, ◌^◌, ◌<◌, nat_le, min, if◌then◌else◌, Bool, true, false, Option, Some, None, List, length, slice_index, Result, Ok}
+use Rattle.std.specs.Prelude.{◌≡◌, ℕ, ◌-◌, ◌<◌, nat_le, Bool, true, false, Option, Some, None, List, length, slice_index, Result, Ok}
 use Rattle.std.specs.List.{between, flat_map, list_all, range_with_len}
 use Rattle.zarrs_chunk.specs.Answer.{◌>>=◌, demand}
 use Rattle.zarrs_chunk.specs.declared.codec_error.CodecError.{CodecError}
@@ -10,11 +10,6 @@ use Rattle.zarrs_codec.specs.StorageState.{StorageState, are_sure}
 -- the numbers of the ranges' bytes, in order
 abbrev pub range_indices : List ByteSpan → List ℕ
 range_indices ranges = flat_map (λ range. range_with_len range.start (range.end - range.start)) ranges
-
--- how many bytes the ranges of a value of so many bytes have, counted up to 2^64 - 1; none where one of them ends past the value
-abbrev pub room_of : ℕ → List ByteSpan → ℕ
-room_of len ranges =
-    if list_all (λ range. nat_le range.end len) ranges then min (length (range_indices ranges)) (2 ^ 64 - 1) else 0
 
 -- all bytes of the ranges are sure to be read
 abbrev pub ranges_are_sure : StorageState → List ByteSpan → Bool

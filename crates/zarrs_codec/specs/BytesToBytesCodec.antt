@@ -1,16 +1,7 @@
 -- Codecs of bytes to bytes, as functions, and the laws that they keep.
 use Rattle.std.specs.Prelude.{◌≡◌, ℕ, ◌<◌, ◌≤◌, ◌^◌, Result, Ok, Err, List, length, All}
-use Rattle.std.proofs.Common.{Global}
-use Rattle.std.specs.declared.borrow.CowSlice.{CowSlice}
-use Rattle.zarrs_chunk.specs.Answer.{Gives}
 use Rattle.zarrs_chunk.specs.declared.codec_error.CodecError.{CodecError}
 use Rattle.zarrs_chunk.specs.declared.codec_error.CodecError.TheVariants.{BytesCodec}
-use Rattle.zarrs_array_bytes.specs.Held.{items_of}
-use Rattle.zarrs_metadata.specs.Metadata.{Metadata}
-use Rattle.zarrs_metadata.specs.MetadataV3.{metadata_seen}
-use Rattle.zarrs_metadata.specs.PluginCreateError.{Makes}
-use Rattle.zarrs_metadata.specs.declared.metadata_v3.MetadataV3.{MetadataV3}
-use Rattle.zarrs_metadata.specs.declared.plugin_create_error.PluginCreateError.{PluginCreateError}
 use Rattle.zarrs_codec.specs.declared.bytes_representation.BytesRepresentation.{BytesRepresentation}
 use Rattle.zarrs_codec.specs.declared.bytes_representation.BytesRepresentation.TheVariants.{FixedSize, BoundedSize, UnboundedSize}
 
@@ -19,19 +10,6 @@ pub record BytesCodecs (B : Type 0) : Type 0 where
   pub encoded_bytes : B → List ℕ → List ℕ
   pub decoded_bytes : B → BytesRepresentation → List ℕ → Result (List ℕ) CodecError
   pub representation : B → BytesRepresentation → BytesRepresentation
-
--- the answer is the bytes that the codec encodes these to
-abbrev pub EncodesBytes : {B : Type 0} → BytesCodecs B → B → CowSlice ℕ Global → Result (CowSlice ℕ Global) CodecError → Type 0
-EncodesBytes codecs codec bytes result = Gives items_of result (Ok (codecs.encoded_bytes codec (items_of bytes)))
-
--- the answer is the bytes of this representation that the encoded ones stand for, or why there are none
-abbrev pub DecodesBytes : {B : Type 0} → BytesCodecs B → B → BytesRepresentation → CowSlice ℕ Global → Result (CowSlice ℕ Global) CodecError → Type 0
-DecodesBytes codecs codec representation encoded result =
-    Gives items_of result (codecs.decoded_bytes codec representation (items_of encoded))
-
--- the answer is what the maker makes of the metadata, or why it makes none
-abbrev pub MakesBy : {M T : Type 0} → (M → Metadata → Result T PluginCreateError) → M → MetadataV3 → Result T PluginCreateError → Type 0
-MakesBy makes maker metadata result = Makes (λ made. made) result (makes maker (metadata_seen metadata))
 
 -- the bytes are as many as the representation states
 abbrev pub KeepsTo : BytesRepresentation → List ℕ → Type 0

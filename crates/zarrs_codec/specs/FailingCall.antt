@@ -1,5 +1,5 @@
 -- The one call of a handle that fails, for tests.
-use Rattle.std.specs.Prelude.{◌≡◌, ℕ, ◌+◌, ◌-◌, ◌%◌, ◌^◌, ◌==◌, Bool, false, ◌&&◌, Option, Some, None, if◌then◌else◌, Result, Ok, Err}
+use Rattle.std.specs.Prelude.{◌≡◌, ℕ, ◌-◌, ◌==◌, Bool, false, ◌&&◌, Option, Some, None, if◌then◌else◌, Result, Ok, Err}
 use Rattle.zarrs_chunk.specs.Answer.{Excused, memory}
 use Rattle.zarrs_chunk.specs.declared.codec_error.CodecError.{CodecError}
 use Rattle.zarrs_chunk.specs.declared.codec_error.StorageError.{StorageError}
@@ -38,24 +38,6 @@ pub record TearsInTurn {T : Type 0} (tears : Bool) (result : Result T CodecError
 abbrev pub turn_of : FailingCall → Turn
 turn_of calls = record { left = calls.left; code = calls.code }
 
--- ---- the calls that are counted
-
--- none has been made yet, and this one fails, with its number for a code
+-- a record of calls of which none has been made yet, and this one fails, with its number for a code
 abbrev pub none_made : ℕ → FailingCall
 none_made n = record { left = n; code = n; faults = 0; failure = None; write_calls = 0; accepted_writes = 0 }
-
--- one more has been made
-abbrev pub one_more : FailingCall → FailingCall
-one_more calls = record calls { left = (turn_after (turn_of calls)).left }
-
--- it failed so
-abbrev pub one_failed : StorageError → FailingCall → FailingCall
-one_failed failure calls = record calls { faults = (calls.faults + 1) % 2 ^ 64; failure = Some failure }
-
--- it was a writing one
-abbrev pub one_writes : FailingCall → FailingCall
-one_writes calls = record calls { write_calls = (calls.write_calls + 1) % 2 ^ 64 }
-
--- it was accepted
-abbrev pub one_accepted : FailingCall → FailingCall
-one_accepted calls = record calls { accepted_writes = (calls.accepted_writes + 1) % 2 ^ 64 }

@@ -1,6 +1,6 @@
 -- What a handle is seen as that reads the bytes inside its ranges alone.
-use Rattle.std.specs.Prelude.{◌≡◌, ℕ, ◌-◌, ◌<◌, ◌&&◌, nat_le, nat_lt, Bool, true, false, Option, Some, None, List, Result}
-use Rattle.std.specs.List.{list_all, list_any, range_with_len}
+use Rattle.std.specs.Prelude.{◌≡◌, ℕ, ◌&&◌, nat_le, nat_lt, Bool, true, false, Option, Some, None, List, Result}
+use Rattle.std.specs.List.{list_any}
 use Rattle.zarrs_chunk.specs.declared.codec_error.CodecError.{CodecError}
 use Rattle.zarrs_chunk.specs.declared.codec_error.StorageError.{StorageError}
 use Rattle.zarrs_codec.specs.ByteSpan.{ByteSpan}
@@ -15,11 +15,6 @@ has_byte byte range = nat_le range.start byte && nat_lt byte range.end
 -- whether one of the ranges has it
 abbrev pub is_fenced : List ByteSpan → ℕ → Bool
 is_fenced ranges byte = list_any (has_byte byte) ranges
-
--- the ranges have all bytes from this one up to, and without, an end behind it
-abbrev pub Reach : List ByteSpan → ℕ → ℕ → Type 0
-Reach ranges byte end =
-    (byte < end) × (list_all (is_fenced ranges) (range_with_len byte (end - byte)) ≡ true)
 
 -- its state: the bytes inside the ranges are sure
 abbrev pub fenced_state : FencedHandle → StorageState

@@ -9,7 +9,7 @@ use Rattle.zarrs_data_type.specs.Form.{Form}
 use Rattle.zarrs_array_bytes.specs.Elements.{elements}
 use Rattle.zarrs_array_bytes.specs.Held.{Held}
 use Rattle.zarrs_array_bytes.specs.Validity.{Holds, validity}
-use Rattle.zarrs_codec.specs.CoordinateMap.{CoordinateMap, IsMapTo, moved_chunk, inverse_map}
+use Rattle.zarrs_codec.specs.CoordinateMap.{CoordinateMap, moved_chunk, inverse_map}
 
 -- what the codec does to chunks of these sizes and this type, where it accepts the type, the sizes can be counted, and the container has their elements; else the first error
 abbrev pub map_for : Result (Unit {0}) CodecError → Result CoordinateMap CodecError → ElementType → List ℕ → Held → Result CoordinateMap CodecError
@@ -62,10 +62,6 @@ GivesSizes result coordinates = GivesValue result (seen (λ m. m.encoded) coordi
 abbrev pub EncodesForm : (ElementType → Result (Unit {0}) CodecError) → (List ℕ → Result CoordinateMap CodecError) → Form → Result (List ℕ × ElementType × List ℕ) CodecError → Type 0
 EncodesForm takes coordinates form result =
     AnswersValue memory result (encoded_form (takes form.type) (coordinates form.sizes) form.type form.fill)
-
--- the sizes that are answered with it for these are those of a coordinate map
-abbrev pub MapsForm : (List ℕ → Result CoordinateMap CodecError) → List ℕ → Result (List ℕ × ElementType × List ℕ) CodecError → Type 0
-MapsForm coordinates sizes result = IfOk result (λ form. IsMapTo (coordinates sizes) sizes form.0)
 
 -- Where the codec accepts such chunks and the container holds one, the answer is a container of the moved chunk. Only lack of memory may come in its place.
 abbrev pub EncodesMoved : (ElementType → Result (Unit {0}) CodecError) → (List ℕ → Result CoordinateMap CodecError) → ElementType → List ℕ → Held → Result Held CodecError → Type 0

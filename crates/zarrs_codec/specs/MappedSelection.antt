@@ -30,10 +30,6 @@ abbrev pub AsksImage : (List ℕ → Result CoordinateMap CodecError) → (List 
 AsksImage coordinates asked sizes indexer result =
     Gives selection_of result (image_of (coordinates sizes) (asked sizes) sizes (selection_of indexer))
 
--- the same, by what a codec does to chunks of some sizes and what it asks for
-abbrev pub AsksBy : {C : Type 0} → (C → List ℕ → Result CoordinateMap CodecError) → (C → List ℕ → List ℕ → Selection → Selection) → C → List ℕ → Indexer → Result Indexer CodecError → Type 0
-AsksBy coordinates asked codec sizes indexer result = AsksImage (coordinates codec) (asked codec) sizes indexer result
-
 -- the indexer that is answered selects of the moved chunk, in the same order, the elements that the given one selects
 abbrev pub KeepsPlaces : (List ℕ → Result CoordinateMap CodecError) → List ℕ → Indexer → Result Indexer CodecError → Type 0
 KeepsPlaces coordinates sizes indexer result =

@@ -1,9 +1,7 @@
 -- The metadata of the sample codecs of bytes.
-use Rattle.std.specs.Prelude.{◌≡◌, ℕ, true, List, Option, Some, None, Result, Ok, codes, if◌then◌else◌}
+use Rattle.std.specs.Prelude.{ℕ, true, List, Option, Some, None, Result, Ok, codes, if◌then◌else◌}
 use Rattle.std.specs.Str.{bytes_eq}
 use Rattle.zarrs_metadata.specs.Metadata.{Metadata}
-use Rattle.zarrs_metadata.specs.MetadataV3.{metadata_seen}
-use Rattle.zarrs_metadata.specs.declared.metadata_v3.MetadataV3.{MetadataV3}
 use Rattle.zarrs_metadata.specs.declared.plugin_create_error.PluginCreateError.{PluginCreateError}
 use Rattle.zarrs_codec.specs.declared.sample_bytes_codec.SampleBytesCodec.{SampleBytesCodec}
 use Rattle.zarrs_codec.specs.declared.sample_bytes_codec.SampleBytesCodec.TheVariants.{Reverse, Length}
@@ -26,7 +24,3 @@ sample_metadata codec = record { name = sample_name codec; configuration = None;
 -- what the maker of the sample codecs makes of a metadata: the codec of its name, with any configuration
 abbrev pub sample_made : Metadata → Result (Option SampleBytesCodec) PluginCreateError
 sample_made metadata = Ok (sample_named metadata.name)
-
--- this codec is made of the metadata
-abbrev pub MakesSample : SampleBytesCodec → MetadataV3 → Type 0
-MakesSample codec metadata = sample_made (metadata_seen metadata) ≡ Ok (Some codec)

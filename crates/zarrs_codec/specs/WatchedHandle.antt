@@ -6,7 +6,6 @@ use Rattle.zarrs_codec.specs.BytePieces.{pieces_fit, with_pieces}
 use Rattle.zarrs_codec.specs.StorageState.{StorageState, value_or_empty}
 use Rattle.zarrs_codec.specs.FailingCall.{Turn, turn_of}
 use Rattle.zarrs_codec.specs.MemoryHandle.{handle_value}
-use Rattle.zarrs_codec.specs.declared.memory_handle.MemoryHandle.{MemoryHandle}
 use Rattle.zarrs_codec.specs.declared.testing.watched_handle.WatchedHandle.{WatchedHandle}
 
 -- its state: no byte is sure. (The logic has a number for the const parameter.)
@@ -47,7 +46,3 @@ torn_or_kept tears result torn value = if tears && is_fault result then torn els
 abbrev pub Tears : {TEARS : ℕ} → {T : Type 0} → Bool → (Option (List ℕ) → Option (List ℕ)) → WatchedHandle TEARS → WatchedHandle TEARS → Result T CodecError → Type 0
 Tears tears torn before after result =
     OnErr result ((watched_state after).value ≡ torn_or_kept tears result (torn (watched_state before).value) (watched_state before).value)
-
--- the memory has what a write of these pieces leaves that fails
-abbrev pub HasHalf : List (ℕ × ℕ) → List ℕ → MemoryHandle → MemoryHandle → Type 0
-HasHalf pieces bytes before after = handle_value after ≡ half_of_pieces pieces bytes (handle_value before)

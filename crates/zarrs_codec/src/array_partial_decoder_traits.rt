@@ -1,13 +1,16 @@
 //! Readers of chunks in part.
-ghost use Rattle.std.specs.Prelude.{◌≡◌, ℕ, List, IfOk};
+ghost use Rattle.std.specs.Prelude.{◌≡◌, ℕ, List, IfOk, Err, IfErr};
 ghost use Rattle.zarrs_chunk.specs.Indexer.{selection_of};
 ghost use Rattle.zarrs_array_bytes.specs.Tight.{IsTight};
-ghost use Rattle.zarrs_codec.specs.ArrayReader.{ArrayReader, IsCounted, ReadsSelection, IndexerFirstOfRead};
+ghost use Rattle.zarrs_codec.specs.ArrayReader.{ArrayReader, IsCounted};
 ghost use Rattle.zarrs_codec.specs.ArrayWriter.{ArrayWriter, no_writer};
 ghost use Rattle.zarrs_codec.specs.CodersOverHandles.{OnlyReads};
 ghost use Rattle.zarrs_codec.specs.HandleCalls.{NeverFailsIf, Tells};
 ghost use Rattle.zarrs_codec.specs.Lent.{Lent};
 ghost use Rattle.zarrs_codec.specs.StorageState.{StorageState};
+ghost use Rattle.zarrs_array_bytes.specs.Validity.{Holds};
+ghost use Rattle.zarrs_chunk.specs.Answer.{AnswersBy, memory_or_fault, memory};
+ghost use Rattle.zarrs_chunk.specs.Selection.{bounds_of};
 
 use std::alloc::Global;
 use zarrs_array_bytes::ArrayBytes;
@@ -57,8 +60,10 @@ pub trait ArrayPartialDecoderTraits {
         alloc: Global,
         indexer: &Indexer,
     ) -> Result<ArrayBytes<'static>, CodecError>
-        ensures answer { ReadsSelection (reader self.old) (selection_of indexer.now) result }
-        ensures indexer_first { IndexerFirstOfRead (reader self.old) indexer.now result }
+        ensures answer { AnswersBy memory_or_fault (Holds (reader self.old).type) result
+            ((reader self.old).answer (selection_of indexer.now)) }
+        ensures indexer_first { IfErr (bounds_of (selection_of indexer.now) (reader self.old).sizes)
+            (λ cause. AnswersBy memory (Holds (reader self.old).type) result (Err cause)) }
         ensures sure { NeverFailsIf ((reader self.old).sure (selection_of indexer.now)) result }
         ensures tight { IfOk result (IsTight (reader self.old).type) }
         ensures left { OnlyReads state lent reader self.old self.new result }

@@ -1,9 +1,11 @@
 //! Writers of chunks in part.
-ghost use Rattle.std.specs.Prelude.{◌≡◌, Bool, None, Ok};
-ghost use Rattle.zarrs_chunk.specs.Answer.{Answers, fault};
-ghost use Rattle.zarrs_codec.specs.ArrayWriter.{ChecksData, ChecksFirst, IndexerFirst, KeptIfUnfit, WritesPart};
+ghost use Rattle.std.specs.Prelude.{◌≡◌, Bool, None, Ok, OnErr, Err, IfErr};
+ghost use Rattle.zarrs_chunk.specs.Answer.{Answers, AnswersValue, fault, memory, memory_or_fault};
+ghost use Rattle.zarrs_codec.specs.ArrayWriter.{ChecksData, written_value, edit_check};
 ghost use Rattle.zarrs_codec.specs.CodersOverHandles.{OnlyWrites};
 ghost use Rattle.zarrs_codec.specs.StorageState.{KeptIfAtomic, LeftByWriting};
+ghost use Rattle.zarrs_chunk.specs.Indexer.{selection_of};
+ghost use Rattle.zarrs_chunk.specs.Selection.{bounds_of};
 
 use crate::array_partial_decoder_traits::ArrayPartialDecoderTraits;
 use std::alloc::Global;
@@ -35,15 +37,15 @@ pub trait ArrayPartialEncoderTraits: ArrayPartialDecoderTraits {
         indexer: &Indexer,
         elements: &ArrayBytes<'_>,
     ) -> Result<(), CodecError>
-        // Wide: two members of the trait, the encoder before and after, and the edit.
-        ensures answer { WritesPart Self.state Self.writer
-            self.old self.new indexer.now elements.now result }
+        ensures answer { Answers memory_or_fault (λ _. (Self.state self.new).value) result
+            (written_value (Self.writer self.old) (Self.state self.old) indexer.now elements.now) }
         ensures left { OnlyWrites Self.state Self.lent Self.writer atomic self.old self.new result }
-        // Wide: two members of the trait, the encoder before and after, and the edit.
-        ensures untouched { KeptIfUnfit Self.state Self.writer
-            self.old self.new indexer.now elements.now }
-        ensures checked_first { ChecksFirst (Self.writer self.old) indexer.now elements.now result }
-        ensures indexer_first { IndexerFirst (Self.reader self.old) indexer.now result };
+        ensures untouched { OnErr (edit_check (Self.writer self.old) indexer.now elements.now)
+            (Self.state self.new ≡ Self.state self.old) }
+        ensures checked_first { IfErr (edit_check (Self.writer self.old) indexer.now elements.now)
+            (λ cause. AnswersValue memory result (Err cause)) }
+        ensures indexer_first { IfErr (bounds_of (selection_of indexer.now)
+            (Self.reader self.old).sizes) (λ cause. AnswersValue memory result (Err cause)) };
 
     /// Leaves no value; there may have been none. Errors: `Storage`.
     fn erase(&mut self) -> Result<(), CodecError>

@@ -6,9 +6,9 @@ ghost use Rattle.zarrs_chunk.specs.declared.codec_error.CodecError.{CodecError};
 ghost use Rattle.zarrs_data_type.specs.ElementType.{ElementType};
 ghost use Rattle.zarrs_data_type.specs.Form.{form_of};
 ghost use Rattle.zarrs_array_bytes.specs.Tight.{KeepsTight};
-ghost use Rattle.zarrs_codec.specs.CoordinateMap.{CoordinateMap, MapsSizes};
-ghost use Rattle.zarrs_codec.specs.MappedChunk.{EncodesType, GivesSizes, EncodesForm, MapsForm, IsSource, EncodesMoved, DecodesMoved, KeepsUnfit};
-ghost use Rattle.zarrs_codec.specs.MappedSelection.{AsksBy, KeepsCount, KeepsPlaces, image_of};
+ghost use Rattle.zarrs_codec.specs.CoordinateMap.{CoordinateMap, MapsSizes, IsMapTo};
+ghost use Rattle.zarrs_codec.specs.MappedChunk.{EncodesType, GivesSizes, EncodesForm, IsSource, EncodesMoved, DecodesMoved, KeepsUnfit};
+ghost use Rattle.zarrs_codec.specs.MappedSelection.{KeepsCount, KeepsPlaces, image_of, AsksImage};
 
 use crate::codec_traits::{ArrayCodecTraits, CodecTraits};
 use std::alloc::Global;
@@ -81,10 +81,10 @@ pub trait ArrayToArrayCodecTraits: ArrayCodecTraits {
         decoded_data_type: &DataType,
         decoded_fill_value: &FillValue,
     ) -> Result<(ChunkShape, DataType, FillValue), CodecError>
-        // Wide: the three parameters of a form, as the Rust crate has them.
         ensures answer { EncodesForm (takes self.now) (coordinates self.now)
             (form_of decoded_shape.now decoded_data_type.now decoded_fill_value.now) result }
-        ensures map { MapsForm (coordinates self.now) decoded_shape.now result }
+        ensures map { IfOk result
+            (λ it. IsMapTo (coordinates self.now decoded_shape.now) decoded_shape.now it.0) }
     {
         let data_type = self.encoded_data_type(alloc, decoded_data_type)?;
         let shape = self.encoded_shape(alloc, decoded_shape)?;
@@ -104,7 +104,6 @@ pub trait ArrayToArrayCodecTraits: ArrayCodecTraits {
         data_type: &DataType,
         fill_value: &FillValue,
     ) -> Result<ArrayBytes<'a>, CodecError>
-        // Wide: what the codec accepts and does, the type and the shape under the Rust crate's names.
         ensures moved { EncodesMoved (takes self.now) (coordinates self.now)
             data_type.now shape.now bytes.entry result }
         ensures unfit { KeepsUnfit takes coordinates self.now
@@ -122,7 +121,6 @@ pub trait ArrayToArrayCodecTraits: ArrayCodecTraits {
         data_type: &DataType,
         fill_value: &FillValue,
     ) -> Result<ArrayBytes<'a>, CodecError>
-        // Wide: what the codec accepts and does, the type and the shape under the Rust crate's names.
         ensures moved { DecodesMoved (takes self.now) (coordinates self.now)
             data_type.now shape.now bytes.entry result }
         ensures unfit { KeepsUnfit takes coordinates self.now
@@ -139,7 +137,8 @@ pub trait ArrayToArrayCodecTraits: ArrayCodecTraits {
         indexer: &Indexer,
         decoded_shape: &ChunkShape,
     ) -> Result<Indexer, CodecError>
-        ensures answer { AsksBy coordinates asked self.now decoded_shape.now indexer.now result }
+        ensures answer { AsksImage (coordinates self.now) (asked self.now) decoded_shape.now
+            indexer.now result }
         ensures places { KeepsPlaces (coordinates self.now) decoded_shape.now indexer.now result };
 
     // What is asked for of the moved chunk are as many tuples as are selected.

@@ -48,7 +48,6 @@ pub trait ArrayToBytesCodecTraits: ArrayCodecTraits {
         data_type: &DataType,
         fill_value: &FillValue,
     ) -> Result<BytesRepresentation, CodecError>
-        // Wide: the three parameters of a form, as the Rust crate has them.
         ensures answer { RepresentsBy (represented self.now)
             (form_of shape.now data_type.now fill_value.now) result };
 
@@ -63,10 +62,8 @@ pub trait ArrayToBytesCodecTraits: ArrayCodecTraits {
         data_type: &DataType,
         fill_value: &FillValue,
     ) -> Result<ArrayBytesRaw<'a>, CodecError>
-        // Wide: the three parameters of a form, as the Rust crate has them.
         ensures answer { EncodesBy (encoded self.now)
             (form_of shape.now data_type.now fill_value.now) elements.entry result }
-        // Wide: the three parameters of a form, as the Rust crate has them.
         ensures decoded_again { DecodesAgain (decoded self.now) (normal self.now)
             (form_of shape.now data_type.now fill_value.now) elements.entry result };
 
@@ -82,7 +79,6 @@ pub trait ArrayToBytesCodecTraits: ArrayCodecTraits {
         data_type: &DataType,
         fill_value: &FillValue,
     ) -> Result<ArrayBytes<'a>, CodecError>
-        // Wide: the three parameters of a form, as the Rust crate has them.
         ensures answer { DecodesBy (decoded self.now)
             (form_of shape.now data_type.now fill_value.now) (items_of value.entry) result }
         ensures valid { GivesValid data_type.now shape.now result }
@@ -103,7 +99,6 @@ pub trait ArrayToBytesCodecTraits: ArrayCodecTraits {
         fill_value: &FillValue,
         target: &mut ArrayBytesDecodeIntoTarget<'_>,
     ) -> Result<(), CodecError>
-        // Wide: the three parameters of a form, as the Rust crate has them.
         ensures answer { DecodesInto (represented self.now) (decoded self.now) target.old target.new
             (form_of shape.now data_type.now fill_value.now) (items_of value.entry) result }
         ensures kept { OnErr result (target_of target.new ≡ target_of target.old) }
@@ -128,7 +123,6 @@ pub trait ArrayToBytesCodecTraits: ArrayCodecTraits {
         data_type: &DataType,
         fill_value: &FillValue,
     ) -> Result<Option<ArrayBytesRaw<'a>>, CodecError>
-        // Wide: the three parameters of a form, as the Rust crate has them.
         ensures answer { CompactsNone (opened self.now)
             (form_of shape.now data_type.now fill_value.now) (items_of value.entry) result };
 

@@ -1,6 +1,5 @@
 //! Ranges of bytes.
-ghost use Rattle.std.specs.Prelude.{◌≡◌, ◌≤◌};
-ghost use Rattle.zarrs_codec.specs.ByteSpan.{MakesSpan};
+ghost use Rattle.std.specs.Prelude.{◌≡◌, ◌≤◌, MatchOption, ◌<◌};
 
 use std::marker::Model;
 use std::ops::Range;
@@ -28,7 +27,8 @@ impl Model for ByteRange {
 impl ByteRange {
     /// The range from `start`, up to and without `end`, or `None` where it ends before it starts.
     pub fn new(range: Range<u64>) -> Option<ByteRange>
-        ensures answer { MakesSpan range.start range.end result }
+        ensures answer { MatchOption result (range.end < range.start)
+            (λ made. made ≡ record { start = range.start; end = range.end }) }
     {
         if range.start <= range.end {
             Some(ByteRange {

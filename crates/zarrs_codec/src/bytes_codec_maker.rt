@@ -2,7 +2,8 @@
 ghost use Rattle.std.specs.Prelude.{Option, Result};
 ghost use Rattle.zarrs_metadata.specs.Metadata.{Metadata};
 ghost use Rattle.zarrs_metadata.specs.declared.plugin_create_error.PluginCreateError.{PluginCreateError};
-ghost use Rattle.zarrs_codec.specs.BytesToBytesCodec.{MakesBy};
+ghost use Rattle.zarrs_metadata.specs.MetadataV3.{metadata_seen};
+ghost use Rattle.zarrs_metadata.specs.PluginCreateError.{Makes};
 
 use std::alloc::Global;
 use zarrs_metadata::{MetadataV3, PluginCreateError};
@@ -17,5 +18,6 @@ pub trait BytesCodecMaker<B> {
     /// The codec of a metadata; none where the name is unknown. Errors: the maker's own where the
     /// name is known; `OutOfMemory`.
     fn make(&self, alloc: Global, metadata: &MetadataV3) -> Result<Option<B>, PluginCreateError>
-        ensures answer { MakesBy makes self.now metadata.now result };
+        ensures answer { Makes (λ made. made) result
+            (makes self.now (metadata_seen metadata.now)) };
 }

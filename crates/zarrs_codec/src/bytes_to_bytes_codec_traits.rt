@@ -3,9 +3,11 @@ ghost use Rattle.std.specs.Prelude.{◌≡◌, Ok};
 ghost use Rattle.zarrs_metadata.specs.Metadata.{Metadata};
 ghost use Rattle.zarrs_metadata.specs.MetadataV3.{metadata_seen};
 ghost use Rattle.zarrs_metadata.specs.PluginCreateError.{Makes};
-ghost use Rattle.zarrs_codec.specs.BytesToBytesCodec.{BytesCodecs, IsLawful, EncodesBytes, DecodesBytes};
+ghost use Rattle.zarrs_codec.specs.BytesToBytesCodec.{BytesCodecs, IsLawful};
 ghost use Rattle.zarrs_codec.specs.declared.capabilities.PartialDecoderCapability.{PartialDecoderCapability};
 ghost use Rattle.zarrs_codec.specs.declared.capabilities.PartialEncoderCapability.{PartialEncoderCapability};
+ghost use Rattle.zarrs_array_bytes.specs.Held.{items_of};
+ghost use Rattle.zarrs_chunk.specs.Answer.{Gives};
 
 use crate::bytes_representation::BytesRepresentation;
 use crate::capabilities::{PartialDecoderCapability, PartialEncoderCapability};
@@ -38,7 +40,8 @@ pub trait BytesToBytesCodecTraits {
         alloc: Global,
         bytes: ArrayBytesRaw<'a>,
     ) -> Result<ArrayBytesRaw<'a>, CodecError>
-        ensures answer { EncodesBytes functions self.now bytes.entry result };
+        ensures answer { Gives items_of result
+            (Ok (functions.encoded_bytes self.now (items_of bytes.entry))) };
 
     /// The bytes of this representation that encoded ones stand for. Errors: `BytesCodec` with a
     /// number of the codec's own, where they stand for none; `OutOfMemory`.
@@ -48,9 +51,8 @@ pub trait BytesToBytesCodecTraits {
         encoded: ArrayBytesRaw<'a>,
         decoded_representation: &BytesRepresentation,
     ) -> Result<ArrayBytesRaw<'a>, CodecError>
-        // Wide: what codecs compute, the codec, and the representation under the Rust crate's name.
-        ensures answer { DecodesBytes functions self.now
-            decoded_representation.now encoded.entry result };
+        ensures answer { Gives items_of result (functions.decoded_bytes self.now
+            decoded_representation.now (items_of encoded.entry)) };
 
     /// How many encoded bytes there are, by how many bytes there are.
     fn encoded_representation(

@@ -1,7 +1,7 @@
 //! A value in memory as a handle.
 ghost use Rattle.std.specs.Prelude.{◌≡◌, ◌++◌, IfOk, IfErr, OnErr, OnOk, Ok, true, Some, None, length};
 ghost use Rattle.std.specs.Option.{option_map};
-ghost use Rattle.zarrs_chunk.specs.Answer.{Answers, memory, is_fault, Gives};
+ghost use Rattle.zarrs_chunk.specs.Answer.{memory};
 ghost use Rattle.zarrs_codec.specs.BytePieces.{pieces_fit, with_pieces};
 
 use crate::byte_pieces::{check_pieces, furthest_end_of, write_pieces};

@@ -1,7 +1,8 @@
 //! Ranges of a value in memory, copied behind one another.
-ghost use Rattle.std.specs.Prelude.{◌≡◌, ◌++◌, IfOk, IfErr, OnOk};
+ghost use Rattle.std.specs.Prelude.{◌≡◌, ◌++◌, IfOk, IfErr, OnOk, if◌then◌else◌, length, min, nat_le, ◌-◌, ◌^◌};
 ghost use Rattle.zarrs_chunk.specs.Answer.{Gives};
-ghost use Rattle.zarrs_codec.specs.ByteRanges.{read_value, room_of, IsPieceOf, EndsOutside};
+ghost use Rattle.zarrs_codec.specs.ByteRanges.{read_value, IsPieceOf, EndsOutside, range_indices};
+ghost use Rattle.std.specs.List.{list_all};
 
 use crate::byte_range::ByteRange;
 use std::alloc::{AllocError, Global};
@@ -11,7 +12,8 @@ use zarrs_chunk::CodecError;
 /// grows: as many as the ranges have, or `u64::MAX` where they have more. None where one of them ends
 /// past the value, as then nothing is read.
 pub fn room_for(len: u64, ranges: &[ByteRange]) -> usize
-    ensures room { result ≡ room_of len ranges.now }
+    ensures room { result ≡ (if list_all (λ range. nat_le range.end len) ranges.now
+        then min (length (range_indices ranges.now)) (2 ^ 64 - 1) else 0) }
 {
     let mut room: u64 = 0;
     for range in ranges {

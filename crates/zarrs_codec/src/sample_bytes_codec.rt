@@ -1,10 +1,10 @@
 //! Two bytes-to-bytes codecs as samples.
-ghost use Rattle.std.specs.Prelude.{◌≡◌, ◌++◌, ◌≤◌, Ok, IfOk, false, reverse, length, drop};
+ghost use Rattle.std.specs.Prelude.{◌≡◌, ◌++◌, ◌≤◌, Ok, IfOk, false, reverse, length, drop, Some};
 ghost use Rattle.zarrs_chunk.specs.Answer.{seen, GivesItems};
-ghost use Rattle.zarrs_array_bytes.specs.Held.{items_of, raw_of};
+ghost use Rattle.zarrs_array_bytes.specs.Held.{items_of};
 ghost use Rattle.zarrs_metadata.specs.MetadataV3.{metadata_seen};
 ghost use Rattle.zarrs_metadata.specs.PluginCreateError.{Makes};
-ghost use Rattle.zarrs_codec.specs.SampleMetadata.{sample_name, sample_metadata, MakesSample};
+ghost use Rattle.zarrs_codec.specs.SampleMetadata.{sample_name, sample_metadata, sample_made};
 ghost use Rattle.zarrs_codec.specs.SampleBytesCodec.{length_bytes, stored_length as stored_length_of, behind_length as behind_length_of, with_length as with_length_of};
 
 use crate::bytes_representation::BytesRepresentation;
@@ -190,7 +190,8 @@ impl BytesToBytesCodecTraits for SampleBytesCodec {
     /// `OutOfMemory`.
     fn metadata(&self, alloc: Global) -> Result<MetadataV3, PluginCreateError>
         ensures answer { Makes metadata_seen result (Ok (sample_metadata self.now)) }
-        ensures made_again { IfOk result (MakesSample self.now) }
+        ensures made_again { IfOk result
+            (λ metadata. sample_made (metadata_seen metadata) ≡ Ok (Some self.now)) }
     {
         MetadataV3::new(alloc, name_of(*self))
     }

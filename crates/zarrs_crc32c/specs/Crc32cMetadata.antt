@@ -1,9 +1,7 @@
 -- The metadata of the codec `crc32c`.
-use Rattle.std.specs.Prelude.{◌≡◌, ℕ, true, List, Option, Some, None, Result, Ok, codes, if◌then◌else◌}
+use Rattle.std.specs.Prelude.{ℕ, true, List, Option, Some, None, Result, Ok, codes, if◌then◌else◌}
 use Rattle.std.specs.Str.{bytes_eq}
 use Rattle.zarrs_metadata.specs.Metadata.{Metadata}
-use Rattle.zarrs_metadata.specs.MetadataV3.{metadata_seen}
-use Rattle.zarrs_metadata.specs.declared.metadata_v3.MetadataV3.{MetadataV3}
 use Rattle.zarrs_metadata.specs.declared.plugin_create_error.PluginCreateError.{PluginCreateError}
 use Rattle.zarrs_crc32c.specs.declared.crc32c_codec.Crc32cCodec.{Crc32cCodec}
 
@@ -17,7 +15,3 @@ crc32c_metadata = record { name = crc32c_name; configuration = None; must_unders
 -- what is made of a metadata: the codec where it has its name, with any configuration
 abbrev pub crc32c_made : Metadata → Result (Option Crc32cCodec) PluginCreateError
 crc32c_made metadata = Ok (if bytes_eq metadata.name crc32c_name then Some (record {}) else None)
-
--- the codec is made of the metadata
-abbrev pub MakesCrc32c : MetadataV3 → Type 0
-MakesCrc32c metadata = crc32c_made (metadata_seen metadata) ≡ Ok (Some (record {}))

@@ -117,8 +117,8 @@ size_grows UnboundedSize (BoundedSize n) h = absurd h
 -- ---- errors
 
 -- what is before a checksum, by whether there is one and whether it is right
-abbrev two_tests : Bool → Bool → List ℕ → Result (List ℕ) CodecError
-two_tests long same bytes = do
+abbrev two_checks : Bool → Bool → List ℕ → Result (List ℕ) CodecError
+two_checks long same bytes = do
   _ ← demand long (BytesCodec 1)
   _ ← demand same (BytesCodec 2)
   Ok (bytes_before bytes)
@@ -129,10 +129,10 @@ is_no_error result bytes error is other = cc
 same_error : (result : Result (List ℕ) CodecError) (cause error : CodecError) → result ≡ Err cause → result ≡ Err error → cause ≡ error
 same_error result cause error is other = cc
 
-tests_reject : (long same : Bool) (bytes : List ℕ) (error : CodecError) → two_tests long same bytes ≡ Err error → IsBytesRefusal error
-tests_reject true true bytes error e = absurd (is_no_error (two_tests true true bytes) (bytes_before bytes) error refl e)
-tests_reject true false bytes error e = subst IsBytesRefusal (same_error (two_tests true false bytes) (BytesCodec 2) error refl e) tt
-tests_reject false same bytes error e = subst IsBytesRefusal (same_error (two_tests false same bytes) (BytesCodec 1) error refl e) tt
+tests_reject : (long same : Bool) (bytes : List ℕ) (error : CodecError) → two_checks long same bytes ≡ Err error → IsBytesRefusal error
+tests_reject true true bytes error e = absurd (is_no_error (two_checks true true bytes) (bytes_before bytes) error refl e)
+tests_reject true false bytes error e = subst IsBytesRefusal (same_error (two_checks true false bytes) (BytesCodec 2) error refl e) tt
+tests_reject false same bytes error e = subst IsBytesRefusal (same_error (two_checks false same bytes) (BytesCodec 1) error refl e) tt
 
 -- ---- the laws
 

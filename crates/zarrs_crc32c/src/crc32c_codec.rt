@@ -1,8 +1,9 @@
 //! The codec: the bytes, and behind them their checksum.
-ghost use Rattle.std.specs.Prelude.{◌≡◌, ◌-◌, Ok, IfOk, false, length};
+ghost use Rattle.std.specs.Prelude.{◌≡◌, ◌-◌, Ok, IfOk, false, length, Some};
 ghost use Rattle.zarrs_chunk.specs.Answer.{seen, Gives, GivesItems};
 ghost use Rattle.zarrs_array_bytes.specs.Held.{items_of, raw_of};
 ghost use Rattle.zarrs_crc32c.specs.Crc32cCodec.{bytes_before, checked_bytes, checked_raw, checksum_in, four_more, with_checksum};
+ghost use Rattle.zarrs_crc32c.specs.Crc32cMetadata.{crc32c_made};
 
 use crate::checksum::checksum_of;
 use std::alloc::Global;
@@ -117,7 +118,7 @@ impl BytesToBytesCodecTraits for Crc32cCodec {
     ghost use Rattle.zarrs_metadata.specs.MetadataV3.{metadata_seen};
     ghost use Rattle.zarrs_metadata.specs.PluginCreateError.{Makes};
     ghost use Rattle.zarrs_crc32c.specs.Crc32cCodec.{crc32c_codecs};
-    ghost use Rattle.zarrs_crc32c.specs.Crc32cMetadata.{crc32c_metadata, MakesCrc32c};
+    ghost use Rattle.zarrs_crc32c.specs.Crc32cMetadata.{crc32c_metadata};
     ghost use Rattle.zarrs_crc32c.specs.Lawful.{crc32c_is_lawful};
 
     ghost functions = { crc32c_codecs };
@@ -177,7 +178,8 @@ impl BytesToBytesCodecTraits for Crc32cCodec {
     /// `OutOfMemory`.
     fn metadata(&self, alloc: Global) -> Result<MetadataV3, PluginCreateError>
         ensures answer { Makes metadata_seen result (Ok crc32c_metadata) }
-        ensures made_again { IfOk result MakesCrc32c }
+        ensures made_again { IfOk result
+            (λ metadata. crc32c_made (metadata_seen metadata) ≡ Ok (Some (record {}))) }
     {
         MetadataV3::new(alloc, CRC32C)
     }

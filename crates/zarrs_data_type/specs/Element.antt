@@ -32,7 +32,3 @@ fill_element (fixed width count sign) fill = plain fill
 fill_element text fill = plain fill
 fill_element bytes fill = plain fill
 fill_element (optional type) fill = if is_null fill then absent else present (fill_element type (front_of fill))
-
--- the fill value is an element of the type
-abbrev pub FillIsElement : ElementType → List ℕ → Type 0
-FillIsElement type fill = IsElement type (fill_element type fill)

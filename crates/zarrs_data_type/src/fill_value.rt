@@ -6,7 +6,7 @@ ghost use Rattle.std.specs.Cmp.Rules.{comparing};
 ghost use Rattle.std.proofs.Common.{rules};
 ghost use Rattle.zarrs_chunk.specs.Answer.{Answers, memory};
 ghost use Rattle.zarrs_data_type.specs.FillValue.{fill_fits};
-ghost use Rattle.zarrs_data_type.specs.Element.{FillIsElement};
+ghost use Rattle.zarrs_data_type.specs.Element.{IsElement, fill_element};
 
 use crate::data_type::DataType;
 use std::alloc::Global;
@@ -65,7 +65,8 @@ impl FillValue {
     /// Whether the bytes are a fill value of this type.
     pub fn fits(&self, data_type: &DataType) -> bool
         ensures value { result ≡ fill_fits data_type.now self.now }
-        ensures element { IsTrue result → FillIsElement data_type.now self.now }
+        ensures element { IsTrue result
+            → IsElement data_type.now (fill_element data_type.now self.now) }
     {
         data_type.accepts(self.as_ne_bytes())
     }

@@ -25,13 +25,13 @@ IsInPiece number piece = (piece.start ≤ number) × (number - piece.start < len
 -- ---- which bytes are at hand
 
 -- the piece has the byte of this number
-abbrev pub has_byte : PlainPiece → ℕ → Bool
-has_byte piece number = nat_le piece.start number && nat_lt (number - piece.start) (length piece.bytes)
+abbrev pub piece_has_byte : PlainPiece → ℕ → Bool
+piece_has_byte piece number = nat_le piece.start number && nat_lt (number - piece.start) (length piece.bytes)
 
 -- the first piece that has it
 abbrev pub piece_with : List PlainPiece → ℕ → Option PlainPiece
 piece_with [] number = None
-piece_with (piece ∷ pieces) number = if has_byte piece number then Some piece else piece_with pieces number
+piece_with (piece ∷ pieces) number = if piece_has_byte piece number then Some piece else piece_with pieces number
 
 -- the pieces come in order from a number on, with at least a byte between one and the next, and end inside so many bytes
 abbrev pub are_apart : ℕ → ℕ → List PlainPiece → Bool
@@ -71,12 +71,12 @@ abbrev pub byte_at : List PlainPiece → ℕ → ℕ
 byte_at pieces number = byte_in (piece_with pieces number) number
 
 -- the value of so many bytes that has these pieces, and zeros elsewhere
-abbrev pub value_with : ℕ → List PlainPiece → List ℕ
-value_with len pieces = map (byte_at pieces) (range_with_len 0 len)
+abbrev pub value_of_pieces : ℕ → List PlainPiece → List ℕ
+value_of_pieces len pieces = map (byte_at pieces) (range_with_len 0 len)
 
 -- the same of pieces as they are given
 abbrev pub value_of : ℕ → List Piece → List ℕ
-value_of len pieces = value_with len (pieces_seen pieces)
+value_of len pieces = value_of_pieces len (pieces_seen pieces)
 
 -- the value has so many bytes, and each that is at hand is the piece's
 pub record HasPieces (len : ℕ) (pieces : List PlainPiece) (value : List ℕ) : Type 0 where

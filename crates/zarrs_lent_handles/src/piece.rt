@@ -4,7 +4,7 @@ ghost use Rattle.std.specs.Option.{option_map};
 ghost use Rattle.zarrs_chunk.specs.Answer.{AnswersItems, Excused, fault, memory_or_fault};
 ghost use Rattle.zarrs_codec.specs.ByteRanges.{range_indices, read_value, EndsOutside, IsPieceOf};
 ghost use Rattle.zarrs_codec.specs.StorageState.{value_indices};
-ghost use Rattle.zarrs_lent_handles.specs.Pieces.{has_byte as is_inside, piece_with as first_with, are_apart as stand_apart, numbers_of, piece_seen, pieces_seen, value_of, IsInPiece, OnlyAtHand, SureIfAtHand};
+ghost use Rattle.zarrs_lent_handles.specs.Pieces.{piece_has_byte, piece_with as first_with, are_apart as stand_apart, numbers_of, piece_seen, pieces_seen, value_of, IsInPiece, OnlyAtHand, SureIfAtHand};
 
 use std::alloc::Global;
 use zarrs_chunk::{CodecError, StorageError};
@@ -35,7 +35,7 @@ pub(crate) fn are_apart(len: u64, pieces: &[Piece<'_>]) -> bool
 }
 
 fn has_byte(piece: &Piece<'_>, number: u64) -> bool
-    ensures value { result ≡ is_inside (piece_seen piece.now) number }
+    ensures value { result ≡ piece_has_byte (piece_seen piece.now) number }
 {
     piece.start <= number && number - piece.start < piece.bytes.len() as u64
 }
@@ -75,7 +75,6 @@ const NOT_AT_HAND: CodecError = CodecError::Storage(StorageError { code: 0 });
 fn part_of<'a>(len: u64, pieces: &[Piece<'a>], range: &ByteRange) -> Result<&'a [u8], CodecError>
     requires apart { stand_apart len 0 (pieces_seen pieces.now) ≡ true }
     ensures inside { IfOk result (λ part. IsPieceOf (value_of len pieces.now) range.now part.now) }
-    // Wide: the range ends past the value, or else a byte isn't at hand.
     ensures outside { IfErr result (λ error. Excused (fault error)
         (EndsOutside (value_of len pieces.now) range.now error)) }
     ensures sure { SureIfAtHand pieces.now (numbers_of range.now) result }
@@ -108,7 +107,6 @@ pub(crate) fn gather(
     ranges: &[ByteRange],
 ) -> Result<Vec<u8>, CodecError>
     requires apart { stand_apart len 0 (pieces_seen pieces.now) ≡ true }
-    // Wide: the ranges' bytes of the value that has the pieces, joined in order.
     ensures answer { AnswersItems memory_or_fault result
         (read_value (value_of len pieces.now) ranges.now) }
     ensures sure { SureIfAtHand pieces.now (range_indices ranges.now) result }

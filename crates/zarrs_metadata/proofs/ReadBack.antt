@@ -5,24 +5,30 @@ use Rattle.std.specs.Prelude.{nat_le}
 use Rattle.serde_json.specs.Data.{number, unsigned, Members}
 use Rattle.serde_json.specs.View.{items_of}
 use Rattle.serde_json.specs.Written.{has_float, items_have_float}
+use Rattle.zarrs_chunk.specs.ChunkShape.{shape_of}
+use Rattle.zarrs_data_type.specs.declared.endianness.Endianness.{Endianness}
 use Rattle.zarrs_data_type.specs.declared.endianness.Endianness.TheVariants.{Little, Big}
-use Rattle.zarrs_metadata.specs.BytesConfiguration.{BytesReadsBack}
-use Rattle.zarrs_metadata.specs.Dims.{Dim, size, auto, input_dims, autos, has_no_zero}
-use Rattle.zarrs_metadata.specs.Metadata.{Metadata, metadata_of, write_metadata, has_no_float, MetadataReadsBack}
+use Rattle.zarrs_metadata.specs.BytesConfiguration.{read_bytes, write_bytes}
+use Rattle.zarrs_metadata.specs.Dims.{Dim, size, auto, input_dims, autos, has_no_zero, is_reshape}
+use Rattle.zarrs_metadata.specs.Metadata.{Metadata, metadata_of, read_metadata, write_metadata, has_no_float}
 use Rattle.zarrs_metadata.specs.MetadataList.{metadata_among, have_no_float}
-use Rattle.zarrs_metadata.specs.OptionalConfiguration.{OptionalReadsBack}
-use Rattle.zarrs_metadata.specs.PackBitsConfiguration.{padding_named, padding_name, padding_or_none, are_bits_in_order, read_packbits, write_packbits, with_padding_said, PackBitsReadsBack}
-use Rattle.zarrs_metadata.specs.ReshapeConfiguration.{dim_in, dims_in, dim_tree, ReshapeReadsBack}
-use Rattle.zarrs_metadata.specs.SqueezeConfiguration.{SqueezeReadsBack}
-use Rattle.zarrs_metadata.specs.TransposeConfiguration.{TransposeReadsBack}
+use Rattle.zarrs_metadata.specs.OptionalConfiguration.{OptionalChains, read_optional, write_optional}
+use Rattle.zarrs_metadata.specs.Orders.{is_order}
+use Rattle.zarrs_metadata.specs.PackBitsConfiguration.{padding_named, padding_name, padding_or_none, are_bits_in_order, read_packbits, write_packbits, with_padding_said}
+use Rattle.zarrs_metadata.specs.ReshapeConfiguration.{dim_in, dims_in, dim_tree, read_reshape, write_reshape}
+use Rattle.zarrs_metadata.specs.ShardingConfiguration.{ShardingParts, shard_index_named, shard_index_name, read_sharding, write_sharding}
+use Rattle.zarrs_metadata.specs.SqueezeConfiguration.{read_squeeze, write_squeeze}
+use Rattle.zarrs_metadata.specs.TransposeConfiguration.{read_transpose, write_transpose}
 use Rattle.zarrs_metadata.specs.Trees.{numbers_in}
-use Rattle.zarrs_metadata.specs.VlenConfiguration.{index_data_type_named, index_data_type_name, index_location_named, index_location_name, read_vlen, write_vlen, VlenReadsBack}
+use Rattle.zarrs_metadata.specs.VlenConfiguration.{VlenParts, index_data_type_named, index_data_type_name, index_location_named, index_location_name, read_vlen, write_vlen}
 use Rattle.zarrs_metadata.specs.declared.codec.packbits.PackBitsPaddingEncoding.{PackBitsPaddingEncoding}
 use Rattle.zarrs_metadata.specs.declared.codec.packbits.PackBitsPaddingEncoding.TheVariants.{FirstByte, LastByte}
+use Rattle.zarrs_metadata.specs.declared.codec.sharding.ShardingIndexLocation.{ShardingIndexLocation}
 use Rattle.zarrs_metadata.specs.declared.codec.vlen.VlenIndexDataType.{VlenIndexDataType}
 use Rattle.zarrs_metadata.specs.declared.codec.vlen.VlenIndexDataType.TheVariants.{UInt32, UInt64}
 use Rattle.zarrs_metadata.specs.declared.codec.vlen.VlenIndexLocation.{VlenIndexLocation}
 use Rattle.zarrs_metadata.specs.declared.codec.vlen.VlenIndexLocation.TheVariants.{Start, End}
+use Rattle.zarrs_metadata.specs.declared.configuration.packbits.PackBitsCodecConfigurationV1.{PackBitsCodecConfigurationV1}
 
 -- ---- numbers and sizes
 
@@ -52,20 +58,20 @@ no_float-dims : (dims : List Dim) → items_have_float (items_of (map dim_tree d
 no_float-dims [] = refl
 no_float-dims (dim ∷ dims) = rw (no_float-dim dim) (no_float-dims dims)
 
-pub transpose-reads_back : TransposeReadsBack
+pub transpose-reads_back : (order : List ℕ) → is_order order ≡ true → read_transpose (write_transpose order) ≡ Ok order
 transpose-reads_back order h = rw (no_float-numbers order, numbers-read order, h) refl
 
-pub reshape-reads_back : ReshapeReadsBack
+pub reshape-reads_back : (dims : List Dim) → is_reshape dims ≡ true → read_reshape (write_reshape dims) ≡ Ok dims
 reshape-reads_back dims h =
     let parts = and_parts (nat_le (autos dims) 1) (has_no_zero dims) h in
     rw (no_float-dims dims, dims-read dims, parts.1, parts.0) refl
 
 -- ---- names
 
-pub squeeze-reads_back : SqueezeReadsBack
+pub squeeze-reads_back : read_squeeze write_squeeze ≡ Ok tt
 squeeze-reads_back = refl
 
-pub bytes-reads_back : BytesReadsBack
+pub bytes-reads_back : (endian : Option Endianness) → read_bytes (write_bytes endian) ≡ Ok endian
 bytes-reads_back None = refl
 bytes-reads_back (Some Little) = refl
 bytes-reads_back (Some Big) = refl
@@ -75,7 +81,7 @@ padding-reads PackBitsPaddingEncoding.None = refl
 padding-reads FirstByte = refl
 padding-reads LastByte = refl
 
-pub packbits-reads_back : PackBitsReadsBack
+pub packbits-reads_back : (c : PackBitsCodecConfigurationV1) → are_bits_in_order c.first_bit c.last_bit ≡ true → read_packbits (write_packbits c) ≡ Ok (with_padding_said c)
 packbits-reads_back c h = by c.padding_encoding c.first_bit c.last_bit h
   where
     by : (padding : Option PackBitsPaddingEncoding) (first last : Option ℕ) → are_bits_in_order first last ≡ true
@@ -109,7 +115,7 @@ no_float-metadata m = by m.name m.configuration m.must_understand
     by name (Some configuration) true h = rw (not-true _ h) refl
     by name (Some configuration) false h = rw (not-true _ h) refl
 
-pub metadata-reads_back : MetadataReadsBack
+pub metadata-reads_back : (m : Metadata) → has_no_float m.configuration ≡ true → read_metadata (write_metadata m) ≡ Ok m
 metadata-reads_back m h = rw (no_float-metadata m h) (metadata-reads m)
 
 metadata_among-reads : (list : List Metadata) → metadata_among (items_of (map write_metadata list)) ≡ Ok list
@@ -123,7 +129,7 @@ no_float-list (m ∷ ms) h =
 
 -- ---- lists of metadata
 
-pub optional-reads_back : OptionalReadsBack
+pub optional-reads_back : (c : OptionalChains) → have_no_float c.mask_codecs ≡ true → have_no_float c.data_codecs ≡ true → read_optional (write_optional c) ≡ Ok c
 optional-reads_back c masks elements =
     rw (no_float-list c.data_codecs elements, no_float-list c.mask_codecs masks, metadata_among-reads c.data_codecs, metadata_among-reads c.mask_codecs) refl
 
@@ -135,7 +141,7 @@ index_location-reads : (location : VlenIndexLocation) → index_location_named (
 index_location-reads Start = refl
 index_location-reads End = refl
 
-pub vlen-reads_back : VlenReadsBack
+pub vlen-reads_back : (c : VlenParts) → have_no_float c.index_codecs ≡ true → have_no_float c.data_codecs ≡ true → read_vlen (write_vlen c) ≡ Ok c
 vlen-reads_back c = by c.index_codecs c.data_codecs c.index_data_type c.index_location
   where
     by : (index elements : List Metadata) (type : VlenIndexDataType) (location : Option VlenIndexLocation)
@@ -146,3 +152,17 @@ vlen-reads_back c = by c.index_codecs c.data_codecs c.index_data_type c.index_lo
         rw (no_float-list elements k, no_float-list index h, metadata_among-reads elements, metadata_among-reads index, index_data_type-reads type) refl
     by index elements type (Some location) h k =
         rw (no_float-list elements k, no_float-list index h, metadata_among-reads elements, metadata_among-reads index, index_data_type-reads type, index_location-reads location) refl
+
+shard_index-reads : (location : ShardingIndexLocation) → shard_index_named (shard_index_name location) ≡ Some location
+shard_index-reads ShardingIndexLocation.Start = refl
+shard_index-reads ShardingIndexLocation.End = refl
+
+pub sharding-reads_back : (c : ShardingParts) → shape_of c.chunk_shape ≡ Some c.chunk_shape → have_no_float c.codecs ≡ true → have_no_float c.index_codecs ≡ true → read_sharding (write_sharding c) ≡ Ok c
+sharding-reads_back c = by c.chunk_shape c.codecs c.index_codecs c.index_location
+  where
+    by : (shape : List ℕ) (codecs index : List Metadata) (location : ShardingIndexLocation)
+        → shape_of shape ≡ Some shape → have_no_float codecs ≡ true → have_no_float index ≡ true
+        → read_sharding (write_sharding (record { chunk_shape = shape; codecs = codecs; index_codecs = index; index_location = location }))
+        ≡ Ok (record { chunk_shape = shape; codecs = codecs; index_codecs = index; index_location = location })
+    by shape codecs index location p h k =
+        rw (no_float-numbers shape, no_float-list codecs h, no_float-list index k, numbers-read shape, metadata_among-reads codecs, metadata_among-reads index, shard_index-reads location, p) refl

@@ -1,5 +1,5 @@
 -- The configuration of codec `bytes`.
-use Rattle.std.specs.Prelude.{◌≡◌, ℕ, List, Option, Some, None, option_and_then, Result, Ok, codes, if◌then◌else◌}
+use Rattle.std.specs.Prelude.{ℕ, List, Option, Some, None, option_and_then, Result, codes, if◌then◌else◌}
 use Rattle.std.specs.Str.{bytes_eq}
 use Rattle.serde_json.specs.Data.{Data, string, Members, no_members, member}
 use Rattle.serde_json.specs.Find.{as_str, get_member}
@@ -37,7 +37,3 @@ endianness_name Big = codes "big"
 abbrev pub write_bytes : Option Endianness → Members
 write_bytes None = no_members
 write_bytes (Some endian) = member (codes "endian") (string (endianness_name endian)) no_members
-
--- what is written of a byte order is read as it
-abbrev pub BytesReadsBack : Type 0
-BytesReadsBack = (endian : Option Endianness) → read_bytes (write_bytes endian) ≡ Ok endian

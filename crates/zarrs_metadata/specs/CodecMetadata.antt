@@ -1,24 +1,17 @@
 -- The metadata of codecs: by which names they are known, what is made of a metadata, and what is written of a codec.
-use Rattle.std.specs.Prelude.{◌≡◌, ℕ, Bool, true, ◌||◌, List, Option, Some, None, Result, Ok, String, codes}
+use Rattle.std.specs.Prelude.{ℕ, Bool, true, ◌||◌, List, Option, Some, None, Result, codes}
 use Rattle.std.specs.Str.{bytes_eq}
-use Rattle.std.specs.declared.alloc.Global.{Global}
-use Rattle.std.specs.declared.collections.BTreeMap.{BTreeMap}
-use Rattle.serde_json.specs.declared.value.Value.{Value}
 use Rattle.serde_json.specs.Data.{Members, no_members}
 use Rattle.zarrs_chunk.specs.Answer.{◌>>=◌, demand}
 use Rattle.zarrs_data_type.specs.declared.endianness.Endianness.{Endianness}
-use Rattle.zarrs_metadata.specs.BytesConfiguration.{read_bytes, write_bytes}
-use Rattle.zarrs_metadata.specs.Dims.{Dim, is_reshape}
+use Rattle.zarrs_metadata.specs.BytesConfiguration.{read_bytes}
+use Rattle.zarrs_metadata.specs.Dims.{Dim}
 use Rattle.zarrs_metadata.specs.Metadata.{Metadata}
-use Rattle.zarrs_metadata.specs.MetadataV3.{configuration_seen, metadata_seen}
-use Rattle.zarrs_metadata.specs.Orders.{is_order}
-use Rattle.zarrs_metadata.specs.PackBitsConfiguration.{read_packbits, write_packbits, are_bits_in_order, with_padding_said}
-use Rattle.zarrs_metadata.specs.PluginCreateError.{Makes}
-use Rattle.zarrs_metadata.specs.ReshapeConfiguration.{read_reshape, write_reshape}
-use Rattle.zarrs_metadata.specs.SqueezeConfiguration.{read_squeeze, write_squeeze}
-use Rattle.zarrs_metadata.specs.TransposeConfiguration.{read_transpose, write_transpose}
+use Rattle.zarrs_metadata.specs.PackBitsConfiguration.{read_packbits}
+use Rattle.zarrs_metadata.specs.ReshapeConfiguration.{read_reshape}
+use Rattle.zarrs_metadata.specs.SqueezeConfiguration.{read_squeeze}
+use Rattle.zarrs_metadata.specs.TransposeConfiguration.{read_transpose}
 use Rattle.zarrs_metadata.specs.declared.configuration.packbits.PackBitsCodecConfigurationV1.{PackBitsCodecConfigurationV1}
-use Rattle.zarrs_metadata.specs.declared.metadata_v3.MetadataV3.{MetadataV3}
 use Rattle.zarrs_metadata.specs.declared.plugin_create_error.PluginCreateError.{PluginCreateError}
 use Rattle.zarrs_metadata.specs.declared.plugin_create_error.PluginCreateError.TheVariants.{UnknownName}
 
@@ -39,11 +32,6 @@ made_of is_name reading metadata = do
 abbrev pub codec_metadata : List ℕ → Members → Metadata
 codec_metadata name configuration = record { name = name; configuration = Some configuration; must_understand = true }
 
--- the made metadata is that of a codec of this name and configuration
-abbrev pub MakesCodecMetadata : List ℕ → BTreeMap (String Global) Value Global → Result MetadataV3 PluginCreateError → Type 0
-MakesCodecMetadata name configuration result =
-    Makes metadata_seen result (Ok (codec_metadata name (configuration_seen configuration)))
-
 -- ---- transpose
 
 abbrev pub transpose_name : List ℕ
@@ -55,10 +43,6 @@ is_transpose_name name = bytes_eq name transpose_name
 -- the order of a metadata
 abbrev pub transpose_made : Metadata → Result (List ℕ) PluginCreateError
 transpose_made metadata = made_of is_transpose_name read_transpose metadata
-
--- the metadata of an order
-abbrev pub transpose_metadata : List ℕ → Metadata
-transpose_metadata order = codec_metadata transpose_name (write_transpose order)
 
 -- ---- reshape
 
@@ -72,10 +56,6 @@ is_reshape_name name = bytes_eq name reshape_name
 abbrev pub reshape_made : Metadata → Result (List Dim) PluginCreateError
 reshape_made metadata = made_of is_reshape_name read_reshape metadata
 
--- the metadata of sizes
-abbrev pub reshape_metadata : List Dim → Metadata
-reshape_metadata dims = codec_metadata reshape_name (write_reshape dims)
-
 -- ---- squeeze, which is written by the first of its names
 
 abbrev pub squeeze_name : List ℕ
@@ -87,10 +67,6 @@ is_squeeze_name name = bytes_eq name squeeze_name || bytes_eq name (codes "https
 -- that a metadata is one of it
 abbrev pub squeeze_made : Metadata → Result (Unit {0}) PluginCreateError
 squeeze_made metadata = made_of is_squeeze_name read_squeeze metadata
-
--- its metadata
-abbrev pub squeeze_metadata : Metadata
-squeeze_metadata = codec_metadata squeeze_name write_squeeze
 
 -- ---- bytes, which is written by the first of its names
 
@@ -104,10 +80,6 @@ is_bytes_name name = bytes_eq name bytes_name || bytes_eq name (codes "endian")
 abbrev pub bytes_made : Metadata → Result (Option Endianness) PluginCreateError
 bytes_made metadata = made_of is_bytes_name read_bytes metadata
 
--- the metadata of a byte order
-abbrev pub bytes_metadata : Option Endianness → Metadata
-bytes_metadata endian = codec_metadata bytes_name (write_bytes endian)
-
 -- ---- packbits
 
 abbrev pub packbits_name : List ℕ
@@ -119,29 +91,3 @@ is_packbits_name name = bytes_eq name packbits_name
 -- the fields of a metadata
 abbrev pub packbits_made : Metadata → Result PackBitsCodecConfigurationV1 PluginCreateError
 packbits_made metadata = made_of is_packbits_name read_packbits metadata
-
--- the metadata of fields
-abbrev pub packbits_metadata : PackBitsCodecConfigurationV1 → Metadata
-packbits_metadata fields = codec_metadata packbits_name (write_packbits fields)
-
--- ---- laws
-
--- what is written of an order makes that order
-abbrev pub TransposeMadeAgain : Type 0
-TransposeMadeAgain = (order : List ℕ) → is_order order ≡ true → transpose_made (transpose_metadata order) ≡ Ok order
-
--- what is written of sizes makes those sizes
-abbrev pub ReshapeMadeAgain : Type 0
-ReshapeMadeAgain = (dims : List Dim) → is_reshape dims ≡ true → reshape_made (reshape_metadata dims) ≡ Ok dims
-
--- what is written of a codec `squeeze` makes one
-abbrev pub SqueezeMadeAgain : Type 0
-SqueezeMadeAgain = squeeze_made squeeze_metadata ≡ Ok tt
-
--- what is written of a byte order makes that byte order
-abbrev pub BytesMadeAgain : Type 0
-BytesMadeAgain = (endian : Option Endianness) → bytes_made (bytes_metadata endian) ≡ Ok endian
-
--- what is written of fields whose bits are in order makes those fields, with their padding given
-abbrev pub PackBitsMadeAgain : Type 0
-PackBitsMadeAgain = (fields : PackBitsCodecConfigurationV1) → are_bits_in_order fields.first_bit fields.last_bit ≡ true → packbits_made (packbits_metadata fields) ≡ Ok (with_padding_said fields)

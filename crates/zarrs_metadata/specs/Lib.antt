@@ -1,7 +1,6 @@
 pub mod BytesConfiguration
 pub mod CodecMetadata
 pub mod Dims
-pub mod Laws
 pub mod Metadata
 pub mod MetadataList
 pub mod MetadataV3
@@ -13,6 +12,7 @@ pub mod ReshapeConfiguration
 pub mod ReshapeShape
 pub mod SameDim
 pub mod SameDimLaws
+pub mod ShardingConfiguration
 pub mod SqueezeConfiguration
 pub mod TransposeConfiguration
 pub mod TransposeOrder
@@ -20,3 +20,4 @@ pub mod Trees
 pub mod VlenConfiguration
 pub use Rattle.serde_json.specs.Data
 pub use Rattle.zarrs_chunk.specs.Answer
+pub use Rattle.zarrs_chunk.specs.ChunkShape

@@ -1,5 +1,5 @@
 -- The metadata of a codec, as a JSON tree.
-use Rattle.std.specs.Prelude.{◌≡◌, ℕ, Bool, true, false, not, ◌&&◌, List, Option, Some, None, is_some, Result, Ok, Err, codes, if◌then◌else◌}
+use Rattle.std.specs.Prelude.{ℕ, Bool, true, false, not, ◌&&◌, List, Option, Some, None, is_some, Result, Ok, Err, codes, if◌then◌else◌}
 use Rattle.serde_json.specs.Data.{Data, null, boolean, number, string, array, object, Members, no_members, member}
 use Rattle.serde_json.specs.Find.{as_bool, as_object, get_member}
 use Rattle.serde_json.specs.Written.{has_float, members_have_float}
@@ -75,7 +75,3 @@ write_metadata m = if is_name_alone m.configuration m.must_understand then strin
 abbrev pub has_no_float : Option Members → Bool
 has_no_float None = true
 has_no_float (Some configuration) = not (members_have_float configuration)
-
--- what is written of a metadata without floats is read as that metadata
-abbrev pub MetadataReadsBack : Type 0
-MetadataReadsBack = (m : Metadata) → has_no_float m.configuration ≡ true → read_metadata (write_metadata m) ≡ Ok m

@@ -1,9 +1,9 @@
 -- The configuration of codec `optional`.
-use Rattle.std.specs.Prelude.{◌≡◌, true, List, Result, Ok, codes}
+use Rattle.std.specs.Prelude.{List, Result, Ok, codes}
 use Rattle.serde_json.specs.Data.{Members, no_members, member}
 use Rattle.zarrs_chunk.specs.Answer.{◌>>=◌}
 use Rattle.zarrs_metadata.specs.Metadata.{Metadata}
-use Rattle.zarrs_metadata.specs.MetadataList.{metadata_at, metadata_list_tree, have_no_float}
+use Rattle.zarrs_metadata.specs.MetadataList.{metadata_at, metadata_list_tree}
 use Rattle.zarrs_metadata.specs.MetadataV3.{metadatas_in}
 use Rattle.zarrs_metadata.specs.Trees.{without_floats}
 use Rattle.zarrs_metadata.specs.declared.configuration.optional.OptionalCodecConfiguration.{OptionalCodecConfiguration}
@@ -32,7 +32,3 @@ abbrev pub write_optional : OptionalChains → Members
 write_optional c =
     member (codes "data_codecs") (metadata_list_tree c.data_codecs)
     (member (codes "mask_codecs") (metadata_list_tree c.mask_codecs) no_members)
-
--- what is written of chains without floats is read as those chains
-abbrev pub OptionalReadsBack : Type 0
-OptionalReadsBack = (c : OptionalChains) → have_no_float c.mask_codecs ≡ true → have_no_float c.data_codecs ≡ true → read_optional (write_optional c) ≡ Ok c

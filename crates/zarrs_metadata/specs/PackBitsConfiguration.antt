@@ -1,5 +1,5 @@
 -- The configuration of codec `packbits`.
-use Rattle.std.specs.Prelude.{◌≡◌, ℕ, nat_le, Bool, true, List, Option, Some, None, option_and_then, Result, Ok, codes, if◌then◌else◌}
+use Rattle.std.specs.Prelude.{ℕ, nat_le, Bool, true, List, Option, Some, None, option_and_then, Result, Ok, codes, if◌then◌else◌}
 use Rattle.std.specs.Str.{bytes_eq}
 use Rattle.serde_json.specs.Data.{Data, unsigned, null, number, string, Members, no_members, member}
 use Rattle.serde_json.specs.Find.{as_str, get_member}
@@ -69,7 +69,3 @@ write_packbits c =
 -- the same, with its padding given
 abbrev pub with_padding_said : PackBitsCodecConfigurationV1 → PackBitsCodecConfigurationV1
 with_padding_said c = record { padding_encoding = Some (padding_or_none c.padding_encoding); first_bit = c.first_bit; last_bit = c.last_bit }
-
--- what is written of a configuration whose bits are in order is read as it, with its padding given
-abbrev pub PackBitsReadsBack : Type 0
-PackBitsReadsBack = (c : PackBitsCodecConfigurationV1) → are_bits_in_order c.first_bit c.last_bit ≡ true → read_packbits (write_packbits c) ≡ Ok (with_padding_said c)

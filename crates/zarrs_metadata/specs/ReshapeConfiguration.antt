@@ -1,10 +1,10 @@
 -- The configuration of codec `reshape`.
-use Rattle.std.specs.Prelude.{◌≡◌, zero, negsuc, true, List, [], ◌∷◌, Option, Some, None, map, Result, Ok, Err, codes}
+use Rattle.std.specs.Prelude.{zero, negsuc, List, [], ◌∷◌, Option, Some, None, map, Result, Ok, Err, codes}
 use Rattle.serde_json.specs.Data.{Data, Num, unsigned, negative, float, null, boolean, number, string, array, object, Items, no_items, item, Members, no_members, member}
 use Rattle.serde_json.specs.Find.{as_array, get_member}
 use Rattle.serde_json.specs.View.{items_of}
 use Rattle.zarrs_chunk.specs.Answer.{◌>>=◌, seen}
-use Rattle.zarrs_metadata.specs.Dims.{Dim, size, auto, input_dims, is_reshape}
+use Rattle.zarrs_metadata.specs.Dims.{Dim, size, auto, input_dims}
 use Rattle.zarrs_metadata.specs.ReshapeShape.{reshape_shape_of}
 use Rattle.zarrs_metadata.specs.Trees.{needed, without_floats, numbers_in, numbers_tree}
 use Rattle.zarrs_metadata.specs.declared.configuration.reshape.ReshapeCodecConfiguration.{ReshapeCodecConfiguration}
@@ -62,7 +62,3 @@ dims_tree dims = array (items_of (map dim_tree dims))
 -- how sizes are written
 abbrev pub write_reshape : List Dim → Members
 write_reshape dims = member (codes "shape") (dims_tree dims) no_members
-
--- what is written of sizes is read as those sizes
-abbrev pub ReshapeReadsBack : Type 0
-ReshapeReadsBack = (dims : List Dim) → is_reshape dims ≡ true → read_reshape (write_reshape dims) ≡ Ok dims

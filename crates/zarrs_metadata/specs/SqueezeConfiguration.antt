@@ -1,5 +1,5 @@
 -- The configuration of codec `squeeze`, which has no settings.
-use Rattle.std.specs.Prelude.{◌≡◌, Result, Ok}
+use Rattle.std.specs.Prelude.{Result}
 use Rattle.serde_json.specs.Data.{Members, no_members}
 use Rattle.zarrs_metadata.specs.Trees.{without_floats}
 use Rattle.zarrs_metadata.specs.declared.plugin_create_error.PluginCreateError.{PluginCreateError}
@@ -11,7 +11,3 @@ read_squeeze configuration = without_floats configuration
 -- it is written without members
 abbrev pub write_squeeze : Members
 write_squeeze = no_members
-
--- what is written is read
-abbrev pub SqueezeReadsBack : Type 0
-SqueezeReadsBack = read_squeeze write_squeeze ≡ Ok tt

@@ -1,9 +1,8 @@
 -- The configuration of codec `transpose`.
-use Rattle.std.specs.Prelude.{◌≡◌, ℕ, true, List, Result, Ok, codes}
+use Rattle.std.specs.Prelude.{ℕ, List, Result, codes}
 use Rattle.serde_json.specs.Data.{Members, no_members, member}
 use Rattle.serde_json.specs.Find.{get_member}
 use Rattle.zarrs_chunk.specs.Answer.{◌>>=◌}
-use Rattle.zarrs_metadata.specs.Orders.{is_order}
 use Rattle.zarrs_metadata.specs.TransposeOrder.{transpose_order_of}
 use Rattle.zarrs_metadata.specs.Trees.{needed, without_floats, number_list, numbers_tree}
 use Rattle.zarrs_metadata.specs.declared.configuration.transpose.TransposeCodecConfiguration.{TransposeCodecConfiguration}
@@ -25,7 +24,3 @@ read_transpose configuration = do
 -- how an order is written
 abbrev pub write_transpose : List ℕ → Members
 write_transpose order = member (codes "order") (numbers_tree order) no_members
-
--- what is written of an order is read as that order
-abbrev pub TransposeReadsBack : Type 0
-TransposeReadsBack = (order : List ℕ) → is_order order ≡ true → read_transpose (write_transpose order) ≡ Ok order

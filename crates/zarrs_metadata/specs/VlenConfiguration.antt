@@ -1,11 +1,11 @@
 -- The configuration of codec `vlen`.
-use Rattle.std.specs.Prelude.{◌≡◌, ℕ, true, List, Option, Some, None, option_and_then, Result, Ok, codes, if◌then◌else◌}
+use Rattle.std.specs.Prelude.{ℕ, List, Option, Some, None, option_and_then, Result, Ok, codes, if◌then◌else◌}
 use Rattle.std.specs.Str.{bytes_eq}
 use Rattle.serde_json.specs.Data.{Data, string, Members, no_members, member}
 use Rattle.serde_json.specs.Find.{as_str, get_member}
 use Rattle.zarrs_chunk.specs.Answer.{◌>>=◌, seen}
 use Rattle.zarrs_metadata.specs.Metadata.{Metadata}
-use Rattle.zarrs_metadata.specs.MetadataList.{metadata_at, metadata_list_tree, have_no_float}
+use Rattle.zarrs_metadata.specs.MetadataList.{metadata_at, metadata_list_tree}
 use Rattle.zarrs_metadata.specs.MetadataV3.{metadatas_seen}
 use Rattle.zarrs_metadata.specs.Trees.{needed, without_floats}
 use Rattle.zarrs_metadata.specs.declared.codec.vlen.VlenIndexDataType.{VlenIndexDataType}
@@ -83,7 +83,3 @@ write_vlen c =
     member (codes "data_codecs") (metadata_list_tree c.data_codecs)
     (member (codes "index_codecs") (metadata_list_tree c.index_codecs)
     (member (codes "index_data_type") (string (index_data_type_name c.index_data_type)) (index_location_members c.index_location)))
-
--- what is written of parts without floats is read as those parts
-abbrev pub VlenReadsBack : Type 0
-VlenReadsBack = (c : VlenParts) → have_no_float c.index_codecs ≡ true → have_no_float c.data_codecs ≡ true → read_vlen (write_vlen c) ≡ Ok c

@@ -8,6 +8,7 @@ pub mod codecs;
 pub mod optional;
 pub mod packbits;
 pub mod reshape;
+pub mod sharding;
 pub mod squeeze;
 pub mod transpose;
 pub mod vlen;

@@ -1,9 +1,9 @@
 //! The metadata of a codec.
-ghost use Rattle.std.specs.Prelude.{◌≡◌, Ok, option_map};
+ghost use Rattle.std.specs.Prelude.{◌≡◌, Ok};
 ghost use Rattle.serde_json.specs.Find.{as_bool, as_object};
 ghost use Rattle.serde_json.specs.View.{view};
 ghost use Rattle.zarrs_chunk.specs.Answer.{seen};
-ghost use Rattle.zarrs_metadata.specs.CodecMetadata.{MakesCodecMetadata};
+ghost use Rattle.zarrs_metadata.specs.CodecMetadata.{codec_metadata};
 ghost use Rattle.zarrs_metadata.specs.Metadata.{metadata_in, metadata_named, metadata_of, read_metadata, understood, write_metadata, metadata_members, unless_false};
 ghost use Rattle.zarrs_metadata.specs.MetadataV3.{metadata_seen, configuration_seen, lent_members, Writes, MakesConfiguration};
 ghost use Rattle.zarrs_metadata.specs.PluginCreateError.{Makes};
@@ -102,7 +102,8 @@ impl MetadataV3 {
         name: &str,
         configuration: Configuration,
     ) -> Result<MetadataV3, PluginCreateError>
-        ensures made { MakesCodecMetadata name.now configuration result }
+        ensures made { Makes metadata_seen result
+            (Ok (codec_metadata name.now (configuration_seen configuration))) }
     {
         Ok(MetadataV3 {
             name: String::from_str(alloc, name)?,

@@ -29,7 +29,7 @@ pub enum PluginCreateError {
     BitOrder,
     /// More than one size of a reshape is automatic.
     MultipleAuto,
-    /// A size of a reshape is zero.
+    /// A size of a reshape, or of the inner chunks of `sharding_indexed`, is zero.
     ZeroSize,
     /// An order of axes doesn't name each axis once.
     NotAPermutation,

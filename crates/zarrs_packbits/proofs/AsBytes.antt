@@ -19,7 +19,7 @@ use Rattle.zarrs_packbits.specs.Laws.{HasBytes}
 use Rattle.zarrs_packbits.specs.Laws as laws
 use Rattle.zarrs_packbits.specs.PackBitsCodec.{PackBitsWritten}
 use Rattle.zarrs_packbits.specs.PackBitsSettings.{PackBitsSettings, packed_layout, keeps_all_bytes}
-use Rattle.zarrs_packbits.specs.PackedLayout.{is_whole, parts_of}
+use Rattle.zarrs_packbits.specs.PackedLayout.{is_whole, layout_components}
 use Rattle.zarrs_packbits.specs.PaddingByte.{value_with}
 use Rattle.zarrs_packbits.proofs.Exact.{element_bytes, joined, is_cut, stream_cut}
 use Rattle.zarrs_packbits.proofs.LayoutLemmas.{whole_encoded}
@@ -60,7 +60,7 @@ length_is sizes width components sign fill f n m =
     rw (f, a, b) refl
 
 -- 64 bits count the bytes of a chunk that is taken
-whole_fits : (settings : PackBitsSettings) (sizes : List ℕ) (width components : ℕ) (sign : Bool) (fill : List ℕ) (l : PackedLayout) → packed_layout settings (form_of sizes (fixed width components sign) fill) ≡ Ok l → (product sizes * (l.group * l.size) ≡ parts_of l * l.size) × (product sizes ≤ product sizes * (l.group * l.size)) × (product sizes * element_size width components < 2 ^ 64)
+whole_fits : (settings : PackBitsSettings) (sizes : List ℕ) (width components : ℕ) (sign : Bool) (fill : List ℕ) (l : PackedLayout) → packed_layout settings (form_of sizes (fixed width components sign) fill) ≡ Ok l → (product sizes * (l.group * l.size) ≡ layout_components l * l.size) × (product sizes ≤ product sizes * (l.group * l.size)) × (product sizes * element_size width components < 2 ^ 64)
 whole_fits settings sizes width components sign fill l e =
     let t = taken settings sizes width components sign fill l e in
     let s = t.sound in
@@ -68,7 +68,7 @@ whole_fits settings sizes width components sign fill l e =
     let group : 1 ≤ l.group = omega (arith, s.group) in
     let one : l.group * 1 ≤ l.group * l.size = mul-le-mul_left l.group size in
     let many : product sizes * 1 ≤ product sizes * (l.group * l.size) = mul-le-mul_left (product sizes) (let d : 1 ≤ l.group * l.size = omega arith in d) in
-    let all : product sizes * (l.group * l.size) ≡ parts_of l * l.size = ap (λ n. n * (l.group * l.size)) (sym t.elements) ∙ (let d : l.elements * (l.group * l.size) ≡ parts_of l * l.size = omega arith in d) in
+    let all : product sizes * (l.group * l.size) ≡ layout_components l * l.size = ap (λ n. n * (l.group * l.size)) (sym t.elements) ∙ (let d : l.elements * (l.group * l.size) ≡ layout_components l * l.size = omega arith in d) in
     let bytes_fit : product sizes * element_size width components < 2 ^ 64 = omega (arith, ap (λ k. product sizes * k) t.size, all, s.bytes_fit) in
     (all, omega (arith, many), bytes_fit)
 

@@ -8,7 +8,7 @@ use Rattle.std.proofs.lemmas.List.{drop_more, get_or-drop, append-nil, append_as
 use Rattle.std.proofs.lemmas.List.Concat.{flat_map-append}
 use Rattle.zarrs_packbits.specs.Bits.{low_bits, bits_of, field}
 use Rattle.zarrs_packbits.specs.BitStream.{components_from}
-use Rattle.zarrs_packbits.specs.BlockBits.{cut_byte, fields_of, lifted_byte}
+use Rattle.zarrs_packbits.specs.BlockBits.{fields_of, lifted_byte}
 use Rattle.zarrs_packbits.specs.KeptBits.{component_bits, full_component, sign_weight}
 use Rattle.zarrs_packbits.specs.declared.layout.PackedLayout.{PackedLayout}
 use Rattle.zarrs_packbits.proofs.FieldLemmas.{flat_more, flat_map_same}
@@ -16,6 +16,10 @@ use Rattle.zarrs_packbits.proofs.ElementBits.{flat_split}
 use Rattle.zarrs_packbits.proofs.LocalLemmas.{field_of_piece}
 use Rattle.zarrs_packbits.proofs.LowBits.{low_bits-cat, length-low_bits, length-bits_of, low_bits-split, low_bits-mod, bits_of-drop, bits_of-take, bit_of-place}
 use Rattle.zarrs_packbits.proofs.WordLemmas.{component_is, field_within, low_bits-take}
+
+-- so many bits of a byte from bit `first` on, as a number
+abbrev pub cut_byte : ℕ → ℕ → ℕ → ℕ
+cut_byte first count byte = byte / 2 ^ first % 2 ^ count
 
 -- numbers of so many bits
 abbrev pub AreBelow : ℕ → List ℕ → Type 0

@@ -49,7 +49,7 @@ written_flat settings sizes width components sign fill value chunk w =
     subst (λ (v : List ℕ). PackBitsStands settings (form_of sizes type fill) v (normal_chunk settings type chunk)) value_is
     (subst (PackBitsStands settings (form_of sizes type fill) (bytes_packed l (joined chunk))) normal (stands_flat settings sizes width components sign fill (bytes_packed l (joined chunk)) (nf l (joined chunk)) l w.taken flat))
 
-pub written_stands : laws.WrittenStands
+pub written_stands : laws.PackBitsWrittenStands
 written_stands settings sizes (fixed width components sign) fill value chunk w = written_flat settings sizes width components sign fill value chunk w
 written_stands settings sizes text fill value chunk w = absurd (let e = w.taken in cc)
 written_stands settings sizes bytes fill value chunk w = absurd (let e = w.taken in cc)
@@ -122,11 +122,11 @@ normal_updated settings type chunk places new = map_update (normal_element setti
 
 -- ---- values
 
-pub stands_for_one : laws.StandsForOne
+pub stands_for_one : laws.PackBitsStandsForOne
 stands_for_one settings sizes type fill value chunk other one two =
     chunk_is chunk other (sym (decoded_only settings sizes type fill value chunk one) ∙ decoded_only settings sizes type fill value other two)
 
-pub written_alike : laws.WrittenAlike
+pub written_alike : laws.PackBitsWrittenAlike
 written_alike settings sizes type fill value other_value chunk other one two = (
   λ e. stands_for_one settings sizes type fill value (normal_chunk settings type chunk) (normal_chunk settings type other) (written_stands settings sizes type fill value chunk one) (subst (λ (v : List ℕ). PackBitsStands settings (form_of sizes type fill) v (normal_chunk settings type other)) (sym e) (written_stands settings sizes type fill other_value other two)),
   λ e.
@@ -136,7 +136,7 @@ written_alike settings sizes type fill value other_value chunk other one two = (
       a.spelt ∙ ap (λ (k : PackedLayout). value_with k (chunk_stream k (normal_chunk settings type chunk))) same ∙ ap (λ (c : Chunk). value_with b.layout (chunk_stream b.layout c)) e ∙ sym b.spelt,
 )
 
-pub has_represented_length : laws.HasRepresentedLength
+pub has_represented_length : laws.PackBitsHasRepresentedLength
 has_represented_length settings sizes type fill value chunk len w e =
     let s = written_stands settings sizes type fill value chunk w in
     s.len ∙ number_is (value_len s.layout) len (sym (ap (seen value_len) s.taken) ∙ e)
@@ -153,7 +153,7 @@ below_tests n (p ∷ ps) h =
 pub read_at : (r : Result PackedLayout CodecError) (l : PackedLayout) (f : PackedLayout → Result Chunk CodecError) → r ≡ Ok l → (r >>= f) ≡ f l
 read_at r l f e = rw e refl
 
-pub read_selects : laws.ReadSelects
+pub read_selects : laws.PackBitsReadSelects
 read_selects settings sizes (fixed width components sign) fill value chunk places stands h =
     let type = fixed width components sign in
     let l = stands.layout in
@@ -208,7 +208,7 @@ same_elements l value other (p ∷ ps) s h =
     let one = ap (λ (b : List ℕ). plain (packing b)) (same_element l value other p s (All-first (SameByte value other) (packed_place_bytes l p) (packed_places_bytes l ps) h)) in
     λ i. one i ∷ same_elements l value other ps s (All-second (SameByte value other) (packed_place_bytes l p) (packed_places_bytes l ps) h) i
 
-pub reads_alike : laws.ReadsAlike
+pub reads_alike : laws.PackBitsReadsAlike
 reads_alike settings sizes (fixed width components sign) fill l value other places e h =
     let t = taken settings sizes width components sign fill l e in
     let both = all_same value other (packed_places_bytes l places) h in

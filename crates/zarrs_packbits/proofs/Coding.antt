@@ -24,7 +24,7 @@ use Rattle.zarrs_packbits.specs.BitStream.{chunk_stream, stream_of_bytes, compon
 use Rattle.zarrs_packbits.specs.declared.layout.PackedLayout.{PackedLayout}
 use Rattle.zarrs_packbits.specs.PackBitsCodec.{packbits_value, packbits_chunk}
 use Rattle.zarrs_packbits.specs.PackBitsSettings.{PackBitsSettings, packed_layout}
-use Rattle.zarrs_packbits.specs.PackedLayout.{IsPackedLayout, parts_of, element_bits_len}
+use Rattle.zarrs_packbits.specs.PackedLayout.{IsPackedLayout, layout_components, element_bits_len}
 use Rattle.zarrs_packbits.specs.PaddingByte.{lead, value_len, padding_holds, value_with}
 use Rattle.zarrs_packbits.specs.Packing.{packing}
 use Rattle.zarrs_packbits.specs.PartialRead.{span_end}
@@ -66,7 +66,7 @@ encoded_is settings sizes bytes fill held raw l e valid part = absurd cc
 encoded_is settings sizes (optional type) fill held raw l e valid part = absurd cc
 
 -- how many bytes such a container has
-pub raw_length : (settings : PackBitsSettings) (sizes : List ℕ) (type : ElementType) (fill : List ℕ) (held : Held) (raw : Raw) (l : PackedLayout) → packed_layout settings (form_of sizes type fill) ≡ Ok l → validity type (product sizes) held ≡ Ok tt → fixed_part held ≡ Ok raw → length raw.items ≡ parts_of l * l.size
+pub raw_length : (settings : PackBitsSettings) (sizes : List ℕ) (type : ElementType) (fill : List ℕ) (held : Held) (raw : Raw) (l : PackedLayout) → packed_layout settings (form_of sizes type fill) ≡ Ok l → validity type (product sizes) held ≡ Ok tt → fixed_part held ≡ Ok raw → length raw.items ≡ layout_components l * l.size
 raw_length settings sizes (fixed width components sign) fill (flen own) raw l e valid part =
     let t = taken settings sizes width components sign fill l e in
     let n = product sizes in
@@ -74,7 +74,7 @@ raw_length settings sizes (fixed width components sign) fill (flen own) raw l e 
     let test = demand_ok (length own.items == n * element_size width components) (InvalidBytesLength (length own.items) (n * element_size width components)) tt a.2 in
     let long : length own.items ≡ n * element_size width components = grind (arith, nat_tests) in
     ap (λ (r : Raw). length r.items) (sym (part_is own raw part)) ∙ long ∙ ap (λ k. n * k) t.size ∙ ap (λ k. k * (l.group * l.size)) (sym t.elements)
-    ∙ (let d : l.elements * (l.group * l.size) ≡ parts_of l * l.size = omega arith in d)
+    ∙ (let d : l.elements * (l.group * l.size) ≡ layout_components l * l.size = omega arith in d)
 raw_length settings sizes (fixed width components sign) fill (vlen own offsets) raw l e valid part = absurd cc
 raw_length settings sizes (fixed width components sign) fill (masked inner mask) raw l e valid part = absurd cc
 raw_length settings sizes text fill held raw l e valid part = absurd cc
@@ -92,13 +92,13 @@ all_places l v s e =
     element_long l v p s end)
 
 -- the whole chunk's components are those of its elements, in order
-pub all_components : (l : PackedLayout) (v : List ℕ) → components_from l 0 (parts_of l) (bits_of (drop (lead l) v)) ≡ flat_map (element_bits l v) (range_with_len 0 l.elements)
+pub all_components : (l : PackedLayout) (v : List ℕ) → components_from l 0 (layout_components l) (bits_of (drop (lead l) v)) ≡ flat_map (element_bits l v) (range_with_len 0 l.elements)
 all_components l v =
-    ap (λ at. components_from l at (parts_of l) (bits_of (drop (lead l) v))) (let e : 0 ≡ 0 * element_bits_len l = omega arith in e)
+    ap (λ at. components_from l at (layout_components l) (bits_of (drop (lead l) v))) (let e : 0 ≡ 0 * element_bits_len l = omega arith in e)
     ∙ run_elements l v 0 l.elements
 
 -- and have as many bytes as the elements
-unpacked_long : (l : PackedLayout) (v : List ℕ) → IsPackedLayout l → length v ≡ value_len l → length (packing (components_from l 0 (parts_of l) (bits_of (drop (lead l) v)))) ≡ parts_of l * l.size
+unpacked_long : (l : PackedLayout) (v : List ℕ) → IsPackedLayout l → length v ≡ value_len l → length (packing (components_from l 0 (layout_components l) (bits_of (drop (lead l) v)))) ≡ layout_components l * l.size
 unpacked_long l v s e =
     let size = l.group * l.size in
     let places = range_with_len 0 l.elements in
@@ -107,7 +107,7 @@ unpacked_long l v s e =
     ∙ sym (ap length (packed_joined size (element_bits l v) places all))
     ∙ length-concat size (map (λ p. packing (element_bits l v p)) places) (packed_sized size (element_bits l v) places all)
     ∙ ap (λ k. k * size) (length-map places (λ p. packing (element_bits l v p)) ∙ length-range_with_len 0 l.elements)
-    ∙ (let d : l.elements * (l.group * l.size) ≡ parts_of l * l.size = omega arith in d)
+    ∙ (let d : l.elements * (l.group * l.size) ≡ layout_components l * l.size = omega arith in d)
 
 found_chunk : {A B : Type 0} (r : Result A CodecError) (test other : A → Bool) (cause : A → CodecError) (f : A → B) (P : B → Type 0) (x : A) → r ≡ Ok x → test x ≡ true → other x ≡ true → P (f x) → IsOkAnd (r >>= λ a. demand (test a) (cause a) >>= λ _. demand (other a) PaddingByte >>= λ _. ok (f a)) P
 found_chunk (Ok a) test other cause f P x e t u p =
@@ -122,7 +122,7 @@ found_chunk (Err d) test other cause f P x e t u p = absurd cc
 
 -- what is made of a value of the right length, with the right padding byte, is its chunk
 pub decoded_holds : (settings : PackBitsSettings) (sizes : List ℕ) (type : ElementType) (fill value : List ℕ) (raw : Raw) (l : PackedLayout) → packed_layout settings (form_of sizes type fill) ≡ Ok l → length value ≡ value_len l → padding_holds l value ≡ true
-    → raw.items ≡ packing (components_from l 0 (parts_of l) (bits_of (drop (lead l) value))) → IsOkAnd (packbits_chunk settings (form_of sizes type fill) value) (Holds type (flen raw))
+    → raw.items ≡ packing (components_from l 0 (layout_components l) (bits_of (drop (lead l) value))) → IsOkAnd (packbits_chunk settings (form_of sizes type fill) value) (Holds type (flen raw))
 decoded_holds settings sizes (fixed width components sign) fill value raw l e long pad is =
     let type = fixed width components sign in
     let t = taken settings sizes width components sign fill l e in

@@ -18,7 +18,7 @@ use Rattle.zarrs_packbits.specs.BitStream.{chunk_stream, element_stream, stream_
 use Rattle.zarrs_packbits.specs.KeptBits.{component_bits, full_component, kept_component}
 use Rattle.zarrs_packbits.specs.NormalForm.{normal_bytes}
 use Rattle.zarrs_packbits.specs.declared.layout.PackedLayout.{PackedLayout}
-use Rattle.zarrs_packbits.specs.PackedLayout.{IsPackedLayout, parts_of, element_bits_len}
+use Rattle.zarrs_packbits.specs.PackedLayout.{IsPackedLayout, layout_components, element_bits_len}
 use Rattle.zarrs_packbits.specs.PaddingByte.{lead}
 use Rattle.zarrs_packbits.specs.Packing.{number_of, bytes_from_bits, packing}
 use Rattle.zarrs_packbits.specs.PartialRead.{span_end}
@@ -170,7 +170,7 @@ places_hold l v places width components sign raw size long is small =
 
 -- ---- the normal form
 
-normal_long : (l : PackedLayout) (bytes : List ℕ) (p : ℕ) → IsPackedLayout l → length bytes ≡ parts_of l * l.size → p < l.elements
+normal_long : (l : PackedLayout) (bytes : List ℕ) (p : ℕ) → IsPackedLayout l → length bytes ≡ layout_components l * l.size → p < l.elements
     → length (flat_map (λ part. kept_component l.first l.count l.sign (component_bits l.size (piece (l.group * l.size) bytes p) part)) (range_with_len 0 l.group)) ≡ 8 * (l.group * l.size)
 normal_long l bytes p s e lt =
     length-pieces (λ part. kept_component l.first l.count l.sign (component_bits l.size (piece (l.group * l.size) bytes p) part)) (8 * l.size) l.group
@@ -180,12 +180,12 @@ normal_long l bytes p s e lt =
     let next : (p + 1) * l.group ≡ p * l.group + l.group = omega arith in
     let i = p * l.group + part in
     let component = component_bits l.size (piece (l.group * l.size) bytes p) part in
-    let long : length component ≡ 8 * l.size = ap length (component_of_piece l.size l.group p part bytes plt) ∙ component_len l.size (parts_of l) i bytes e (omega arith) in
+    let long : length component ≡ 8 * l.size = ap length (component_of_piece l.size l.group p part bytes plt) ∙ component_len l.size (layout_components l) i bytes e (omega arith) in
     omega (arith, widened_len l.first (length component - (l.first + l.count)) l.sign (field l.first l.count component), field_len l.first l.count component (omega (arith, long, s.size)), long, s.size))
     ∙ (let e : l.group * (8 * l.size) ≡ 8 * (l.group * l.size) = omega arith in e)
 
 -- the normal form of a chunk's bytes, element by element
-pub normal_joined : (l : PackedLayout) (bytes : List ℕ) → IsPackedLayout l → length bytes ≡ parts_of l * l.size → concat (map (normal_bytes l) (pieces (l.group * l.size) l.elements bytes)) ≡ nf l bytes
+pub normal_joined : (l : PackedLayout) (bytes : List ℕ) → IsPackedLayout l → length bytes ≡ layout_components l * l.size → concat (map (normal_bytes l) (pieces (l.group * l.size) l.elements bytes)) ≡ nf l bytes
 normal_joined l bytes s e =
     let size = l.group * l.size in
     let f : ℕ → List ℕ = λ p. flat_map (λ part. kept_component l.first l.count l.sign (component_bits l.size (piece size bytes p) part)) (range_with_len 0 l.group) in
@@ -194,7 +194,7 @@ normal_joined l bytes s e =
     ∙ ap packing (sym (by_element (kept_component l.first l.count l.sign) l.size l.group l.elements bytes))
 
 -- each element of the normal form has its bytes
-pub normal_sized : (l : PackedLayout) (bytes : List ℕ) → IsPackedLayout l → length bytes ≡ parts_of l * l.size → AllSized (l.group * l.size) (map (normal_bytes l) (pieces (l.group * l.size) l.elements bytes))
+pub normal_sized : (l : PackedLayout) (bytes : List ℕ) → IsPackedLayout l → length bytes ≡ layout_components l * l.size → AllSized (l.group * l.size) (map (normal_bytes l) (pieces (l.group * l.size) l.elements bytes))
 normal_sized l bytes s e =
     let size = l.group * l.size in
     let f : ℕ → List ℕ = λ p. flat_map (λ part. kept_component l.first l.count l.sign (component_bits l.size (piece size bytes p) part)) (range_with_len 0 l.group) in

@@ -25,7 +25,7 @@ use Rattle.zarrs_packbits.specs.declared.layout.PackedLayout.{PackedLayout}
 use Rattle.zarrs_packbits.specs.NormalForm.{normal_bytes, normal_element, normal_chunk}
 use Rattle.zarrs_packbits.specs.PackBitsCodec.{packbits_value, packbits_chunk, PackBitsStands, PackBitsWritten}
 use Rattle.zarrs_packbits.specs.PackBitsSettings.{PackBitsSettings, packed_layout, has_bits, layout_for}
-use Rattle.zarrs_packbits.specs.PackedLayout.{parts_of}
+use Rattle.zarrs_packbits.specs.PackedLayout.{layout_components}
 use Rattle.zarrs_packbits.specs.PaddingByte.{value_len, padding_holds, value_with}
 use Rattle.zarrs_packbits.specs.Packing.{packing}
 use Rattle.zarrs_packbits.proofs.Coding.{two_of, all_places, all_components}
@@ -53,14 +53,14 @@ joined_plain (part ∷ parts) = ap (λ (l : List ℕ). part ++ l) (joined_plain 
 abbrev pub cut : PackedLayout → List ℕ → Chunk
 cut l items = map plain (pieces (l.group * l.size) l.elements items)
 
-pub joined_cut : (l : PackedLayout) (items : List ℕ) → length items ≡ parts_of l * l.size → joined (cut l items) ≡ items
+pub joined_cut : (l : PackedLayout) (items : List ℕ) → length items ≡ layout_components l * l.size → joined (cut l items) ≡ items
 joined_cut l items e =
     joined_plain (pieces (l.group * l.size) l.elements items)
-    ∙ concat-pieces (l.group * l.size) l.elements items (e ∙ (let d : parts_of l * l.size ≡ l.elements * (l.group * l.size) = omega arith in d))
+    ∙ concat-pieces (l.group * l.size) l.elements items (e ∙ (let d : layout_components l * l.size ≡ l.elements * (l.group * l.size) = omega arith in d))
 
 -- a chunk of the layout's elements is the pieces of its bytes
 pub record IsCut (l : PackedLayout) (chunk : Chunk) : Type 0 where
-  pub long : length (joined chunk) ≡ parts_of l * l.size
+  pub long : length (joined chunk) ≡ layout_components l * l.size
   pub are : chunk ≡ cut l (joined chunk)
 
 pub is_cut : (l : PackedLayout) (n width components : ℕ) (sign : Bool) (chunk : Chunk) → IsChunk (fixed width components sign) n chunk → element_size width components ≡ l.group * l.size → l.elements ≡ n → IsCut l chunk
@@ -70,15 +70,15 @@ is_cut l n width components sign chunk h size count =
     let number : length p.parts ≡ l.elements = sym (length-map p.parts plain) ∙ sym (ap length p.are) ∙ h.count_is ∙ sym count in
     let flat : joined chunk ≡ concat p.parts = ap joined p.are ∙ joined_plain p.parts in
     record {
-      long = ap length flat ∙ length-concat (l.group * l.size) p.parts sized ∙ ap (λ k. k * (l.group * l.size)) number ∙ (let d : l.elements * (l.group * l.size) ≡ parts_of l * l.size = omega arith in d);
+      long = ap length flat ∙ length-concat (l.group * l.size) p.parts sized ∙ ap (λ k. k * (l.group * l.size)) number ∙ (let d : l.elements * (l.group * l.size) ≡ layout_components l * l.size = omega arith in d);
       are = p.are ∙ ap (map plain) (sym (ap (pieces (l.group * l.size) l.elements) flat ∙ ap (λ k. pieces (l.group * l.size) k (concat p.parts)) (sym number) ∙ pieces-concat (l.group * l.size) p.parts sized));
     }
 
 -- the pieces of so many bytes are a chunk
-pub cut_chunk : (l : PackedLayout) (n width components : ℕ) (sign : Bool) (items : List ℕ) → length items ≡ parts_of l * l.size → element_size width components ≡ l.group * l.size → l.elements ≡ n → IsChunk (fixed width components sign) n (cut l items)
+pub cut_chunk : (l : PackedLayout) (n width components : ℕ) (sign : Bool) (items : List ℕ) → length items ≡ layout_components l * l.size → element_size width components ≡ l.group * l.size → l.elements ≡ n → IsChunk (fixed width components sign) n (cut l items)
 cut_chunk l n width components sign items e size count = record {
   count_is = length-map (pieces (l.group * l.size) l.elements items) plain ∙ count-pieces (l.group * l.size) l.elements items ∙ count;
-  each = sized_elements width components sign (pieces (l.group * l.size) l.elements items) (subst (λ k. AllSized k (pieces (l.group * l.size) l.elements items)) (sym size) (pieces_sized (l.group * l.size) l.elements items (let d : parts_of l * l.size ≡ l.elements * (l.group * l.size) = omega arith in omega (arith, e))));
+  each = sized_elements width components sign (pieces (l.group * l.size) l.elements items) (subst (λ k. AllSized k (pieces (l.group * l.size) l.elements items)) (sym size) (pieces_sized (l.group * l.size) l.elements items (let d : layout_components l * l.size ≡ l.elements * (l.group * l.size) = omega arith in omega (arith, e))));
 }
 
 -- ---- the normal form
@@ -91,7 +91,7 @@ normal_plain settings n width components sign (part ∷ parts) h =
     λ i. first i ∷ rest i
 
 -- the normal form of a chunk, of its bytes joined
-pub normal_cut : (settings : PackBitsSettings) (sizes : List ℕ) (width components : ℕ) (sign : Bool) (fill items : List ℕ) (l : PackedLayout) → IsTaken settings sizes width components sign fill l → length items ≡ parts_of l * l.size → normal_chunk settings (fixed width components sign) (cut l items) ≡ cut l (nf l items)
+pub normal_cut : (settings : PackBitsSettings) (sizes : List ℕ) (width components : ℕ) (sign : Bool) (fill items : List ℕ) (l : PackedLayout) → IsTaken settings sizes width components sign fill l → length items ≡ layout_components l * l.size → normal_chunk settings (fixed width components sign) (cut l items) ≡ cut l (nf l items)
 normal_cut settings sizes width components sign fill items l t e =
     let size = l.group * l.size in
     let parts = pieces size l.elements items in
@@ -126,7 +126,7 @@ flat_stands settings sizes width components sign fill value chunk h =
       kept = kept;
     }
   where
-    nf_long : (l : PackedLayout) (items : List ℕ) → IsTaken settings sizes width components sign fill l → length items ≡ parts_of l * l.size → length (nf l items) ≡ parts_of l * l.size
+    nf_long : (l : PackedLayout) (items : List ℕ) → IsTaken settings sizes width components sign fill l → length items ≡ layout_components l * l.size → length (nf l items) ≡ layout_components l * l.size
     nf_long l items t e = (encoded_stands l items t.sound e).chunk.size
 
 -- and the other way round

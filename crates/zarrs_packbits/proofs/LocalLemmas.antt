@@ -12,7 +12,7 @@ use Rattle.zarrs_packbits.specs.declared.layout.PackedLayout.{PackedLayout}
 use Rattle.zarrs_packbits.specs.PackedLayout.{IsPackedLayout, is_whole, bits_in, element_bits_len}
 use Rattle.zarrs_metadata.specs.declared.codec.packbits.PackBitsPaddingEncoding.{PackBitsPaddingEncoding}
 use Rattle.zarrs_packbits.specs.KeptBits.{full_component, component_bits}
-use Rattle.zarrs_packbits.specs.PaddingByte.{lead, bytes_before}
+use Rattle.zarrs_packbits.specs.PaddingByte.{lead, padding_bytes_before}
 use Rattle.zarrs_packbits.specs.BitStream.{components_from, element_bits}
 use Rattle.zarrs_bytes.specs.PlannedRanges.{spans}
 use Rattle.zarrs_packbits.proofs.FieldLemmas.{flat_more}
@@ -28,13 +28,13 @@ whole_element l s h =
 pub whole_start : (l : PackedLayout) (p : ℕ) → IsPackedLayout l → is_whole l ≡ true → p * (l.group * l.size) ≡ span_start l p
 whole_start l p s h =
     let e : p * element_bits_len l ≡ 8 * (p * (l.group * l.size)) = ap (λ k. p * k) (whole_element l s h) ∙ (let d : p * (8 * (l.group * l.size)) ≡ 8 * (p * (l.group * l.size)) = omega arith in d) in
-    let z : lead l ≡ 0 = ap (λ (p : PackBitsPaddingEncoding). length (bytes_before p 0)) (s.bare h) in
+    let z : lead l ≡ 0 = ap (λ (p : PackBitsPaddingEncoding). length (padding_bytes_before p 0)) (s.bare h) in
     omega arith
 
 pub whole_end : (l : PackedLayout) (p : ℕ) → IsPackedLayout l → is_whole l ≡ true → p * (l.group * l.size) + l.group * l.size ≡ span_end l p
 whole_end l p s h =
     let e : (p + 1) * element_bits_len l ≡ 8 * ((p + 1) * (l.group * l.size)) = ap (λ k. (p + 1) * k) (whole_element l s h) ∙ (let d : (p + 1) * (8 * (l.group * l.size)) ≡ 8 * ((p + 1) * (l.group * l.size)) = omega arith in d) in
-    let z : lead l ≡ 0 = ap (λ (p : PackBitsPaddingEncoding). length (bytes_before p 0)) (s.bare h) in
+    let z : lead l ≡ 0 = ap (λ (p : PackBitsPaddingEncoding). length (padding_bytes_before p 0)) (s.bare h) in
     omega arith
 
 -- the bits of an element stand within those of the chunk

@@ -8,7 +8,7 @@ use Rattle.zarrs_metadata.specs.PackBitsConfiguration.{are_bits_in_order}
 use Rattle.zarrs_metadata.specs.declared.codec.packbits.PackBitsPaddingEncoding.{PackBitsPaddingEncoding}
 use Rattle.zarrs_metadata.proofs.ReadBack.{packbits-reads_back}
 use Rattle.zarrs_packbits.specs.PackBitsSettings.{PackBitsSettings, is_reversed}
-use Rattle.zarrs_packbits.specs.SettingsMetadata.{settings_made, write_settings, SettingsMadeAgain}
+use Rattle.zarrs_packbits.specs.SettingsMetadata.{settings_made, write_settings}
 
 not_below : (first last : ℕ) → nat_lt last first ≡ false → nat_le first last ≡ true
 not_below first last h = grind (arith, nat_tests)
@@ -18,7 +18,7 @@ are_in_order None last h = refl
 are_in_order (Some first) None h = refl
 are_in_order (Some first) (Some last) h = not_below first last h
 
-pub made_again : SettingsMadeAgain
+pub made_again : (settings : PackBitsSettings) → is_reversed settings.first_bit settings.last_bit ≡ false → settings_made (codec_metadata packbits_name (write_settings settings)) ≡ Ok settings
 made_again settings h = by settings.padding settings.first_bit settings.last_bit h
   where
     by : (padding : PackBitsPaddingEncoding) (first last : Option ℕ) → is_reversed first last ≡ false

@@ -28,12 +28,12 @@ use Rattle.zarrs_packbits.specs.PackedLayout.{IsPackedLayout, is_whole, element_
 use Rattle.zarrs_packbits.specs.Packing.{packing}
 use Rattle.zarrs_packbits.specs.PartialRead.{span_start, span_end, packed_place_bytes, packed_places_bytes, all_below, read_packed_bytes, read_packed_places}
 use Rattle.zarrs_bytes.specs.PlannedRanges.{spans}
-use Rattle.zarrs_packbits.specs.ReadPlan.{run_start, run_end, run_span, IsPlan, IsPlanOf, IsPlanOfRuns}
+use Rattle.zarrs_packbits.specs.ReadPlan.{run_start, run_end, run_span, IsPackBitsPlan, IsPlanOfRuns}
 use Rattle.zarrs_packbits.proofs.ElementBits.{AllLong, element_long, places_hold, plain_holds}
 use Rattle.zarrs_packbits.proofs.FlatRead.{are_runs}
-use Rattle.zarrs_packbits.proofs.RunLemmas.{all_at, all_from, place_end, runs_sure, whole_run_start, whole_run_end, head_of, tail_of}
+use Rattle.zarrs_packbits.proofs.RunLemmas.{all_at, place_end, runs_sure, whole_run_start, whole_run_end, head_of, tail_of}
 use Rattle.zarrs_packbits.proofs.Taken.{taken}
-use Rattle.zarrs_codec.proofs.Fences.{second_true, first_true}
+use Rattle.zarrs_codec.proofs.Fences.{range_passes, second_true, first_true}
 use Rattle.zarrs_chunk.proofs.Inside.{from_le_test}
 use Rattle.zarrs_bytes.proofs.Exact.{bytes_are}
 
@@ -97,7 +97,7 @@ places_covered q l a b start (suc len) h from to =
     let e : (start + suc len) * element_bits_len l ≡ (start + 1) * element_bits_len l + len * element_bits_len l = omega arith in
     let f : (start + 1 + len) * element_bits_len l ≡ (start + suc len) * element_bits_len l = ap (λ n. n * element_bits_len l) (let d : start + 1 + len ≡ start + suc len = omega arith in d) in
     let g : (start + 1) * element_bits_len l ≡ start * element_bits_len l + element_bits_len l = omega arith in
-    let here : list_all q (packed_place_bytes l start) ≡ true = all_from q (span_start l start) (span_end l start - span_start l start) (λ k x y. h k (omega arith) (omega arith)) in
+    let here : list_all q (packed_place_bytes l start) ≡ true = range_passes q (span_start l start) (span_end l start - span_start l start) (λ k x y. h k (omega arith) (omega arith)) in
     list_all-append q (packed_place_bytes l start) (packed_places_bytes l (range_with_len (start + 1) len))
     ∙ ap (λ (x : Bool). x && list_all q (packed_places_bytes l (range_with_len (start + 1) len))) here
     ∙ places_covered q l a b (start + 1) len h (omega arith) (omega (arith, f))
@@ -148,7 +148,7 @@ plan_of l runs rs s h e = record {
 }
 
 -- where the runs are apart, it is the plan of a read of their places
-pub plan_of_runs : (l : PackedLayout) (runs : List (ℕ × ℕ)) (rs : List ByteSpan) (places : List ℕ) → AreFilled runs → AreApart runs → joined_runs runs ≡ places → IsPlanOfRuns l runs rs → IsPlan l places rs
+pub plan_of_runs : (l : PackedLayout) (runs : List (ℕ × ℕ)) (rs : List ByteSpan) (places : List ℕ) → AreFilled runs → AreApart runs → joined_runs runs ≡ places → IsPlanOfRuns l runs rs → IsPackBitsPlan l places rs
 plan_of_runs l runs rs places filled apart same plan = record {
   runs = runs;
   filled = filled;
@@ -161,7 +161,7 @@ plan_of_runs l runs rs places filled apart same plan = record {
 
 -- the plan of a read of runs that are apart is the plan of a read of the places that they cover
 pub planned_places : (places : Result (List ℕ) CodecError) (layout : Result PackedLayout CodecError) (runs : List (ℕ × ℕ)) (r : Result (Vec ByteSpan Global) CodecError) → places ≡ Ok (joined_runs runs) → AreFilled runs → AreApart runs
-    → GivesBy (IsPlanOf runs) r layout → GivesBy (λ ranges (read : List ℕ × PackedLayout). IsPlan read.1 read.0 ranges.items) r (places >>= λ ps. layout >>= λ l. ok (ps, l))
+    → GivesBy (λ ranges (l : PackedLayout). IsPlanOfRuns l runs ranges.items) r layout → GivesBy (λ ranges (read : List ℕ × PackedLayout). IsPackBitsPlan read.1 read.0 ranges.items) r (places >>= λ ps. layout >>= λ l. ok (ps, l))
 planned_places (Ok ps) (Ok l) runs (Ok ranges) e filled apart plan =
     record { is = plan_of_runs l runs ranges.items ps filled apart (let same : joined_runs runs ≡ ps = cc in same) plan.is; no_fault = plan.no_fault }
 planned_places (Ok ps) (Err c) runs (Ok ranges) e filled apart plan = absurd plan.is

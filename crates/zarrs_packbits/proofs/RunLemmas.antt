@@ -19,14 +19,14 @@ use Rattle.zarrs_codec.specs.StorageState.{are_sure}
 use Rattle.zarrs_chunk.specs.Answer.{◌>>=◌, demand}
 use Rattle.zarrs_chunk.specs.declared.codec_error.CodecError.{CodecError}
 use Rattle.zarrs_chunk.specs.declared.codec_error.CodecError.TheVariants.{InvalidByteRange}
-use Rattle.zarrs_codec.proofs.Fences.{second_true, first_true}
+use Rattle.zarrs_codec.proofs.Fences.{range_passes, second_true, first_true}
 use Rattle.zarrs_chunk.proofs.Inside.{from_lt_test, from_le_test}
 use Rattle.zarrs_packbits.specs.declared.layout.PackedLayout.{PackedLayout}
-use Rattle.zarrs_packbits.specs.PackedLayout.{IsPackedLayout, is_whole, parts_of, bits_in, element_bits_len}
+use Rattle.zarrs_packbits.specs.PackedLayout.{IsPackedLayout, is_whole, layout_components, bits_in, element_bits_len}
 use Rattle.zarrs_metadata.specs.declared.codec.packbits.PackBitsPaddingEncoding.{PackBitsPaddingEncoding}
 use Rattle.zarrs_packbits.specs.KeptBits.{full_component}
 use Rattle.zarrs_packbits.specs.Packing.{packing}
-use Rattle.zarrs_packbits.specs.PaddingByte.{lead, bytes_before}
+use Rattle.zarrs_packbits.specs.PaddingByte.{lead, padding_bytes_before}
 use Rattle.zarrs_packbits.specs.BitStream.{components_from, element_bits}
 use Rattle.zarrs_bytes.specs.PlannedRanges.{spans}
 use Rattle.zarrs_packbits.specs.ReadPlan.{run_start, run_end, run_span, run_bits, runs_len}
@@ -42,16 +42,16 @@ run_within l start len h =
 
 pub run_parts : (l : PackedLayout) (start len : ℕ) → IsPackedLayout l → start + len ≤ l.elements → len * l.group < 2 ^ 64
 run_parts l start len s h =
-    let m : len * l.group ≤ parts_of l = mul-le-mul_right {m = len} {n = l.elements} l.group (omega arith) in
+    let m : len * l.group ≤ layout_components l = mul-le-mul_right {m = len} {n = l.elements} l.group (omega arith) in
     let size : 1 ≤ l.size = omega (arith, s.size, s.some) in
-    let n : 1 * parts_of l ≤ l.size * parts_of l = mul-le-mul_right (parts_of l) size in
-    let e : l.size * parts_of l ≡ parts_of l * l.size = omega arith in
+    let n : 1 * layout_components l ≤ l.size * layout_components l = mul-le-mul_right (layout_components l) size in
+    let e : l.size * layout_components l ≡ layout_components l * l.size = omega arith in
     omega (arith, s.bytes_fit)
 
 pub whole_run_bytes : (l : PackedLayout) (start len : ℕ) → IsPackedLayout l → start + len ≤ l.elements → (start + len) * (l.group * l.size) < 2 ^ 64
 whole_run_bytes l start len s h =
     let m : (start + len) * (l.group * l.size) ≤ l.elements * (l.group * l.size) = mul-le-mul_right (l.group * l.size) h in
-    let e : l.elements * (l.group * l.size) ≡ parts_of l * l.size = omega arith in
+    let e : l.elements * (l.group * l.size) ≡ layout_components l * l.size = omega arith in
     omega (arith, s.bytes_fit)
 
 whole_at : (l : PackedLayout) (n : ℕ) → IsPackedLayout l → is_whole l ≡ true → n * element_bits_len l ≡ 8 * (n * (l.group * l.size))
@@ -60,13 +60,13 @@ whole_at l n s h = ap (λ k. n * k) (whole_element l s h) ∙ (let d : n * (8 * 
 pub whole_run_start : (l : PackedLayout) (start len : ℕ) → IsPackedLayout l → is_whole l ≡ true → start * (l.group * l.size) ≡ run_start l (start, len)
 whole_run_start l start len s h =
     let e = whole_at l start s h in
-    let z : lead l ≡ 0 = ap (λ (p : PackBitsPaddingEncoding). length (bytes_before p 0)) (s.bare h) in
+    let z : lead l ≡ 0 = ap (λ (p : PackBitsPaddingEncoding). length (padding_bytes_before p 0)) (s.bare h) in
     omega arith
 
 pub whole_run_end : (l : PackedLayout) (start len : ℕ) → IsPackedLayout l → is_whole l ≡ true → (start + len) * (l.group * l.size) ≡ run_end l (start, len)
 whole_run_end l start len s h =
     let e = whole_at l (start + len) s h in
-    let z : lead l ≡ 0 = ap (λ (p : PackBitsPaddingEncoding). length (bytes_before p 0)) (s.bare h) in
+    let z : lead l ≡ 0 = ap (λ (p : PackBitsPaddingEncoding). length (padding_bytes_before p 0)) (s.bare h) in
     omega arith
 
 pub run_some : (l : PackedLayout) (start len : ℕ) → IsPackedLayout l → 0 < len → start * element_bits_len l + 1 ≤ (start + len) * element_bits_len l
@@ -274,11 +274,6 @@ all_at q s (suc n) h k a b =
       | inr le ↦ ap q (let e : k ≡ s = omega arith in e) ∙ first_true _ _ h
     ]
 
-pub all_from : (q : ℕ → Bool) (s n : ℕ) → ((k : ℕ) → s ≤ k → k < s + n → q k ≡ true) → list_all q (range_with_len s n) ≡ true
-all_from q s zero h = refl
-all_from q s (suc n) h =
-    ap (λ (b : Bool). b && list_all q (range_with_len (s + 1) n)) (h s (omega arith) (omega arith)) ∙ all_from q (s + 1) n (λ k a b. h k (omega arith) (omega arith))
-
 all_split : (q : ℕ → Bool) (xs ys : List ℕ) → list_all q (xs ++ ys) ≡ true → (list_all q xs && list_all q ys) ≡ true
 all_split q xs ys h = sym (list_all-append q xs ys) ∙ h
 
@@ -317,7 +312,7 @@ runs_sure q l (p ∷ runs) (r ∷ rs) s h e g =
     let run = is_run l.elements p runs h in
     let both = all_split q (flat_map (packed_place_bytes l) (range_with_len p.0 p.1)) (flat_map (packed_place_bytes l) (joined_runs runs)) (sym (ap (list_all q) (flat_map-append (packed_place_bytes l) (range_with_len p.0 p.1) (joined_runs runs))) ∙ g) in
     let here : list_all q (range_with_len r.start (r.end - r.start)) ≡ true
-    = all_from q r.start (r.end - r.start) (λ k x y. run_sure q l p.0 p.1 s (first_true _ _ both) k (omega arith) (omega arith) run.some) in
+    = range_passes q r.start (r.end - r.start) (λ k x y. run_sure q l p.0 p.1 s (first_true _ _ both) k (omega arith) (omega arith) run.some) in
     list_all-append q (range_with_len r.start (r.end - r.start)) (range_indices rs)
     ∙ ap (λ (x : Bool). x && list_all q (range_indices rs)) here
     ∙ runs_sure q l runs rs s run.rest rest (second_true _ _ both)

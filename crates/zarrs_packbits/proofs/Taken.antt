@@ -8,7 +8,7 @@ use Rattle.zarrs_data_type.specs.ElementType.{fixed, element_size, component_byt
 use Rattle.zarrs_data_type.specs.FillValue.{fill_fits}
 use Rattle.zarrs_bytes.proofs.Coding.{bind_ok, demand_ok, checked_ok, ok}
 use Rattle.zarrs_packbits.specs.declared.layout.PackedLayout.{PackedLayout}
-use Rattle.zarrs_packbits.specs.PackBitsSettings.{PackBitsSettings, first_of, last_of, has_bits, layout_for, packed_layout}
+use Rattle.zarrs_packbits.specs.PackBitsSettings.{PackBitsSettings, first_of, last_bit_of, has_bits, layout_for, packed_layout}
 use Rattle.zarrs_packbits.specs.PackedLayout.{IsPackedLayout, is_in_reach}
 use Rattle.zarrs_packbits.proofs.LayoutLemmas.{layout_sound, bare_padding}
 use Rattle.zarrs_codec.proofs.Fences.{second_true, first_true}
@@ -28,7 +28,7 @@ layout_is k l e = cc
 sound_for : (settings : PackBitsSettings) (n width components : ℕ) (sign : Bool) → has_bits settings width ≡ true → 0 < components → is_in_reach (layout_for settings n width components sign) ≡ true → IsPackedLayout (layout_for settings n width components sign)
 sound_for settings n width components sign h some reach =
     let first = first_of settings in
-    let last = last_of settings width in
+    let last = last_bit_of settings width in
     let ordered : first ≤ last = from_le_test first last (first_true (nat_le first last) (nat_lt last width) h) in
     let within : last < width = from_lt_test last width (second_true (nat_le first last) (nat_lt last width) h) in
     let size = component_bytes width in

@@ -24,7 +24,7 @@ use Rattle.zarrs_packbits.specs.declared.layout.PackedLayout.{PackedLayout}
 use Rattle.zarrs_packbits.specs.Laws.{HasBytes}
 use Rattle.zarrs_packbits.specs.PackBitsCodec.{packbits_value, packbits_chunk}
 use Rattle.zarrs_packbits.specs.PackBitsSettings.{PackBitsSettings, packed_layout, keeps_all_bytes}
-use Rattle.zarrs_packbits.specs.PackedLayout.{is_whole, parts_of, spare_of}
+use Rattle.zarrs_packbits.specs.PackedLayout.{is_whole, layout_components, spare_of}
 use Rattle.zarrs_packbits.specs.PaddingByte.{value_len, padding_holds, padding_is, value_with}
 use Rattle.zarrs_packbits.proofs.AsBytes.{layout_kept, length_fits, spelling_is, written_as_bytes}
 use Rattle.zarrs_packbits.proofs.Coding.{decoded_holds}
@@ -97,7 +97,7 @@ whole_length : (settings : PackBitsSettings) (sizes : List ℕ) (width component
 whole_length settings sizes width components sign fill l e whole =
     let t = taken settings sizes width components sign fill l e in
     ap (λ k. product sizes * k) t.size ∙ ap (λ n. n * (l.group * l.size)) (sym t.elements)
-    ∙ (let d : l.elements * (l.group * l.size) ≡ parts_of l * l.size = omega arith in d) ∙ sym (whole_len l t.sound whole)
+    ∙ (let d : l.elements * (l.group * l.size) ≡ layout_components l * l.size = omega arith in d) ∙ sym (whole_len l t.sound whole)
 
 by_length : {A : Type 0} (q : Result ℕ CodecError) (n : ℕ) (f : A) (len : ℕ) (P : A → Type 0) → q ≡ Ok len → IsOkAnd (q >>= λ m. demand (n == m) (InvalidBytesLength n m) >>= λ _. Ok f) P → n ≡ len
 by_length q n f len P e h = from_test (n == len) refl (subst (λ (r : Result ℕ CodecError). IsOkAnd (r >>= λ m. demand (n == m) (InvalidBytesLength n m) >>= λ _. ok f) P) e h)

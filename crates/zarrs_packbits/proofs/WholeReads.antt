@@ -28,7 +28,7 @@ use Rattle.zarrs_packbits.specs.declared.layout.PackedLayout.{PackedLayout}
 use Rattle.zarrs_packbits.specs.PackBitsSettings.{PackBitsSettings, packed_layout}
 use Rattle.zarrs_packbits.specs.PackedLayout.{IsPackedLayout, is_whole, element_bits_len}
 use Rattle.zarrs_packbits.specs.Packing.{packing}
-use Rattle.zarrs_packbits.specs.PaddingByte.{lead, bytes_before}
+use Rattle.zarrs_packbits.specs.PaddingByte.{lead, padding_bytes_before}
 use Rattle.zarrs_metadata.specs.declared.codec.packbits.PackBitsPaddingEncoding.{PackBitsPaddingEncoding}
 use Rattle.zarrs_codec.specs.StorageState.{are_sure}
 use Rattle.zarrs_packbits.specs.PartialRead.{all_below, bytes_of_places, packed_place_bytes, packed_places_bytes, read_packed_places, read_places_of, span_start, span_end}
@@ -67,7 +67,7 @@ place_tests l n size (p ∷ ps) s h is =
 whole_bits_of : (l : PackedLayout) (v : List ℕ) (p : ℕ) → IsPackedLayout l → is_whole l ≡ true → p * (l.group * l.size) + l.group * l.size ≤ length v → element_bits l v p ≡ bits_of (piece (l.group * l.size) v p)
 whole_bits_of l v p s h inside =
     let size = l.group * l.size in
-    let none : lead l ≡ 0 = ap (λ (padding : PackBitsPaddingEncoding). length (bytes_before padding 0)) (s.bare h) in
+    let none : lead l ≡ 0 = ap (λ (padding : PackBitsPaddingEncoding). length (padding_bytes_before padding 0)) (s.bare h) in
     let all : l.group * l.count ≡ 8 * size = whole_element l s h in
     let at : p * element_bits_len l ≡ 8 * (p * size) = ap (λ k. p * k) all ∙ (let d : p * (8 * size) ≡ 8 * (p * size) = omega arith in d) in
     whole_restored l (p * element_bits_len l) l.group (bits_of (drop (lead l) v)) h

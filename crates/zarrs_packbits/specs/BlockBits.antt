@@ -14,10 +14,6 @@ fields_of width (suc count) number = number % 2 ^ width ∷ fields_of width coun
 abbrev pub lifted_byte : ℕ → ℕ → ℕ → ℕ
 lifted_byte first weight kept = (bit_xor kept weight + (2 ^ 8 - weight)) % 2 ^ 8 * 2 ^ first % 2 ^ 8
 
--- so many bits of a byte from bit `first` on, as a number
-abbrev pub cut_byte : ℕ → ℕ → ℕ → ℕ
-cut_byte first count byte = byte / 2 ^ first % 2 ^ count
-
 -- the kept bits of the first components of a chunk whose elements' bytes are joined
 abbrev pub stream_before : PackedLayout → ℕ → List ℕ → List ℕ
 stream_before l parts bytes =
@@ -30,16 +26,3 @@ block_len count = if count == 1 then 8 else (if count == 2 then 16 else 64)
 -- how many of these bytes stand in whole blocks of 64
 abbrev pub blocks_len : List ℕ → ℕ
 blocks_len bytes = 64 * (length bytes / 64)
-
--- the kept bits of the components of one byte that stand in whole blocks
-abbrev pub stream_of_blocks : PackedLayout → List ℕ → List ℕ
-stream_of_blocks l bytes = stream_before l (blocks_len bytes) bytes
-
--- so many bits, from bit `first` on, of each of the first bytes
-abbrev pub byte_fields : ℕ → ℕ → ℕ → List ℕ → List ℕ
-byte_fields first count parts bytes =
-    flat_map (λ part. field first count (component_bits 1 bytes part)) (range_with_len 0 parts)
-
--- the same of each byte in a whole block
-abbrev pub block_fields : ℕ → ℕ → List ℕ → List ℕ
-block_fields first count bytes = byte_fields first count (blocks_len bytes) bytes

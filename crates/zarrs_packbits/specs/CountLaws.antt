@@ -11,7 +11,7 @@ use Rattle.zarrs_data_type.specs.Form.{Form}
 use Rattle.zarrs_codec.specs.ArrayReader.{IsCounted}
 use Rattle.zarrs_codec.specs.CountLaws.{passed, same_value, places_counted}
 use Rattle.zarrs_packbits.specs.BitStream.{packed_element}
-use Rattle.zarrs_packbits.specs.PackBitsPartialDecoder.{PackBitsForm, form_in, packbits_reader}
+use Rattle.zarrs_packbits.specs.PackBitsPartialDecoder.{PackBitsForm, packbits_form_in, packbits_reader}
 use Rattle.zarrs_packbits.specs.PackBitsSettings.{PackBitsSettings, packed_layout}
 use Rattle.zarrs_packbits.specs.PartialRead.{all_below, packed_places_bytes, read_packed_places, read_places_of}
 use Rattle.zarrs_packbits.specs.declared.layout.PackedLayout.{PackedLayout}
@@ -31,9 +31,9 @@ read_count_of settings form stored places chunk e =
 
 pub packbits_counts : (form : PackBitsForm) (stored : Option (List ℕ)) (sure : Option (ℕ → Bool)) (in_part : Bool) → IsCounted (packbits_reader form stored sure in_part)
 packbits_counts form stored sure in_part selection chunk e =
-    let places = passed (places_of selection form.sizes) (read_places_of form.settings (form_in form) stored) chunk e in
+    let places = passed (places_of selection form.sizes) (read_places_of form.settings (packbits_form_in form) stored) chunk e in
     let counted = places_counted selection form.sizes places.given places.first_is in
     record {
       inside = counted.inside;
-      count = read_count_of form.settings (form_in form) stored places.given chunk places.second_is ∙ counted.count;
+      count = read_count_of form.settings (packbits_form_in form) stored places.given chunk places.second_is ∙ counted.count;
     }

@@ -18,8 +18,8 @@ use Rattle.zarrs_packbits.specs.PaddingByte.{lead}
 use Rattle.zarrs_packbits.specs.PartialRead.{packed_places_bytes, span_end, read_packed_places, read_places_of}
 
 -- A value that is written for a chunk stands for the chunk's normal form.
-abbrev pub WrittenStands : Type 0
-WrittenStands =
+abbrev pub PackBitsWrittenStands : Type 0
+PackBitsWrittenStands =
     (settings : PackBitsSettings) (sizes : List ℕ) (type : ElementType) (fill value : List ℕ) (chunk : Chunk)
     → PackBitsWritten settings (form_of sizes type fill) value chunk → PackBitsStands settings (form_of sizes type fill) value (normal_chunk settings type chunk)
 
@@ -54,34 +54,34 @@ NormalUpdated =
     → normal_chunk settings type (update chunk places new) ≡ update (normal_chunk settings type chunk) places (normal_chunk settings type new)
 
 -- A value stands for at most one chunk.
-abbrev pub StandsForOne : Type 0
-StandsForOne =
+abbrev pub PackBitsStandsForOne : Type 0
+PackBitsStandsForOne =
     (settings : PackBitsSettings) (sizes : List ℕ) (type : ElementType) (fill value : List ℕ) (chunk other : Chunk)
     → PackBitsStands settings (form_of sizes type fill) value chunk → PackBitsStands settings (form_of sizes type fill) value other → chunk ≡ other
 
 -- Two chunks are written alike exactly if their normal forms are equal.
-abbrev pub WrittenAlike : Type 0
-WrittenAlike =
+abbrev pub PackBitsWrittenAlike : Type 0
+PackBitsWrittenAlike =
     (settings : PackBitsSettings) (sizes : List ℕ) (type : ElementType) (fill value other_value : List ℕ) (chunk other : Chunk)
     → PackBitsWritten settings (form_of sizes type fill) value chunk → PackBitsWritten settings (form_of sizes type fill) other_value other
     → (value ≡ other_value) ↔ (normal_chunk settings type chunk ≡ normal_chunk settings type other)
 
 -- A written value has the length that the representation declares.
-abbrev pub HasRepresentedLength : Type 0
-HasRepresentedLength =
+abbrev pub PackBitsHasRepresentedLength : Type 0
+PackBitsHasRepresentedLength =
     (settings : PackBitsSettings) (sizes : List ℕ) (type : ElementType) (fill value : List ℕ) (chunk : Chunk) (len : ℕ)
     → PackBitsWritten settings (form_of sizes type fill) value chunk → packbits_length settings (form_of sizes type fill) ≡ Ok len → length value ≡ len
 
 -- Of a value that stands for a chunk, a read of places inside selects the chunk's elements.
-abbrev pub ReadSelects : Type 0
-ReadSelects =
+abbrev pub PackBitsReadSelects : Type 0
+PackBitsReadSelects =
     (settings : PackBitsSettings) (sizes : List ℕ) (type : ElementType) (fill value : List ℕ) (chunk : Chunk) (places : List ℕ)
     → PackBitsStands settings (form_of sizes type fill) value chunk → All (λ place. place < length chunk) places
     → read_places_of settings (form_of sizes type fill) (Some value) places ≡ Ok (select chunk places)
 
 -- Two values that both have all bytes of these places, and the same ones there, are read alike at these places.
-abbrev pub ReadsAlike : Type 0
-ReadsAlike =
+abbrev pub PackBitsReadsAlike : Type 0
+PackBitsReadsAlike =
     (settings : PackBitsSettings) (sizes : List ℕ) (type : ElementType) (fill : List ℕ) (layout : PackedLayout) (value other places : List ℕ)
     → packed_layout settings (form_of sizes type fill) ≡ Ok layout → All (SameByte value other) (packed_places_bytes layout places)
     → read_packed_places layout type fill (Some value) places ≡ read_packed_places layout type fill (Some other) places

@@ -3,7 +3,6 @@ pub mod BlockBits
 pub mod BitStream
 pub mod DivRem8Bit
 pub mod KeptBits
-pub mod LaneBits
 pub mod Laws
 pub mod MemberLaws
 pub mod CountLaws
@@ -36,6 +35,7 @@ pub use Rattle.zarrs_array_bytes.specs.Validity
 pub use Rattle.zarrs_codec.specs.ArrayReader
 pub use Rattle.zarrs_codec.specs.ByteRanges
 pub use Rattle.zarrs_codec.specs.Calls
+pub use Rattle.zarrs_codec.specs.CodecMembers
 pub use Rattle.zarrs_codec.specs.CodersOverHandles
 pub use Rattle.zarrs_codec.specs.Grammar
 pub use Rattle.zarrs_codec.specs.Refused

@@ -1,26 +1,24 @@
 -- What the codec `packbits` answers, for which chunk a value stands, and which value is written for a chunk.
-use Rattle.std.specs.Prelude.{◌≡◌, ℕ, ◌<◌, ◌==◌, true, List, length, drop, map, slice_index, Option, None, Result, Ok}
+use Rattle.std.specs.Prelude.{◌≡◌, ℕ, ◌==◌, true, List, length, drop, map, Result, Ok}
 use Rattle.std.specs.List.{range_with_len}
 use Rattle.std.proofs.Common.{Global}
 use Rattle.std.specs.declared.borrow.CowSlice.{CowSlice}
-use Rattle.zarrs_chunk.specs.Answer.{◌>>=◌, demand, seen}
+use Rattle.zarrs_chunk.specs.Answer.{◌>>=◌, demand}
 use Rattle.zarrs_chunk.specs.ChunkShape.{product}
 use Rattle.zarrs_chunk.specs.declared.codec_error.CodecError.{CodecError}
 use Rattle.zarrs_chunk.specs.declared.codec_error.CodecError.TheVariants.{InvalidBytesLength, PaddingByte}
 use Rattle.zarrs_data_type.specs.Element.{Chunk}
 use Rattle.zarrs_data_type.specs.ElementType.{ElementType}
 use Rattle.zarrs_array_bytes.specs.Elements.{elements}
-use Rattle.zarrs_array_bytes.specs.Held.{Raw, Held, flen, items_of}
+use Rattle.zarrs_array_bytes.specs.Held.{Held, items_of}
 use Rattle.zarrs_array_bytes.specs.Validity.{validity}
 use Rattle.zarrs_data_type.specs.Form.{Form, form_of}
-use Rattle.zarrs_codec.specs.ChunkCodec.{CompactsNone, EncodesBy, DecodesBy}
-use Rattle.zarrs_codec.specs.CodecMembers.{DecodesAgain}
 use Rattle.zarrs_bytes.specs.BytesCodec.{IsChunk}
 use Rattle.zarrs_bytes.specs.GivenBytes.{EncodesNow, DecodesNow, IsGiven, HoldsGiven}
 use Rattle.zarrs_packbits.specs.Bits.{bits_of, field}
 use Rattle.zarrs_packbits.specs.BitStream.{chunk_stream, packed_element}
 use Rattle.zarrs_packbits.specs.NormalForm.{normal_chunk}
-use Rattle.zarrs_packbits.specs.PackBitsSettings.{PackBitsSettings, packbits_length, packed_layout, KeepsAllBytes}
+use Rattle.zarrs_packbits.specs.PackBitsSettings.{PackBitsSettings, packed_layout, KeepsAllBytes}
 use Rattle.zarrs_packbits.specs.declared.layout.PackedLayout.{PackedLayout}
 use Rattle.zarrs_packbits.specs.PackedLayout.{bits_in}
 use Rattle.zarrs_packbits.specs.PaddingByte.{lead, value_len, padding_holds, value_with}
@@ -62,68 +60,22 @@ packbits_chunk settings form value = do
   Ok (map (packed_element l value) (range_with_len 0 (product form.sizes)))
 
 -- where all bits of whole bytes are kept, the value of a container's chunk is answered in no new memory, or the first error
-abbrev pub EncodesInPlace : PackBitsSettings → Form → Held → Result (CowSlice ℕ Global) CodecError → Type 0
-EncodesInPlace settings form held result =
+abbrev pub PackBitsEncodesInPlace : PackBitsSettings → Form → Held → Result (CowSlice ℕ Global) CodecError → Type 0
+PackBitsEncodesInPlace settings form held result =
     KeepsAllBytes settings form → EncodesNow (packbits_value settings) form held result
 
 -- where all bits of whole bytes are kept, a container of a value's chunk is answered in no new memory, or the first error
-abbrev pub DecodesInPlace : PackBitsSettings → Form → CowSlice ℕ Global → Result Held CodecError → Type 0
-DecodesInPlace settings form given result =
+abbrev pub PackBitsDecodesInPlace : PackBitsSettings → Form → CowSlice ℕ Global → Result Held CodecError → Type 0
+PackBitsDecodesInPlace settings form given result =
     KeepsAllBytes settings form → DecodesNow (packbits_chunk settings) form (items_of given) result
 
--- where the elements are of one size, their bytes are below 256, as all bytes are
-abbrev pub HoldsBytes : Held → Type 0
-HoldsBytes elements = (raw : Raw) → elements ≡ flen raw → (i : ℕ) → slice_index raw.items i < 256
+-- ---- where all bits of whole bytes are kept, of chunks of these sizes, this type and this fill value
 
--- ---- the same of chunks of these sizes, this type and this fill value
-
--- the value of the chunk that a container holds is answered, or the first error
-abbrev pub Packs : PackBitsSettings → List ℕ → ElementType → List ℕ → Held → Result (CowSlice ℕ Global) CodecError → Type 0
-Packs settings sizes type fill held result = EncodesBy (packbits_value settings) (form_of sizes type fill) held result
-
--- the same, and `OutOfMemory` never comes in its place
-abbrev pub PacksWhole : PackBitsSettings → List ℕ → ElementType → List ℕ → Held → Result (CowSlice ℕ Global) CodecError → Type 0
-PacksWhole settings sizes type fill held result =
-    EncodesNow (packbits_value settings) (form_of sizes type fill) held result
-
--- where all bits of whole bytes are kept, the value is answered in no new memory, or the first error
-abbrev pub PacksNow : PackBitsSettings → List ℕ → ElementType → List ℕ → Held → Result (CowSlice ℕ Global) CodecError → Type 0
-PacksNow settings sizes type fill held result = EncodesInPlace settings (form_of sizes type fill) held result
-
--- where all bits of whole bytes are kept, what is answered is the bytes that the container holds, owned or borrowed as they were given
+-- what is answered is the bytes that the container holds, owned or borrowed as they were given
 abbrev pub Keeps : PackBitsSettings → List ℕ → ElementType → List ℕ → Held → Result (CowSlice ℕ Global) CodecError → Type 0
 Keeps settings sizes type fill held result = KeepsAllBytes settings (form_of sizes type fill) → IsGiven held result
 
--- a value that is answered is decoded again, to the normal form of the chunk that the container holds
-abbrev pub UnpacksAgain : PackBitsSettings → List ℕ → ElementType → List ℕ → Held → Result (CowSlice ℕ Global) CodecError → Type 0
-UnpacksAgain settings sizes type fill held result =
-    DecodesAgain (packbits_chunk settings) (normal_chunk settings) (form_of sizes type fill) held result
-
--- a container of the chunk that a value stands for is answered, or the first error
-abbrev pub Unpacks : PackBitsSettings → List ℕ → ElementType → List ℕ → CowSlice ℕ Global → Result Held CodecError → Type 0
-Unpacks settings sizes type fill given result =
-    DecodesBy (packbits_chunk settings) (form_of sizes type fill) (items_of given) result
-
--- the same, and `OutOfMemory` never comes in its place
-abbrev pub UnpacksWhole : PackBitsSettings → List ℕ → ElementType → List ℕ → CowSlice ℕ Global → Result Held CodecError → Type 0
-UnpacksWhole settings sizes type fill given result =
-    DecodesNow (packbits_chunk settings) (form_of sizes type fill) (items_of given) result
-
--- where all bits of whole bytes are kept, the container is answered in no new memory, or the first error
-abbrev pub UnpacksNow : PackBitsSettings → List ℕ → ElementType → List ℕ → CowSlice ℕ Global → Result Held CodecError → Type 0
-UnpacksNow settings sizes type fill given result = DecodesInPlace settings (form_of sizes type fill) given result
-
--- where all bits of whole bytes are kept, what is answered is a container of the bytes, owned or borrowed as they were given
+-- what is answered is a container of the bytes, owned or borrowed as they were given
 abbrev pub KeepsIn : PackBitsSettings → List ℕ → ElementType → List ℕ → CowSlice ℕ Global → Result Held CodecError → Type 0
 KeepsIn settings sizes type fill given result =
     KeepsAllBytes settings (form_of sizes type fill) → HoldsGiven given result
-
--- no value of fewer bytes is answered, or the first error is
-abbrev pub CompactsPacked : PackBitsSettings → List ℕ → ElementType → List ℕ → CowSlice ℕ Global → Result (Option (CowSlice ℕ Global)) CodecError → Type 0
-CompactsPacked settings sizes type fill given result =
-    CompactsNone (λ form _. seen (λ _. tt) (packbits_length settings form)) (form_of sizes type fill) (items_of given) result
-
--- the same; `OutOfMemory` never comes in its place
-abbrev pub CompactsNow : PackBitsSettings → List ℕ → ElementType → List ℕ → Result (Option (CowSlice ℕ Global)) CodecError → Type 0
-CompactsNow settings sizes type fill result =
-    result ≡ seen (λ _. None) (packbits_length settings (form_of sizes type fill))

@@ -1,6 +1,6 @@
 -- Which bits a codec `packbits` keeps, and how it packs the chunks that it accepts.
 use Rattle.std.specs.Prelude.{◌≡◌, ℕ, ◌+◌, ◌-◌, ◌*◌, ◌==◌, ◌&&◌, nat_le, nat_lt, Bool, true, false, not, Option, Some, None, List, Result, Ok, Err, is_ok, if◌then◌else◌}
-use Rattle.zarrs_chunk.specs.Answer.{◌>>=◌, Gives, demand, checked_u64, seen}
+use Rattle.zarrs_chunk.specs.Answer.{◌>>=◌, demand, checked_u64, seen}
 use Rattle.zarrs_chunk.specs.ChunkShape.{product}
 use Rattle.zarrs_chunk.specs.declared.codec_error.CodecError.{CodecError}
 use Rattle.zarrs_chunk.specs.declared.codec_error.CodecError.TheVariants.{UnsupportedDataType, InvalidFillValue, BitRange, Overflow}
@@ -11,7 +11,6 @@ use Rattle.zarrs_metadata.specs.declared.codec.packbits.PackBitsPaddingEncoding.
 use Rattle.zarrs_metadata.specs.declared.plugin_create_error.PluginCreateError.{PluginCreateError}
 use Rattle.zarrs_metadata.specs.declared.plugin_create_error.PluginCreateError.TheVariants.{BitOrder}
 use Rattle.zarrs_data_type.specs.Form.{Form, form_of}
-use Rattle.zarrs_codec.specs.ChunkCodec.{RepresentsBy}
 use Rattle.zarrs_codec.specs.declared.bytes_representation.BytesRepresentation.{BytesRepresentation}
 use Rattle.zarrs_codec.specs.declared.bytes_representation.BytesRepresentation.TheVariants.{FixedSize}
 use Rattle.zarrs_packbits.specs.declared.layout.PackedLayout.{PackedLayout}
@@ -24,10 +23,6 @@ pub record PackBitsSettings : Type 0 where
   pub padding : PackBitsPaddingEncoding
   pub first_bit : Option ℕ
   pub last_bit : Option ℕ
-
--- the settings that keep all bits, without a padding byte
-abbrev pub all_bits : PackBitsSettings
-all_bits = record { padding = padding.None; first_bit = None; last_bit = None }
 
 -- the number that is given, or else this one
 abbrev pub or_else : Option ℕ → ℕ → ℕ
@@ -51,12 +46,12 @@ abbrev pub first_of : PackBitsSettings → ℕ
 first_of settings = or_else settings.first_bit 0
 
 -- the last bit that is kept of a component of so many bits
-abbrev pub last_of : PackBitsSettings → ℕ → ℕ
-last_of settings width = or_else settings.last_bit (width - 1)
+abbrev pub last_bit_of : PackBitsSettings → ℕ → ℕ
+last_bit_of settings width = or_else settings.last_bit (width - 1)
 
 -- components of so many bits have the bits that are kept
 abbrev pub has_bits : PackBitsSettings → ℕ → Bool
-has_bits settings width = nat_le (first_of settings) (last_of settings width) && nat_lt (last_of settings width) width
+has_bits settings width = nat_le (first_of settings) (last_bit_of settings width) && nat_lt (last_bit_of settings width) width
 
 -- where the padding byte stands: nowhere where all bits of whole bytes are kept
 abbrev pub padding_for : PackBitsSettings → ℕ → ℕ → PackBitsPaddingEncoding
@@ -66,7 +61,7 @@ padding_for settings first above = if (first == 0) && (above == 0) then padding.
 abbrev pub layout_for : PackBitsSettings → ℕ → ℕ → ℕ → Bool → PackedLayout
 layout_for settings elements width components sign =
     let first = first_of settings in
-    let last = last_of settings width in
+    let last = last_bit_of settings width in
     let size = component_bytes width in
     let above = 8 * size - (last + 1) in
     record {
@@ -102,31 +97,13 @@ packbits_length settings form = seen value_len (packed_layout settings form)
 abbrev pub packbits_represented : PackBitsSettings → Form → Result BytesRepresentation CodecError
 packbits_represented settings form = seen FixedSize (packbits_length settings form)
 
--- that representation is answered of chunks of these sizes, this type and this fill value, or the first error
-abbrev pub Represents : PackBitsSettings → List ℕ → ElementType → List ℕ → Result BytesRepresentation CodecError → Type 0
-Represents settings sizes type fill result =
-    RepresentsBy (packbits_represented settings) (form_of sizes type fill) result
-
 -- the same, and `OutOfMemory` never comes in its place
-abbrev pub RepresentsNow : PackBitsSettings → List ℕ → ElementType → List ℕ → Result BytesRepresentation CodecError → Type 0
-RepresentsNow settings sizes type fill result = result ≡ packbits_represented settings (form_of sizes type fill)
-
--- how chunks of these sizes, this type and this fill value are packed is answered, or the first error
-abbrev pub LaysOut : PackBitsSettings → List ℕ → ElementType → List ℕ → Result PackedLayout CodecError → Type 0
-LaysOut settings sizes type fill result = result ≡ packed_layout settings (form_of sizes type fill)
+abbrev pub PackBitsRepresentsNow : PackBitsSettings → List ℕ → ElementType → List ℕ → Result BytesRepresentation CodecError → Type 0
+PackBitsRepresentsNow settings sizes type fill result = result ≡ packbits_represented settings (form_of sizes type fill)
 
 -- the codec accepts such chunks
 abbrev pub PackBitsTakes : PackBitsSettings → Form → Type 0
 PackBitsTakes settings form = is_ok (packed_layout settings form) ≡ true
-
--- such chunks are packed so
-abbrev pub IsLayoutFor : PackBitsSettings → Form → PackedLayout → Type 0
-IsLayoutFor settings form layout = packed_layout settings form ≡ Ok layout
-
--- what such a chunk is made of is given, where the codec accepts such chunks, or the first error
-abbrev pub Copies : PackBitsSettings → Form → Result (List ℕ × ElementType × List ℕ) CodecError → Type 0
-Copies settings form result =
-    Gives (λ parts. parts) result (seen (λ _. (form.sizes, form.type, form.fill)) (packed_layout settings form))
 
 -- all bits of whole bytes are kept of the chunks that are packed so
 abbrev pub keeps_all_bytes : Result PackedLayout CodecError → Bool

@@ -9,12 +9,12 @@ abbrev pub is_whole : PackedLayout → Bool
 is_whole l = (l.first == 0) && (l.above == 0)
 
 -- how many components a chunk has
-abbrev pub parts_of : PackedLayout → ℕ
-parts_of l = l.elements * l.group
+abbrev pub layout_components : PackedLayout → ℕ
+layout_components l = l.elements * l.group
 
 -- how many bits of a chunk are kept
 abbrev pub bits_in : PackedLayout → ℕ
-bits_in l = parts_of l * l.count
+bits_in l = layout_components l * l.count
 
 -- how many bits of an element are kept
 abbrev pub element_bits_len : PackedLayout → ℕ
@@ -26,7 +26,7 @@ spare_of l = spare_bits (bits_in l)
 
 -- 64 bits count the chunk's bytes, and where not all bits of whole bytes are kept also the kept bits
 abbrev pub is_in_reach : PackedLayout → Bool
-is_in_reach l = nat_lt (parts_of l * l.size) (2 ^ 64) && (is_whole l || nat_lt (bits_in l) (2 ^ 64))
+is_in_reach l = nat_lt (layout_components l * l.size) (2 ^ 64) && (is_whole l || nat_lt (bits_in l) (2 ^ 64))
 
 -- of a component one bit is kept, or two, or four
 abbrev pub IsOneTwoOrFour : ℕ → Type 0
@@ -41,6 +41,6 @@ pub record IsPackedLayout (l : PackedLayout) : Type 0 where
   pub some : 0 < l.count
   pub group : 0 < l.group
   pub size : l.first + l.count + l.above ≡ 8 * l.size
-  pub bytes_fit : parts_of l * l.size < 2 ^ 64
+  pub bytes_fit : layout_components l * l.size < 2 ^ 64
   pub bits_fit : is_whole l ≡ false → bits_in l < 2 ^ 64
   pub bare : is_whole l ≡ true → l.padding ≡ padding.None

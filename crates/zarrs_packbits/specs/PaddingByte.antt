@@ -7,32 +7,32 @@ use Rattle.zarrs_packbits.specs.PackedLayout.{bits_in, spare_of}
 use Rattle.zarrs_packbits.specs.Packing.{packing}
 
 -- the padding byte, where it stands before the packed bytes
-abbrev pub bytes_before : PackBitsPaddingEncoding → ℕ → List ℕ
-bytes_before None spare = []
-bytes_before FirstByte spare = spare ∷ []
-bytes_before LastByte spare = []
+abbrev pub padding_bytes_before : PackBitsPaddingEncoding → ℕ → List ℕ
+padding_bytes_before None spare = []
+padding_bytes_before FirstByte spare = spare ∷ []
+padding_bytes_before LastByte spare = []
 
 -- the padding byte, where it stands behind them
-abbrev pub bytes_behind : PackBitsPaddingEncoding → ℕ → List ℕ
-bytes_behind None spare = []
-bytes_behind FirstByte spare = []
-bytes_behind LastByte spare = spare ∷ []
+abbrev pub padding_bytes_behind : PackBitsPaddingEncoding → ℕ → List ℕ
+padding_bytes_behind None spare = []
+padding_bytes_behind FirstByte spare = []
+padding_bytes_behind LastByte spare = spare ∷ []
 
 -- the padding byte of a chunk's value, where it stands before the packed bytes
 abbrev pub padding_before : PackedLayout → List ℕ
-padding_before l = bytes_before l.padding (spare_of l)
+padding_before l = padding_bytes_before l.padding (spare_of l)
 
 -- the padding byte of a chunk's value, where it stands behind them
 abbrev pub padding_behind : PackedLayout → List ℕ
-padding_behind l = bytes_behind l.padding (spare_of l)
+padding_behind l = padding_bytes_behind l.padding (spare_of l)
 
 -- how many bytes stand before the packed ones
 abbrev pub lead : PackedLayout → ℕ
-lead l = length (bytes_before l.padding 0)
+lead l = length (padding_bytes_before l.padding 0)
 
 -- how many bytes stand behind them
 abbrev pub trail : PackedLayout → ℕ
-trail l = length (bytes_behind l.padding 0)
+trail l = length (padding_bytes_behind l.padding 0)
 
 -- how many bytes the value of a chunk has
 abbrev pub value_len : PackedLayout → ℕ

@@ -1,8 +1,7 @@
 -- What a read in part answers, by the bits of the places that are asked for alone.
-use Rattle.std.specs.Prelude.{ℕ, ◌+◌, ◌-◌, ◌*◌, ◌/◌, Bool, nat_lt, Option, Some, None, List, length, map, Result, Ok, Err, IfOk, Vec, if◌then◌else◌}
-use Rattle.std.proofs.Common.{Global}
+use Rattle.std.specs.Prelude.{ℕ, ◌+◌, ◌-◌, ◌*◌, ◌/◌, Bool, nat_lt, Option, Some, None, List, length, map, Result, Ok, Err, IfOk, if◌then◌else◌}
 use Rattle.std.specs.List.{flat_map, list_all, range_with_len}
-use Rattle.zarrs_chunk.specs.Answer.{◌>>=◌, AnswersBy, AnswersItems, demand, memory_or_fault}
+use Rattle.zarrs_chunk.specs.Answer.{◌>>=◌, AnswersBy, demand, memory_or_fault}
 use Rattle.zarrs_chunk.specs.Runs.{joined_runs}
 use Rattle.zarrs_chunk.specs.Selection.{Selection, places_of}
 use Rattle.zarrs_chunk.specs.declared.codec_error.CodecError.{CodecError}
@@ -39,10 +38,6 @@ packed_place_bytes l place = range_with_len (span_start l place) (span_end l pla
 abbrev pub packed_places_bytes : PackedLayout → List ℕ → List ℕ
 packed_places_bytes l places = flat_map (packed_place_bytes l) places
 
--- all bytes of the places of these runs are sure to be read
-abbrev pub runs_are_sure : PackedLayout → StorageState → List (ℕ × ℕ) → Bool
-runs_are_sure l before runs = are_sure before.sure (packed_places_bytes l (joined_runs runs))
-
 -- all these numbers are below a count
 abbrev pub all_below : ℕ → List ℕ → Bool
 all_below count numbers = list_all (λ number. nat_lt number count) numbers
@@ -52,11 +47,6 @@ abbrev pub read_packed_bytes : PackedLayout → Option (List ℕ) → List ℕ �
 read_packed_bytes l None fill places = Ok (flat_map (λ _. fill) places)
 read_packed_bytes l (Some value) fill places =
     if all_below (length value) (packed_places_bytes l places) then Ok (packing (flat_map (element_bits l value) places)) else Err InvalidByteRange
-
--- those bytes are answered of what is seen of a handle, for the places of these runs; only `OutOfMemory` or a failure of the handle may come in their place
-abbrev pub ReadsPacked : PackedLayout → StorageState → List ℕ → List (ℕ × ℕ) → Result (Vec ℕ Global) CodecError → Type 0
-ReadsPacked l before fill runs result =
-    AnswersItems memory_or_fault result (read_packed_bytes l before.value fill (joined_runs runs))
 
 -- the elements at these places: those of the stored value, where it has all their bytes; the fill element at each, where nothing is stored
 abbrev pub read_packed_places : PackedLayout → ElementType → List ℕ → Option (List ℕ) → List ℕ → Result Chunk CodecError

@@ -1,6 +1,5 @@
 -- The bytes of runs of places that follow one another, and the plan of a read.
-use Rattle.std.specs.Prelude.{◌≡◌, ℕ, ◌+◌, ◌-◌, ◌*◌, ◌/◌, ◌%◌, List, [], ◌∷◌, ◌++◌, map, length, take, drop, Bool, true, Vec}
-use Rattle.std.proofs.Common.{Global}
+use Rattle.std.specs.Prelude.{◌≡◌, ℕ, ◌+◌, ◌-◌, ◌*◌, ◌/◌, ◌%◌, List, [], ◌∷◌, ◌++◌, map, length, take, drop, Bool, true}
 use Rattle.std.specs.List.{list_all}
 use Rattle.zarrs_chunk.specs.Runs.{joined_runs, AreApart, AreFilled}
 use Rattle.zarrs_codec.specs.ByteRanges.{range_indices}
@@ -36,7 +35,7 @@ pub record IsPlanOfRuns (l : PackedLayout) (runs : List (ℕ × ℕ)) (ranges : 
   pub sum : is_whole l ≡ true → ranges_len ranges ≡ length (joined_runs runs) * (l.group * l.size)
 
 -- The ranges are the plan of a read of these places: the places are joined, in order, to runs of consecutive places, none of them empty, and none beginning where the one before it ends; each range is the bytes of one run. Joined they are the places' bytes and no others. Where all bits of whole bytes are kept, they have as many bytes as the elements.
-pub record IsPlan (l : PackedLayout) (places : List ℕ) (ranges : List ByteSpan) : Type 0 where
+pub record IsPackBitsPlan (l : PackedLayout) (places : List ℕ) (ranges : List ByteSpan) : Type 0 where
   pub runs : List (ℕ × ℕ)
   pub filled : AreFilled runs
   pub apart : AreApart runs
@@ -44,10 +43,6 @@ pub record IsPlan (l : PackedLayout) (places : List ℕ) (ranges : List ByteSpan
   pub each : spans ranges ≡ map (run_span l) runs
   pub bytes : SameNumbers (range_indices ranges) (packed_places_bytes l places)
   pub sum : is_whole l ≡ true → ranges_len ranges ≡ length places * (l.group * l.size)
-
--- the ranges are the plan of a read of these runs
-abbrev pub IsPlanOf : List (ℕ × ℕ) → Vec ByteSpan Global → PackedLayout → Type 0
-IsPlanOf runs ranges layout = IsPlanOfRuns layout runs ranges.items
 
 -- the components of the elements of these runs, made of the runs' bytes joined
 abbrev pub run_bits : PackedLayout → List ℕ → List (ℕ × ℕ) → List ℕ

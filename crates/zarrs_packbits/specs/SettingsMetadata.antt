@@ -1,14 +1,13 @@
 -- The metadata of a codec `packbits`.
-use Rattle.std.specs.Prelude.{◌≡◌, false, Option, Some, Result, Ok}
+use Rattle.std.specs.Prelude.{Some, Result}
 use Rattle.zarrs_chunk.specs.Answer.{◌>>=◌}
-use Rattle.zarrs_metadata.specs.CodecMetadata.{made_of, codec_metadata, packbits_name, is_packbits_name}
+use Rattle.zarrs_metadata.specs.CodecMetadata.{made_of, is_packbits_name}
 use Rattle.zarrs_metadata.specs.Data.{Members}
 use Rattle.zarrs_metadata.specs.Metadata.{Metadata}
 use Rattle.zarrs_metadata.specs.PackBitsConfiguration.{read_packbits, write_packbits, padding_or_none}
 use Rattle.zarrs_metadata.specs.declared.configuration.packbits.PackBitsCodecConfigurationV1.{PackBitsCodecConfigurationV1}
 use Rattle.zarrs_metadata.specs.declared.plugin_create_error.PluginCreateError.{PluginCreateError}
-use Rattle.zarrs_codec.specs.MadeAgain.{MadeAgain}
-use Rattle.zarrs_packbits.specs.PackBitsSettings.{PackBitsSettings, packbits_settings, is_reversed}
+use Rattle.zarrs_packbits.specs.PackBitsSettings.{PackBitsSettings, packbits_settings}
 
 -- the settings of a configuration's fields, or the error: a padding byte that isn't given is none
 abbrev pub settings_of : PackBitsCodecConfigurationV1 → Result PackBitsSettings PluginCreateError
@@ -28,11 +27,3 @@ settings_made metadata = made_of is_packbits_name read_settings metadata
 abbrev pub write_settings : PackBitsSettings → Members
 write_settings settings =
     write_packbits (record { padding_encoding = Some settings.padding; first_bit = settings.first_bit; last_bit = settings.last_bit })
-
--- the configuration that is written, seen as its members, makes these settings again
-abbrev pub MakesSettingsAgain : {W : Type 0} → (W → Members) → Result (Option W) PluginCreateError → PackBitsSettings → Type 0
-MakesSettingsAgain members result settings = MadeAgain members result settings_made packbits_name settings
-
--- what is written of settings whose bits are in order makes these settings
-abbrev pub SettingsMadeAgain : Type 0
-SettingsMadeAgain = (settings : PackBitsSettings) → is_reversed settings.first_bit settings.last_bit ≡ false → settings_made (codec_metadata packbits_name (write_settings settings)) ≡ Ok settings

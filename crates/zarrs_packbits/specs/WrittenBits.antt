@@ -1,14 +1,12 @@
 -- Bits that are written one after another.
-use Rattle.std.specs.Prelude.{◌≡◌, ℕ, ◌<◌, ◌≤◌, ◌+◌, ◌*◌, ◌^◌, Bool, List, ◌++◌, length, replicate, Result, IfOk, Vec}
+use Rattle.std.specs.Prelude.{◌≡◌, ℕ, ◌<◌, ◌^◌, List, ◌++◌, length, Result, IfOk, Vec}
 use Rattle.std.proofs.Common.{Global}
 use Rattle.std.specs.List.{flat_map, range_with_len}
 use Rattle.zarrs_packbits.specs.Bits.{low_bits, bits_of, field}
 use Rattle.zarrs_packbits.specs.BitStream.{components_in}
 use Rattle.zarrs_packbits.specs.BlockBits.{stream_before}
-use Rattle.zarrs_packbits.specs.KeptBits.{component_bits, full_component}
+use Rattle.zarrs_packbits.specs.KeptBits.{component_bits}
 use Rattle.zarrs_packbits.specs.declared.layout.PackedLayout.{PackedLayout}
-use Rattle.zarrs_packbits.specs.PackedLayout.{parts_of}
-use Rattle.zarrs_packbits.specs.Packing.{spare_bits}
 
 -- the bits of whole bytes, and then those of a word that is partly filled
 abbrev pub written_bits : List ℕ → ℕ → ℕ → List ℕ
@@ -40,11 +38,6 @@ abbrev pub LeavesParts : {E : Type 0} → Vec ℕ Global → ℕ → ℕ → Pac
 LeavesParts old word filled l at parts kept new result =
     LeavesMore old word filled new result (components_in l at parts kept)
 
--- the same of so many words of components, each of so many lanes
-abbrev pub LeavesWords : {E : Type 0} → Vec ℕ Global → ℕ → ℕ → PackedLayout → ℕ → ℕ → ℕ → List ℕ → Vec ℕ Global → Result (ℕ × ℕ) E → Type 0
-LeavesWords old word filled l at words lanes kept new result =
-    LeavesParts old word filled l at (words * lanes) kept new result
-
 -- the same, where behind them stand the kept bits of the first components of a chunk whose elements' bytes are joined, of as many as is answered
 abbrev pub LeavesFirst : {E : Type 0} → Vec ℕ Global → ℕ → ℕ → PackedLayout → List ℕ → Vec ℕ Global → Result (ℕ × ℕ × ℕ) E → Type 0
 LeavesFirst old word filled l elements new result =
@@ -54,20 +47,6 @@ LeavesFirst old word filled l elements new result =
 abbrev pub LeavesUpTo : {E : Type 0} → Vec ℕ Global → ℕ → ℕ → PackedLayout → List ℕ → ℕ → ℕ → Vec ℕ Global → Result (ℕ × ℕ) E → Type 0
 LeavesUpTo old word filled l elements begin end new result =
     IfOk result (λ left. (front : List ℕ) → written_bits old.items word filled ≡ front ++ stream_before l begin elements → written_bits new.items left.0 left.1 ≡ front ++ stream_before l end elements)
-
--- the same up to the chunk's last component
-abbrev pub LeavesRest : {E : Type 0} → Vec ℕ Global → ℕ → ℕ → PackedLayout → List ℕ → ℕ → Vec ℕ Global → Result (ℕ × ℕ) E → Type 0
-LeavesRest old word filled l elements begin new result =
-    LeavesUpTo old word filled l elements begin (parts_of l) new result
-
--- the bits of the bytes that are answered are the expected ones
-abbrev pub GivesBits : {E : Type 0} → Result (Vec ℕ Global) E → List ℕ → Type 0
-GivesBits result expected = IfOk result (λ bytes. bits_of bytes.items ≡ expected)
-
--- they are those that stood in these bytes and in the word, and zeros in what is left of the last byte
-abbrev pub Flushes : {E : Type 0} → Vec ℕ Global → ℕ → ℕ → Result (Vec ℕ Global) E → Type 0
-Flushes out word filled result =
-    GivesBits result (written_bits out.items word filled ++ replicate (spare_bits filled) 0)
 
 -- what was there before has these bits behind it
 abbrev pub Puts : {T E : Type 0} → List ℕ → List ℕ → Result T E → List ℕ → Type 0
@@ -86,13 +65,3 @@ abbrev pub AppendsComponents : {T E : Type 0} → PackedLayout → ℕ → ℕ �
 AppendsComponents l at parts kept old new result = AppendsBits old new result (components_in l at parts kept)
 
 -- ---- bits in words
-
--- the lowest bits of a word, as many as are there, are those of the bytes from one of them on
-abbrev pub IsWordFrom : List ℕ → ℕ → ℕ → Type 0
-IsWordFrom bytes start word =
-    (n : ℕ) → n ≤ 64 → 8 * start + n ≤ 8 * length bytes → low_bits n word ≡ field (8 * start) n (bits_of bytes)
-
--- the lowest bits of a word, as many as a component has, are the component with these kept bits
-abbrev pub IsComponent : ℕ → ℕ → ℕ → Bool → ℕ → ℕ → Type 0
-IsComponent first count above sign kept word =
-    low_bits (first + count + above) word ≡ full_component first above sign (low_bits count kept)

@@ -7,13 +7,16 @@ use zarrs_codec::{ArrayToBytesCodecTraits, BytesRepresentation};
 use zarrs_data_type::{DataType, FillValue};
 
 impl ArrayToBytesCodecTraits for PackBitsCodec {
-    ghost use Rattle.std.specs.Prelude.{IfOk};
+    ghost use Rattle.std.specs.Prelude.{◌≡◌, IfOk, None};
     ghost use Rattle.zarrs_chunk.specs.Answer.{seen};
+    ghost use Rattle.zarrs_data_type.specs.Form.{form_of};
+    ghost use Rattle.zarrs_array_bytes.specs.Held.{items_of};
     ghost use Rattle.zarrs_array_bytes.specs.Tight.{IsTight};
-    ghost use Rattle.zarrs_codec.specs.ChunkCodec.{GivesValid};
+    ghost use Rattle.zarrs_codec.specs.ChunkCodec.{CompactsNone, DecodesBy, EncodesBy, GivesValid, RepresentsBy};
+    ghost use Rattle.zarrs_codec.specs.CodecMembers.{DecodesAgain};
     ghost use Rattle.zarrs_packbits.specs.NormalForm.{normal_chunk};
-    ghost use Rattle.zarrs_packbits.specs.PackBitsCodec.{packbits_value, packbits_chunk, CompactsNow, CompactsPacked, Keeps, KeepsIn, Packs, PacksNow, Unpacks, UnpacksAgain, UnpacksNow};
-    ghost use Rattle.zarrs_packbits.specs.PackBitsSettings.{packbits_length, packbits_represented, Represents, RepresentsNow};
+    ghost use Rattle.zarrs_packbits.specs.PackBitsCodec.{packbits_value, packbits_chunk, PackBitsDecodesInPlace, PackBitsEncodesInPlace, Keeps, KeepsIn};
+    ghost use Rattle.zarrs_packbits.specs.PackBitsSettings.{packbits_length, packbits_represented, PackBitsRepresentsNow};
 
     ghost represented = { λ settings form. packbits_represented settings form };
 
@@ -36,8 +39,9 @@ impl ArrayToBytesCodecTraits for PackBitsCodec {
         data_type: &DataType,
         fill_value: &FillValue,
     ) -> Result<BytesRepresentation, CodecError>
-        ensures answer { Represents self.now shape.now data_type.now fill_value.now result }
-        ensures in_place { RepresentsNow self.now shape.now data_type.now fill_value.now result }
+        ensures answer { RepresentsBy (packbits_represented self.now)
+            (form_of shape.now data_type.now fill_value.now) result }
+        ensures in_place { PackBitsRepresentsNow self.now shape.now data_type.now fill_value.now result }
     {
         let layout = self.layout(shape, data_type, fill_value)?;
         Ok(BytesRepresentation::FixedSize(layout.value_len()))
@@ -51,12 +55,13 @@ impl ArrayToBytesCodecTraits for PackBitsCodec {
         data_type: &DataType,
         fill: &FillValue,
     ) -> Result<ArrayBytesRaw<'a>, CodecError>
-        ensures answer { Packs self.now shape.now data_type.now fill.now given.entry result }
-        ensures in_place { PacksNow self.now shape.now data_type.now fill.now given.entry result }
+        ensures answer { EncodesBy (packbits_value self.now)
+            (form_of shape.now data_type.now fill.now) given.entry result }
+        ensures in_place { PackBitsEncodesInPlace self.now
+            (form_of shape.now data_type.now fill.now) given.entry result }
         ensures kept { Keeps self.now shape.now data_type.now fill.now given.entry result }
-        // Wide: the three parameters of a form, the elements and the answer.
-        ensures decoded_again { UnpacksAgain self.now
-            shape.now data_type.now fill.now given.entry result }
+        ensures decoded_again { DecodesAgain (packbits_chunk self.now) (normal_chunk self.now)
+            (form_of shape.now data_type.now fill.now) given.entry result }
     {
         PackBitsCodec::encode(self, alloc, given, shape, data_type, fill)
     }
@@ -70,9 +75,11 @@ impl ArrayToBytesCodecTraits for PackBitsCodec {
         data_type: &DataType,
         fill: &FillValue,
     ) -> Result<ArrayBytes<'a>, CodecError>
-        ensures answer { Unpacks self.now shape.now data_type.now fill.now value.entry result }
+        ensures answer { DecodesBy (packbits_chunk self.now)
+            (form_of shape.now data_type.now fill.now) (items_of value.entry) result }
         ensures valid { GivesValid data_type.now shape.now result }
-        ensures in_place { UnpacksNow self.now shape.now data_type.now fill.now value.entry result }
+        ensures in_place { PackBitsDecodesInPlace self.now
+            (form_of shape.now data_type.now fill.now) value.entry result }
         ensures kept { KeepsIn self.now shape.now data_type.now fill.now value.entry result }
         ensures tight { IfOk result (IsTight data_type.now) }
     {
@@ -89,10 +96,10 @@ impl ArrayToBytesCodecTraits for PackBitsCodec {
         data_type: &DataType,
         fill_value: &FillValue,
     ) -> Result<Option<ArrayBytesRaw<'a>>, CodecError>
-        // Wide: the three parameters of a form, the value and the answer.
-        ensures answer { CompactsPacked self.now
-            shape.now data_type.now fill_value.now value.entry result }
-        ensures in_place { CompactsNow self.now shape.now data_type.now fill_value.now result }
+        ensures answer { CompactsNone (λ form _. seen (λ _. tt) (packbits_length self.now form))
+            (form_of shape.now data_type.now fill_value.now) (items_of value.entry) result }
+        ensures in_place { result ≡ seen (λ _. None)
+            (packbits_length self.now (form_of shape.now data_type.now fill_value.now)) }
     {
         self.layout(shape, data_type, fill_value)?;
         Ok(None)

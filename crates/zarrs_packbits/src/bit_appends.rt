@@ -1,9 +1,10 @@
 //! The bits of components appended to bytes and to a last word that is partly filled.
-ghost use Rattle.std.specs.Prelude.{◌≡◌, ℕ, ◌+◌, ◌*◌, ◌%◌, ◌^◌, ◌<◌, ◌≤◌, length, replicate, IfOk, slice_index};
-ghost use Rattle.zarrs_packbits.specs.Bits.{low_bits, bit_of};
-ghost use Rattle.zarrs_packbits.specs.BlockBits.{stream_of_blocks};
-ghost use Rattle.zarrs_packbits.specs.PackedLayout.{IsPackedLayout, ReachWords, parts_of};
-ghost use Rattle.zarrs_packbits.specs.WrittenBits.{written_bits, AppendsBits, IsPartlyFilled, LeavesBits, LeavesFirst, LeavesUpTo, Flushes, LeavesParts, LeavesRest};
+ghost use Rattle.std.specs.Prelude.{◌≡◌, ℕ, ◌+◌, ◌*◌, ◌%◌, ◌^◌, ◌<◌, ◌≤◌, ◌++◌, length, replicate, IfOk, slice_index};
+ghost use Rattle.zarrs_packbits.specs.Bits.{low_bits, bits_of, bit_of};
+ghost use Rattle.zarrs_packbits.specs.BlockBits.{blocks_len, stream_before};
+ghost use Rattle.zarrs_packbits.specs.PackedLayout.{IsPackedLayout, ReachWords, layout_components};
+ghost use Rattle.zarrs_packbits.specs.Packing.{spare_bits};
+ghost use Rattle.zarrs_packbits.specs.WrittenBits.{written_bits, AppendsBits, IsPartlyFilled, LeavesBits, LeavesFirst, LeavesUpTo, LeavesParts};
 
 use crate::blocks::append_cut;
 use crate::lanes::{append_joined_lanes, append_spread_lanes};
@@ -25,7 +26,8 @@ pub(crate) fn repeat_bit(bit: bool, count: u64) -> u64
 pub(crate) fn flush_word(mut out: Vec<u8>, word: u64, filled: u32) -> Result<Vec<u8>, AllocError>
     requires room { filled < 64 }
     requires word { word < 2 ^ filled }
-    ensures bits { Flushes out word filled result }
+    ensures bits { IfOk result (λ bytes. bits_of bytes.items
+        ≡ written_bits out.items word filled ++ replicate (spare_bits filled) 0) }
 {
     let used = (filled as usize + 7) / 8;
     out.extend_from_slice(&word.to_le_bytes()[..used])?;
@@ -152,9 +154,10 @@ pub(crate) fn append_kept(
     requires layout { IsPackedLayout layout.now }
     requires last_fits { layout.now.first + layout.now.count < 2 ^ 64 }
     requires count { layout.now.count ≤ 64 }
-    requires len { length bytes.now ≡ parts_of layout.now * layout.now.size }
-    requires begin { begin ≤ parts_of layout.now }
-    ensures bits { LeavesRest out.old word filled layout.now bytes.now begin out.new result }
+    requires len { length bytes.now ≡ layout_components layout.now * layout.now.size }
+    requires begin { begin ≤ layout_components layout.now }
+    ensures bits { LeavesUpTo out.old word filled
+        layout.now bytes.now begin (layout_components layout.now) out.new result }
     ensures begun { IfOk result (λ left. IsPartlyFilled left.0 left.1) }
 {
     let PackedLayout {
@@ -180,9 +183,9 @@ pub(crate) fn append_kept(
 pub(crate) fn parts_by_words(layout: &PackedLayout, len: usize, begin: u64) -> u64
     requires layout { IsPackedLayout layout.now }
     requires count { layout.now.count ≤ 64 }
-    requires begin { begin ≤ parts_of layout.now }
+    requires begin { begin ≤ layout_components layout.now }
     ensures from { begin ≤ result }
-    ensures within { result ≤ parts_of layout.now }
+    ensures within { result ≤ layout_components layout.now }
     ensures reach { begin < result → ReachWords layout.now result len }
     ensures fits { begin < result → layout.now.first % 8 + layout.now.count ≤ 64 }
 {
@@ -207,9 +210,9 @@ pub(crate) fn append_by_words(
     requires begun { IsPartlyFilled word filled }
     requires layout { IsPackedLayout layout.now }
     requires count { layout.now.count ≤ 64 }
-    requires len { length bytes.now ≡ parts_of layout.now * layout.now.size }
+    requires len { length bytes.now ≡ layout_components layout.now * layout.now.size }
     requires ordered { begin ≤ end }
-    requires end { end ≤ parts_of layout.now }
+    requires end { end ≤ layout_components layout.now }
     requires reach { begin < end → ReachWords layout.now end (length bytes.now) }
     requires fits { begin < end → layout.now.first % 8 + layout.now.count ≤ 64 }
     ensures bits { LeavesUpTo out.old word filled layout.now bytes.now begin end out.new result }
@@ -253,7 +256,8 @@ fn append_joined(out: &mut Vec<u8>, layout: &PackedLayout, bytes: &[u8]) -> Resu
     requires size { layout.now.size ≡ 1 }
     requires within { layout.now.first + layout.now.count ≤ 8 }
     requires count { (layout.now.count ≡ 4 → ⊥) → layout.now.count ≡ 2 }
-    ensures appended { AppendsBits out.old out.new result (stream_of_blocks layout.now bytes.now) }
+    ensures appended { AppendsBits out.old out.new result
+        (stream_before layout.now (blocks_len bytes.now) bytes.now) }
 {
     if layout.count == 4 {
         append_cut(out, bytes, layout.first, 4)
@@ -273,10 +277,10 @@ fn append_words(
 ) -> Result<(u64, u32, u64), AllocError>
     requires begun { IsPartlyFilled word filled }
     requires layout { IsPackedLayout layout.now }
-    requires len { length bytes.now ≡ parts_of layout.now * layout.now.size }
+    requires len { length bytes.now ≡ layout_components layout.now * layout.now.size }
     ensures bits { LeavesFirst out.old word filled layout.now bytes.now out.new result }
     ensures begun { IfOk result (λ left. IsPartlyFilled left.0 left.1) }
-    ensures within { IfOk result (λ left. left.2 ≤ parts_of layout.now) }
+    ensures within { IfOk result (λ left. left.2 ≤ layout_components layout.now) }
 {
     match layout.size {
         1 => append_joined_lanes(out, word, filled, layout, bytes, 8, 8),
@@ -297,10 +301,10 @@ pub(crate) fn append_first(
 ) -> Result<(u64, u32, u64), AllocError>
     requires begun { IsPartlyFilled word filled }
     requires layout { IsPackedLayout layout.now }
-    requires len { length bytes.now ≡ parts_of layout.now * layout.now.size }
+    requires len { length bytes.now ≡ layout_components layout.now * layout.now.size }
     ensures bits { LeavesFirst out.old word filled layout.now bytes.now out.new result }
     ensures begun { IfOk result (λ left. IsPartlyFilled left.0 left.1) }
-    ensures within { IfOk result (λ left. left.2 ≤ parts_of layout.now) }
+    ensures within { IfOk result (λ left. left.2 ≤ layout_components layout.now) }
 {
     if layout.size != 1 || (layout.count != 4 && layout.count != 2) {
         return append_words(out, word, filled, layout, bytes);

@@ -1,8 +1,9 @@
 //! Bits that are put one behind another.
 ghost use Rattle.std.specs.Prelude.{◌≡◌, ℕ, ◌+◌, ◌*◌, ◌^◌, ◌<◌, ◌≤◌, List, [], length, replicate, IfOk};
 ghost use Rattle.zarrs_packbits.specs.Bits.{low_bits, bits_of, field, bit_of};
-ghost use Rattle.zarrs_packbits.specs.BitStream.{stream_of_bytes, component_in};
-ghost use Rattle.zarrs_packbits.specs.PackedLayout.{IsPackedLayout, parts_of};
+ghost use Rattle.zarrs_packbits.specs.BitStream.{stream_of_bytes};
+ghost use Rattle.zarrs_packbits.specs.KeptBits.{full_component};
+ghost use Rattle.zarrs_packbits.specs.PackedLayout.{IsPackedLayout, layout_components};
 ghost use Rattle.zarrs_packbits.specs.Packing.{packing};
 ghost use Rattle.zarrs_packbits.specs.WrittenBits.{flags_of, written_bits, IsPartlyFilled, Puts, PutsComponents};
 
@@ -99,7 +100,8 @@ impl BitWriter {
         requires some { 0 < layout.now.count }
         requires inside { at + layout.now.count ≤ 8 * length bytes.now }
         requires at { at + layout.now.count < 2 ^ 64 }
-        ensures appended { Puts self.old self.new result (component_in layout.now at bytes.now) }
+        ensures appended { Puts self.old self.new result (full_component layout.now.first
+            layout.now.above layout.now.sign (field at layout.now.count (bits_of bytes.now))) }
     {
         self.put_repeated(false, layout.first)?;
         self.put_field(bytes, at, layout.count)?;
@@ -131,7 +133,7 @@ impl BitWriter {
     ) -> Result<(), AllocError>
         requires layout { IsPackedLayout layout.now }
         requires last_fits { layout.now.first + layout.now.count < 2 ^ 64 }
-        requires len { length bytes.now ≡ parts_of layout.now * layout.now.size }
+        requires len { length bytes.now ≡ layout_components layout.now * layout.now.size }
         ensures appended { Puts self.old self.new result (stream_of_bytes layout.now bytes.now) }
     {
         if layout.size == 1 && layout.count == 1 {
@@ -152,7 +154,7 @@ impl BitWriter {
         requires layout { IsPackedLayout layout.now }
         requires last_fits { layout.now.first + layout.now.count < 2 ^ 64 }
         requires count { layout.now.count ≤ 64 }
-        requires len { length bytes.now ≡ parts_of layout.now * layout.now.size }
+        requires len { length bytes.now ≡ layout_components layout.now * layout.now.size }
         ensures appended { Puts self.old self.new result (stream_of_bytes layout.now bytes.now) }
     {
         let (part, reached, begin) = append_first(

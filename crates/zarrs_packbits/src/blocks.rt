@@ -1,8 +1,9 @@
 //! Components of one byte each, 64 of them at a time.
-ghost use Rattle.std.specs.Prelude.{◌≡◌, ◌+◌, ◌^◌, ◌<◌, ◌≤◌, All, map};
-ghost use Rattle.std.specs.List.{flat_map};
-ghost use Rattle.zarrs_packbits.specs.Bits.{bits_of, low_bits};
-ghost use Rattle.zarrs_packbits.specs.BlockBits.{block_fields, cut_byte, fields_of, lifted_byte};
+ghost use Rattle.std.specs.Prelude.{◌≡◌, ◌+◌, ◌/◌, ◌%◌, ◌^◌, ◌<◌, ◌≤◌, All, map};
+ghost use Rattle.std.specs.List.{flat_map, range_with_len};
+ghost use Rattle.zarrs_packbits.specs.Bits.{bits_of, field, low_bits};
+ghost use Rattle.zarrs_packbits.specs.BlockBits.{blocks_len, fields_of, lifted_byte};
+ghost use Rattle.zarrs_packbits.specs.KeptBits.{component_bits};
 ghost use Rattle.zarrs_packbits.specs.WrittenBits.{AppendsBits};
 
 use std::alloc::AllocError;
@@ -106,7 +107,7 @@ pub(crate) fn quarter_block(from: &[u8; 16], first: u64, weight: u8) -> [u8; 64]
 fn cut(from: &[u8; 64], first: u64, count: u64) -> [u8; 64]
     requires bit { first < 8 }
     requires count { count < 8 }
-    ensures value { result ≡ map (cut_byte first count) from.now }
+    ensures value { result ≡ map (λ byte. byte / 2 ^ first % 2 ^ count) from.now }
 {
     let mask = (1u8 << count) - 1;
     let mut to = [0u8; 64];
@@ -169,7 +170,8 @@ pub(crate) fn append_cut(
 ) -> Result<(), AllocError>
     requires count { (count ≡ 4 → ⊥) → count ≡ 2 }
     requires within { first + count ≤ 8 }
-    ensures appended { AppendsBits out.old out.new result (block_fields first count bytes.now) }
+    ensures appended { AppendsBits out.old out.new result (flat_map (λ part. field first count
+        (component_bits 1 bytes.now part)) (range_with_len 0 (blocks_len bytes.now))) }
 {
     let whole = bytes.len() / 64;
     for block in 0..whole {

@@ -1,9 +1,10 @@
 //! Components that stand side by side in a word of 64 bits, so many lanes of one width each.
 ghost use Rattle.std.specs.Prelude.{◌≡◌, ◌+◌, ◌*◌, ◌^◌, ◌<◌, ◌≤◌, length, IfOk};
-ghost use Rattle.zarrs_packbits.specs.Bits.{low_bits};
-ghost use Rattle.zarrs_packbits.specs.LaneBits.{lane_fields, IsWordOf};
-ghost use Rattle.zarrs_packbits.specs.PackedLayout.{IsPackedLayout, parts_of};
-ghost use Rattle.zarrs_packbits.specs.WrittenBits.{IsPartlyFilled, LeavesFirst, LeavesWords};
+ghost use Rattle.std.specs.List.{flat_map, range_with_len};
+ghost use Rattle.zarrs_packbits.specs.Bits.{field, low_bits};
+ghost use Rattle.zarrs_packbits.specs.BitStream.{components_from};
+ghost use Rattle.zarrs_packbits.specs.PackedLayout.{IsPackedLayout, layout_components};
+ghost use Rattle.zarrs_packbits.specs.WrittenBits.{IsPartlyFilled, LeavesFirst, LeavesParts};
 
 use crate::layout::PackedLayout;
 use crate::words::{append_bits, component_word, lowest, read_bits, read_within};
@@ -15,7 +16,8 @@ fn joined_word(word: u64, first: u64, count: u64, lanes: u64, width: u64) -> u64
     requires some { 0 < count }
     requires within { first + count ≤ width }
     requires lanes { lanes * width ≡ 64 }
-    ensures bits { low_bits (lanes * count) result ≡ lane_fields first count lanes width word }
+    ensures bits { low_bits (lanes * count) result ≡ flat_map (λ lane. field (lane * width + first)
+        count (low_bits 64 word)) (range_with_len 0 lanes) }
     ensures below { result < 2 ^ (lanes * count) }
 {
     let low = word >> first;
@@ -34,7 +36,8 @@ fn spread_word(kept: u64, layout: PackedLayout, lanes: u64, width: u64) -> u64
     requires some { 0 < layout.count }
     requires size { layout.first + layout.count + layout.above ≡ width }
     requires lanes { lanes * width ≡ 64 }
-    ensures bits { IsWordOf layout lanes kept result }
+    ensures bits { low_bits 64 result
+        ≡ components_from layout 0 lanes (low_bits (lanes * layout.count) kept) }
 {
     let mut word = 0u64;
     for lane in 0..lanes {
@@ -59,12 +62,12 @@ pub(crate) fn append_joined_lanes(
 ) -> Result<(u64, u32, u64), AllocError>
     requires begun { IsPartlyFilled word filled }
     requires layout { IsPackedLayout layout.now }
-    requires len { length bytes.now ≡ parts_of layout.now * layout.now.size }
+    requires len { length bytes.now ≡ layout_components layout.now * layout.now.size }
     requires size { 8 * layout.now.size ≡ width }
     requires lanes { lanes * width ≡ 64 }
     ensures bits { LeavesFirst out.old word filled layout.now bytes.now out.new result }
     ensures begun { IfOk result (λ left. IsPartlyFilled left.0 left.1) }
-    ensures within { IfOk result (λ left. left.2 ≤ parts_of layout.now) }
+    ensures within { IfOk result (λ left. left.2 ≤ layout_components layout.now) }
 {
     let PackedLayout { first, count, .. } = *layout;
     let groups = layout.elements * layout.group / lanes;
@@ -99,7 +102,8 @@ pub(crate) fn append_spread_lanes(
     requires lanes { lanes * width ≡ 64 }
     requires inside { at + groups * (lanes * layout.count) ≤ 8 * length bytes.now }
     requires at { at + groups * (lanes * layout.count) < 2 ^ 64 }
-    ensures bits { LeavesWords out.old word filled layout at groups lanes bytes.now out.new result }
+    ensures bits { LeavesParts
+        out.old word filled layout at (groups * lanes) bytes.now out.new result }
     ensures begun { IfOk result (λ left. IsPartlyFilled left.0 left.1) }
 {
     let taken = lanes * layout.count;

@@ -3,18 +3,20 @@ ghost use Rattle.zarrs_data_type.specs.Form.{form_of};
 ghost use Rattle.zarrs_array_bytes.specs.Held.{items_of};
 ghost use Rattle.zarrs_codec.specs.Grammar.{Encodes, Decodes};
 ghost use Rattle.zarrs_packbits.specs.PackBitsGrammar.{packbits_grammar};
-ghost use Rattle.std.specs.Prelude.{◌≡◌, ℕ, ◌+◌, ◌^◌, ◌<◌, IfOk, Ok, Some, true, false, slice_index};
+ghost use Rattle.std.specs.Prelude.{◌≡◌, ℕ, ◌+◌, ◌^◌, ◌<◌, IfOk, None, Ok, Some, true, false, slice_index};
 ghost use Rattle.zarrs_chunk.specs.Answer.{is_fault};
 ghost use Rattle.zarrs_chunk.specs.ChunkShape.{product};
 ghost use Rattle.zarrs_metadata.specs.CodecMetadata.{packbits_name};
 ghost use Rattle.zarrs_metadata.specs.MetadataV3.{configuration_seen, MakesConfiguration};
+ghost use Rattle.zarrs_metadata.specs.declared.codec.packbits.PackBitsPaddingEncoding.TheVariants as padding;
+ghost use Rattle.zarrs_codec.specs.MadeAgain.{MadeAgain};
 ghost use Rattle.zarrs_codec.specs.declared.capabilities.PartialDecoderCapability.{PartialDecoderCapability};
 ghost use Rattle.zarrs_codec.specs.declared.capabilities.PartialEncoderCapability.{PartialEncoderCapability};
-ghost use Rattle.zarrs_bytes.specs.GivenBytes.{IsGiven, HoldsGiven};
-ghost use Rattle.zarrs_packbits.specs.PackBitsCodec.{EncodesInPlace, DecodesInPlace, Keeps, KeepsIn, PacksWhole, UnpacksWhole};
-ghost use Rattle.zarrs_packbits.specs.PackBitsSettings.{all_bits, is_reversed, packbits_settings, first_of, last_of, padding_for, KeepsAllBytes, LaysOut, RepresentsNow};
+ghost use Rattle.zarrs_bytes.specs.GivenBytes.{DecodesNow, EncodesNow, IsGiven, HoldsGiven};
+ghost use Rattle.zarrs_packbits.specs.PackBitsCodec.{packbits_value, packbits_chunk, PackBitsEncodesInPlace, PackBitsDecodesInPlace, Keeps, KeepsIn};
+ghost use Rattle.zarrs_packbits.specs.PackBitsSettings.{is_reversed, packbits_settings, packed_layout, first_of, last_bit_of, padding_for, KeepsAllBytes, PackBitsRepresentsNow};
 ghost use Rattle.zarrs_packbits.specs.PackedLayout.{IsPackedLayout};
-ghost use Rattle.zarrs_packbits.specs.SettingsMetadata.{write_settings, MakesSettingsAgain};
+ghost use Rattle.zarrs_packbits.specs.SettingsMetadata.{settings_made, write_settings};
 
 use crate::layout::PackedLayout;
 use crate::packed_values::{packed_raw, unpacked_raw};
@@ -109,7 +111,7 @@ impl PackBitsCodec {
     /// The last bit that is kept of a component of so many bits.
     fn last(&self, bits: u64) -> u64
         requires some { 0 < bits }
-        ensures value { result ≡ last_of self.now bits }
+        ensures value { result ≡ last_bit_of self.now bits }
     {
         match self.last_bit {
             Some(bit) => bit,
@@ -135,7 +137,8 @@ impl PackBitsCodec {
         data_type: &DataType,
         fill_value: &FillValue,
     ) -> Result<PackedLayout, CodecError>
-        ensures answer { LaysOut self.now shape.now data_type.now fill_value.now result }
+        ensures answer { result
+            ≡ packed_layout self.now (form_of shape.now data_type.now fill_value.now) }
         ensures sound { IfOk result IsPackedLayout }
         ensures last_fits { IfOk result (λ layout. layout.first + layout.count < 2 ^ 64) }
         ensures elements { IfOk result (λ layout. layout.elements ≡ product shape.now) }
@@ -183,7 +186,7 @@ impl PackBitsCodec {
         data_type: &DataType,
         fill_value: &FillValue,
     ) -> Result<BytesRepresentation, CodecError>
-        ensures answer { RepresentsNow self.now shape.now data_type.now fill_value.now result }
+        ensures answer { PackBitsRepresentsNow self.now shape.now data_type.now fill_value.now result }
     {
         let layout = self.layout(shape, data_type, fill_value)?;
         Ok(BytesRepresentation::FixedSize(layout.value_len()))
@@ -200,7 +203,8 @@ impl PackBitsCodec {
         fill: &FillValue,
     ) -> Result<ArrayBytesRaw<'a>, CodecError>
         requires whole { KeepsAllBytes self.now (form_of shape.now data_type.now fill.now) }
-        ensures exact { PacksWhole self.now shape.now data_type.now fill.now elements.entry result }
+        ensures exact { EncodesNow (packbits_value self.now)
+            (form_of shape.now data_type.now fill.now) elements.entry result }
         ensures kept { IsGiven elements.entry result }
         ensures no_fault { is_fault result ≡ false }
     {
@@ -220,7 +224,8 @@ impl PackBitsCodec {
         fill: &FillValue,
     ) -> Result<ArrayBytes<'a>, CodecError>
         requires whole { KeepsAllBytes self.now (form_of shape.now data_type.now fill.now) }
-        ensures exact { UnpacksWhole self.now shape.now data_type.now fill.now value.entry result }
+        ensures exact { DecodesNow (packbits_chunk self.now)
+            (form_of shape.now data_type.now fill.now) (items_of value.entry) result }
         ensures kept { HoldsGiven value.entry result }
         ensures no_fault { is_fault result ≡ false }
     {
@@ -240,11 +245,9 @@ impl PackBitsCodec {
         data_type: &DataType,
         fill_value: &FillValue,
     ) -> Result<ArrayBytesRaw<'a>, CodecError>
-        // Wide: the three parameters of a form have the Rust crate's names.
         ensures encodes { Encodes (packbits_grammar self.now)
             (form_of shape.now data_type.now fill_value.now) elements.entry result }
-        // Wide: the three parameters of a form have the Rust crate's names.
-        ensures in_place { EncodesInPlace self.now
+        ensures in_place { PackBitsEncodesInPlace self.now
             (form_of shape.now data_type.now fill_value.now) elements.entry result }
         ensures kept { Keeps self.now shape.now data_type.now fill_value.now elements.entry result }
     {
@@ -270,11 +273,9 @@ impl PackBitsCodec {
         data_type: &DataType,
         fill_value: &FillValue,
     ) -> Result<ArrayBytes<'a>, CodecError>
-        // Wide: the three parameters of a form have the Rust crate's names.
         ensures decodes { Decodes (packbits_grammar self.now)
             (form_of shape.now data_type.now fill_value.now) (items_of value.entry) result }
-        // Wide: the three parameters of a form have the Rust crate's names.
-        ensures in_place { DecodesInPlace self.now
+        ensures in_place { PackBitsDecodesInPlace self.now
             (form_of shape.now data_type.now fill_value.now) value.entry result }
         ensures kept { KeepsIn self.now shape.now data_type.now fill_value.now value.entry result }
     {
@@ -301,7 +302,8 @@ impl PackBitsCodec {
 impl Default for PackBitsCodec {
     /// The codec that keeps all bits, without a padding byte.
     fn default() -> PackBitsCodec
-        ensures made { result ≡ all_bits }
+        ensures made { result
+            ≡ record { padding = padding.None; first_bit = None; last_bit = None } }
     {
         PackBitsCodec {
             padding_encoding: PackBitsPaddingEncoding::None,
@@ -330,7 +332,8 @@ impl CodecTraits for PackBitsCodec {
     #[tactic(auto, using(crate::proofs::MadeAgain::settings_made_again))]
     fn configuration(&self, alloc: Global) -> Result<Option<Configuration>, PluginCreateError>
         ensures answer { MakesConfiguration result (Ok (Some (write_settings self.now))) }
-        ensures made_again { MakesSettingsAgain configuration_seen result self.now }
+        ensures made_again { MadeAgain
+            configuration_seen result settings_made packbits_name self.now }
     {
         let configuration = PackBitsCodecConfiguration::V1(PackBitsCodecConfigurationV1 {
             padding_encoding: Some(self.padding_encoding),

@@ -1,17 +1,20 @@
 //! The codec `packbits` over parts of chunks.
 ghost use Rattle.zarrs_data_type.specs.Form.{form_of};
-ghost use Rattle.std.specs.Prelude.{◌≡◌, ◌<◌, ◌≤◌, ◌+◌, IfOk, IfErr, All, is_some};
+ghost use Rattle.std.specs.Prelude.{◌≡◌, ℕ, ◌<◌, ◌≤◌, ◌+◌, IfOk, IfErr, Ok, All, is_some, slice_index};
+ghost use Rattle.zarrs_chunk.specs.Answer.{GivesBy, GivesValue, seen};
+ghost use Rattle.zarrs_array_bytes.specs.Held.{Raw, flen};
 ghost use Rattle.zarrs_array_bytes.specs.Tight.{IsTight};
-ghost use Rattle.zarrs_codec.specs.Calls.{MakesReads};
+ghost use Rattle.zarrs_codec.specs.Calls.{MakesReads, after_reads, ok_count};
 ghost use Rattle.zarrs_codec.specs.StorageState.{after_reading};
 ghost use Rattle.zarrs_codec.specs.HandleCalls.{NeverFailsIf, Tells};
+ghost use Rattle.zarrs_bytes.specs.MadeCoders.{GivesCoder};
 ghost use Rattle.zarrs_bytes.specs.PartialRead.{place_size};
 ghost use Rattle.zarrs_bytes.specs.PlannedRanges.{NoneIsEmpty};
 ghost use Rattle.zarrs_bytes.specs.ReadingCalls.{calls_for_runs};
-ghost use Rattle.zarrs_packbits.specs.PackBitsCodec.{HoldsBytes};
-ghost use Rattle.zarrs_packbits.specs.PackBitsSettings.{Copies, IsLayoutFor, KeepsAllBytes, PackBitsTakes};
+ghost use Rattle.zarrs_packbits.specs.PackBitsSettings.{packed_layout, KeepsAllBytes, PackBitsTakes};
 ghost use Rattle.zarrs_packbits.specs.PartialRead.{reading_calls_of, ReadsRuns, ReadsRunsSurely};
 ghost use Rattle.zarrs_packbits.specs.PackedLayout.{IsPackedLayout};
+ghost use Rattle.zarrs_packbits.specs.ReadPlan.{IsPlanOfRuns};
 ghost use Rattle.zarrs_chunk.specs.ChunkShape.{product};
 
 use crate::layout::PackedLayout;
@@ -40,7 +43,8 @@ pub struct PackBitsPartialDecoder<H> {
 
 /// The bytes of elements of one size are below 256, as all bytes are.
 fn elements_are_bytes(elements: &ArrayBytes<'_>)
-    ensures bytes { HoldsBytes elements.now }
+    ensures bytes { (raw : Raw) → elements.now ≡ flen raw
+        → (i : ℕ) → slice_index raw.items i < 256 }
 {
     if let Ok(bytes) = elements.as_fixed() {
         bytes_are(bytes);
@@ -48,7 +52,7 @@ fn elements_are_bytes(elements: &ArrayBytes<'_>)
 }
 
 impl PackBitsCodec {
-    ghost use Rattle.zarrs_packbits.specs.PackBitsPartialDecoder.{packbits_handle_of, HasForm, MakesDecoder, PlansRuns};
+    ghost use Rattle.zarrs_packbits.specs.PackBitsPartialDecoder.{packbits_handle_of, HasPackBitsForm};
 
     /// How a chunk is packed that the codec accepts.
     fn taken_layout(
@@ -58,7 +62,8 @@ impl PackBitsCodec {
         fill_value: &FillValue,
     ) -> PackedLayout
         requires taken { PackBitsTakes self.now (form_of shape.now data_type.now fill_value.now) }
-        ensures is { IsLayoutFor self.now (form_of shape.now data_type.now fill_value.now) result }
+        ensures is { packed_layout self.now
+            (form_of shape.now data_type.now fill_value.now) ≡ Ok result }
         ensures sound { IsPackedLayout result }
         ensures elements { result.elements ≡ product shape.now }
     {
@@ -82,17 +87,13 @@ impl PackBitsCodec {
         requires whole { KeepsAllBytes self.now (form_of shape.now data_type.now fill_value.now) }
         requires filled { All (λ run. 0 < run.1) runs.now }
         requires below { All (λ run. run.0 + run.1 ≤ product shape.now) runs.now }
-        // Wide: the three parameters of a form have the Rust crate's names.
         ensures answer { ReadsRuns self.now (form_of shape.now data_type.now fill_value.now)
             (H.state handle.old) runs.now result }
-        // Wide: the three parameters of a form have the Rust crate's names.
         ensures sure { ReadsRunsSurely self.now (form_of shape.now data_type.now fill_value.now)
             (H.state handle.old) runs.now result }
         ensures tight { IfOk result (IsTight data_type.now) }
-        // Wide: the names of its parameters fill the row.
-        ensures counted { MakesReads H.calls
-            (calls_for_runs (place_size data_type.now) (H.state handle.old).value runs.now)
-            handle.old handle.new result }
+        ensures counted { MakesReads H.calls (calls_for_runs (place_size data_type.now)
+            (H.state handle.old).value runs.now) handle.old handle.new result }
         ensures left { H.state handle.new ≡ after_reading result (H.state handle.old) }
         ensures same_reference { H.lent handle.new ≡ H.lent handle.old }
     {
@@ -120,10 +121,8 @@ impl PackBitsCodec {
         requires taken { PackBitsTakes self.now (form_of shape.now data_type.now fill_value.now) }
         requires filled { All (λ run. 0 < run.1) runs.now }
         requires below { All (λ run. run.0 + run.1 ≤ product shape.now) runs.now }
-        // Wide: the three parameters of a form have the Rust crate's names.
         ensures answer { ReadsRuns self.now (form_of shape.now data_type.now fill_value.now)
             (H.state handle.old) runs.now result }
-        // Wide: the three parameters of a form have the Rust crate's names.
         ensures sure { ReadsRunsSurely self.now (form_of shape.now data_type.now fill_value.now)
             (H.state handle.old) runs.now result }
         ensures tight { IfOk result (IsTight data_type.now) }
@@ -159,7 +158,8 @@ impl PackBitsCodec {
         requires taken { PackBitsTakes self.now (form_of shape.now data_type.now fill_value.now) }
         requires filled { All (λ run. 0 < run.1) runs.now }
         requires below { All (λ run. run.0 + run.1 ≤ product shape.now) runs.now }
-        ensures plan { PlansRuns self.now shape.now data_type.now fill_value.now runs.now result }
+        ensures plan { GivesBy (λ ranges layout. IsPlanOfRuns layout runs.now ranges.items) result
+            (packed_layout self.now (form_of shape.now data_type.now fill_value.now)) }
         ensures filled { IfOk result (λ ranges. NoneIsEmpty ranges.items) }
     {
         let layout = self.taken_layout(shape, data_type, fill_value);
@@ -174,7 +174,8 @@ impl PackBitsCodec {
         data_type: &DataType,
         fill_value: &FillValue,
     ) -> Result<(ChunkShape, DataType, FillValue), CodecError>
-        ensures answer { Copies self.now (form_of shape.now data_type.now fill_value.now) result }
+        ensures answer { GivesValue result (seen (λ _. (shape.now, data_type.now, fill_value.now))
+            (packed_layout self.now (form_of shape.now data_type.now fill_value.now))) }
         ensures taken { IfOk result (λ all. PackBitsTakes self.now (form_of all.0 all.1 all.2)) }
     {
         self.layout(shape, data_type, fill_value)?;
@@ -194,8 +195,9 @@ impl PackBitsCodec {
         data_type: &DataType,
         fill_value: &FillValue,
     ) -> Result<PackBitsPartialDecoder<H>, Refused<H>>
-        ensures answer { MakesDecoder self.now shape.now data_type.now fill_value.now result }
-        ensures form { HasForm self.now (form_of shape.now data_type.now fill_value.now) result }
+        ensures answer { GivesCoder result
+            (packed_layout self.now (form_of shape.now data_type.now fill_value.now)) }
+        ensures form { HasPackBitsForm self.now (form_of shape.now data_type.now fill_value.now) result }
         ensures over { IfOk result (λ decoder. packbits_handle_of decoder ≡ handle) }
         ensures handed_back { IfErr result (λ refused. refused.handle ≡ handle) }
     {
@@ -213,7 +215,7 @@ impl PackBitsCodec {
 }
 
 impl<H: BytesPartialDecoderTraits> PackBitsPartialDecoder<H> {
-    ghost use Rattle.zarrs_packbits.specs.PackBitsPartialDecoder.{packbits_form_of, packbits_handle_of, decoder_state, stored_in, AsksOnce, CountsReads, Reads, Plans, Leaves};
+    ghost use Rattle.zarrs_packbits.specs.PackBitsPartialDecoder.{packbits_form_of, packbits_handle_of, decoder_calls, decoder_state, packbits_stored_in, PackBitsCountsReads, PackBitsReads, Plans, PackBitsLeaves};
 
     /// The type of the elements.
     pub fn data_type(&self) -> &DataType
@@ -232,10 +234,10 @@ impl<H: BytesPartialDecoderTraits> PackBitsPartialDecoder<H> {
         alloc: Global,
         indexer: &Indexer,
     ) -> Result<ArrayBytes<'static>, CodecError>
-        ensures reads { Reads H.state self.old indexer.now result }
-        ensures counted { CountsReads H.state H.calls self.old self.new indexer.now result }
+        ensures reads { PackBitsReads H.state self.old indexer.now result }
+        ensures counted { PackBitsCountsReads H.state H.calls self.old self.new indexer.now result }
         ensures tight { IfOk result (IsTight (packbits_form_of self.old).type) }
-        ensures left { Leaves H.state H.lent self.old self.new result }
+        ensures left { PackBitsLeaves H.state H.lent self.old self.new result }
     {
         let runs = indexer.runs(alloc, &self.shape)?;
         self.codec.read_runs(
@@ -272,10 +274,11 @@ impl<H: BytesPartialDecoderTraits> PackBitsPartialDecoder<H> {
 
     /// Whether a value is stored. Errors: `Storage`, but never where the handle has sure bytes.
     pub fn exists(&mut self) -> Result<bool, CodecError>
-        ensures answer { Tells result (is_some (stored_in H.state self.old)) }
+        ensures answer { Tells result (is_some (packbits_stored_in H.state self.old)) }
         ensures sure { NeverFailsIf (is_some (decoder_state H.state self.old).sure) result }
-        ensures counted { AsksOnce H.calls self.old self.new result }
-        ensures left { Leaves H.state H.lent self.old self.new result }
+        ensures counted { decoder_calls H.calls self.new
+            ≡ after_reads (ok_count result) (decoder_calls H.calls self.old) }
+        ensures left { PackBitsLeaves H.state H.lent self.old self.new result }
     {
         self.handle.exists()
     }
@@ -296,9 +299,9 @@ impl<H: BytesPartialDecoderTraits> PackBitsPartialDecoder<H> {
 }
 
 impl<H: BytesPartialDecoderTraits> ArrayPartialDecoderTraits for PackBitsPartialDecoder<H> {
-    ghost use Rattle.zarrs_packbits.specs.PackBitsPartialDecoder.{packbits_form_of, packbits_handle_of, reader_of};
+    ghost use Rattle.zarrs_packbits.specs.PackBitsPartialDecoder.{packbits_form_of, packbits_handle_of, packbits_reader, decoder_state, packbits_stored_in};
 
-    ghost reader = { λ decoder. reader_of (packbits_form_of decoder) (H.state (packbits_handle_of decoder)) H.reads_ranges };
+    ghost reader = { λ decoder. packbits_reader (packbits_form_of decoder) (packbits_stored_in H.state decoder) (decoder_state H.state decoder).sure H.reads_ranges };
 
     ghost state = { λ decoder. H.state (packbits_handle_of decoder) };
 

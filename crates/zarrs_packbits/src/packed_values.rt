@@ -4,7 +4,7 @@ ghost use Rattle.std.specs.Prelude.{◌≡◌, ◌+◌, ◌*◌, ◌^◌, ◌<�
 ghost use Rattle.zarrs_chunk.specs.Answer.{Gives};
 ghost use Rattle.zarrs_packbits.specs.Bits.{bits_of};
 ghost use Rattle.zarrs_packbits.specs.BitStream.{bytes_packed, bytes_unpacked};
-ghost use Rattle.zarrs_packbits.specs.PackedLayout.{IsPackedLayout, is_whole, parts_of};
+ghost use Rattle.zarrs_packbits.specs.PackedLayout.{IsPackedLayout, is_whole, layout_components};
 ghost use Rattle.zarrs_packbits.specs.PaddingByte.{padding_before, padding_behind, value_len};
 
 use crate::bit_appends::in_range;
@@ -46,7 +46,7 @@ fn end_value(layout: &PackedLayout, mut value: Vec<u8>) -> Result<Vec<u8>, Alloc
 fn packed_value(alloc: Global, layout: &PackedLayout, bytes: &[u8]) -> Result<Vec<u8>, AllocError>
     requires layout { IsPackedLayout layout.now }
     requires last_fits { layout.now.first + layout.now.count < 2 ^ 64 }
-    requires len { length bytes.now ≡ parts_of layout.now * layout.now.size }
+    requires len { length bytes.now ≡ layout_components layout.now * layout.now.size }
     ensures value { IfOk result (λ v. v.items ≡ bytes_packed layout.now bytes.now) }
 {
     let mut writer = begin_value(alloc, layout, layout.value_len() as usize)?;
@@ -83,7 +83,7 @@ pub(crate) fn packed_raw<'a>(
 ) -> Result<ArrayBytesRaw<'a>, CodecError>
     requires layout { IsPackedLayout layout.now }
     requires last_fits { layout.now.first + layout.now.count < 2 ^ 64 }
-    requires len { length (items_of raw) ≡ parts_of layout.now * layout.now.size }
+    requires len { length (items_of raw) ≡ layout_components layout.now * layout.now.size }
     ensures exact { Gives items_of result (Ok (bytes_packed layout.now (items_of raw.entry))) }
 {
     let value = packed_value(alloc, layout, &raw)?;

@@ -1,12 +1,14 @@
 //! Reading runs of places.
 ghost use Rattle.std.specs.Prelude.{◌≡◌, ◌+◌, ◌<◌, ◌≤◌, false, All, IfOk, length, map};
+ghost use Rattle.zarrs_chunk.specs.Answer.{AnswersItems, memory_or_fault};
+ghost use Rattle.zarrs_chunk.specs.Runs.{joined_runs};
 ghost use Rattle.zarrs_codec.specs.Calls.{MakesReads};
-ghost use Rattle.zarrs_codec.specs.StorageState.{after_reading};
+ghost use Rattle.zarrs_codec.specs.StorageState.{after_reading, are_sure};
 ghost use Rattle.zarrs_codec.specs.HandleCalls.{NeverFailsIf};
 ghost use Rattle.zarrs_bytes.specs.PlannedRanges.{NoneIsEmpty, spans};
 ghost use Rattle.zarrs_packbits.specs.PackedLayout.{IsPackedLayout, is_whole};
 ghost use Rattle.zarrs_packbits.specs.Packing.{packing};
-ghost use Rattle.zarrs_packbits.specs.PartialRead.{runs_are_sure, ReadsPacked};
+ghost use Rattle.zarrs_packbits.specs.PartialRead.{packed_places_bytes, read_packed_bytes};
 ghost use Rattle.zarrs_packbits.specs.ReadPlan.{run_span, run_bits, runs_len};
 ghost use Rattle.zarrs_packbits.specs.WrittenBits.{Puts};
 
@@ -107,8 +109,10 @@ pub(crate) fn read_runs<H: BytesPartialDecoderTraits>(
     requires fill_some { 0 < length fill.now }
     requires filled { All (λ run. 0 < run.1) runs.now }
     requires below { All (λ run. run.0 + run.1 ≤ layout.now.elements) runs.now }
-    ensures answer { ReadsPacked layout.now (H.state handle.old) fill.now runs.now result }
-    ensures sure { NeverFailsIf (runs_are_sure layout.now (H.state handle.old) runs.now) result }
+    ensures answer { AnswersItems memory_or_fault result (read_packed_bytes
+        layout.now (H.state handle.old).value fill.now (joined_runs runs.now)) }
+    ensures sure { NeverFailsIf (are_sure (H.state handle.old).sure
+        (packed_places_bytes layout.now (joined_runs runs.now))) result }
     ensures left { H.state handle.new ≡ after_reading result (H.state handle.old) }
     ensures counted { MakesReads H.calls 1 handle.old handle.new result }
     ensures same_reference { H.lent handle.new ≡ H.lent handle.old }

@@ -1,8 +1,8 @@
 //! Bits that are read and written through words of 64.
-ghost use Rattle.std.specs.Prelude.{◌≡◌, ◌+◌, ◌*◌, ◌%◌, ◌^◌, ◌<◌, ◌≤◌, length, IfOk};
+ghost use Rattle.std.specs.Prelude.{◌≡◌, ℕ, ◌+◌, ◌*◌, ◌%◌, ◌^◌, ◌<◌, ◌≤◌, length, IfOk};
 ghost use Rattle.zarrs_packbits.specs.Bits.{low_bits, bits_of, field};
-ghost use Rattle.zarrs_packbits.specs.KeptBits.{sign_weight};
-ghost use Rattle.zarrs_packbits.specs.WrittenBits.{flags_of, IsWordFrom, LeavesMore, IsComponent};
+ghost use Rattle.zarrs_packbits.specs.KeptBits.{full_component, sign_weight};
+ghost use Rattle.zarrs_packbits.specs.WrittenBits.{flags_of, LeavesMore};
 
 use std::alloc::AllocError;
 
@@ -101,7 +101,8 @@ fn last_word(bytes: &[u8]) -> u64
 #[inline(always)]
 fn word_from(bytes: &[u8], start: usize) -> u64
     requires start { start ≤ length bytes.now }
-    ensures bits { IsWordFrom bytes.now start result }
+    ensures bits { (n : ℕ) → n ≤ 64 → 8 * start + n ≤ 8 * length bytes.now
+        → low_bits n result ≡ field (8 * start) n (bits_of bytes.now) }
 {
     if bytes.len() - start < 8 {
         return last_word(&bytes[start..]);
@@ -161,7 +162,8 @@ pub(crate) fn component_word(kept: u64, first: u64, count: u64, above: u64, sign
     requires some { 0 < count }
     requires fits { first + count + above ≤ 64 }
     requires kept_fits { kept < 2 ^ count }
-    ensures bits { IsComponent first count above sign kept result }
+    ensures bits { low_bits (first + count + above) result
+        ≡ full_component first above sign (low_bits count kept) }
     ensures below { result < 2 ^ (first + count + above) }
 {
     let weight = weight_of_sign(count, sign);

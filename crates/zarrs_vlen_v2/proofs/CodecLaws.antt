@@ -21,7 +21,7 @@ use Rattle.zarrs_codec.specs.declared.bytes_representation.BytesRepresentation.{
 use Rattle.zarrs_codec.specs.declared.bytes_representation.BytesRepresentation.TheVariants.{UnboundedSize}
 use Rattle.zarrs_bytes.specs.BytesCodec.{IsChunk}
 use Rattle.zarrs_bytes.proofs.Coding.{demand_ok, bind_ok, checked_ok, ok}
-use Rattle.zarrs_vlen_v2.specs.Laws.{WrittenStands, StandsForOne, WrittenOnce, WrittenAlike, DecodedIsWritten}
+use Rattle.zarrs_vlen_v2.specs.Laws.{VlenV2WrittenAlike}
 use Rattle.zarrs_vlen_v2.specs.VlenV2Codec.{accepts, error_name, vlen_v2_represented, u32_bytes, u32_of, fits_u32, prefixed_element, is_short, lengths_fit, vlen_v2_layout, prefixed_value, vlen_v2_value, elements_in, elements_of_value, vlen_v2_chunk, IsRow, VlenV2Stands, VlenV2Written}
 use Rattle.zarrs_vlen_v2.specs.declared.vlen_v2_codec.VlenV2Codec.{VlenV2Codec}
 use Rattle.zarrs_vlen_v2.specs.declared.vlen_v2_codec.VlenV2Codec.TheVariants.{Utf8, Bytes}
@@ -57,15 +57,15 @@ accepted codec form r e =
 
 -- ---- a value stands for one chunk, and for a chunk one is written
 
-pub stands_for_one : StandsForOne
+pub stands_for_one : (codec : VlenV2Codec) (form : Form) (value : List ℕ) (chunk other : Chunk) → VlenV2Stands codec form value chunk → VlenV2Stands codec form value other → chunk ≡ other
 stands_for_one codec form value chunk other a b =
     let parts = front_same a.head a.row b.head b.row (a.head_size ∙ sym b.head_size) (sym a.parts ∙ b.parts) in
     row_once chunk other a.row (a.count_is ∙ sym b.count_is) a.entries (subst (IsRow other) (sym parts.1) b.entries)
 
-pub written_once : WrittenOnce
+pub written_once : (codec : VlenV2Codec) (form : Form) (value other : List ℕ) (chunk : Chunk) → VlenV2Written codec form value chunk → VlenV2Written codec form other chunk → value ≡ other
 written_once codec form value other chunk a b = a.spelt ∙ sym b.spelt
 
-pub written_stands : WrittenStands
+pub written_stands : (codec : VlenV2Codec) (form : Form) (value : List ℕ) (chunk : Chunk) → VlenV2Written codec form value chunk → VlenV2Stands codec form value chunk
 written_stands codec form value chunk w =
     let count = first_true (fits_u32 (length chunk)) (list_all is_short chunk) w.fit in
     record {
@@ -79,7 +79,7 @@ written_stands codec form value chunk w =
       entries = row_written form.type chunk (accepted codec form UnboundedSize w.taken).variable w.elements.each (second_true (fits_u32 (length chunk)) (list_all is_short chunk) w.fit);
     }
 
-pub written_alike : WrittenAlike
+pub written_alike : VlenV2WrittenAlike
 written_alike codec form value other_value chunk other one two = (
   λ e. stands_for_one codec form value chunk other (written_stands codec form value chunk one) (subst (λ (v : List ℕ). VlenV2Stands codec form v other) (sym e) (written_stands codec form other_value other two)),
   λ e. one.spelt ∙ ap vlen_v2_layout e ∙ sym two.spelt,
@@ -101,7 +101,7 @@ decoded_only codec form value chunk s =
     ∙ chunk_step count value s.row chunk (le_test 4 (length value) (omega (arith, long))) (eq-eqb (u32_of (take 4 value)) count (ap u32_of front ∙ s.head_is)) back
     (subst (λ (n : ℕ). elements_in n (length value) 4 s.row ≡ Ok chunk) s.count_is (row_only chunk (length value) 4 s.row s.entries))
 
-pub decoded_is_written : DecodedIsWritten
+pub decoded_is_written : (codec : VlenV2Codec) (form : Form) (value : List ℕ) (chunk : Chunk) → VlenV2Written codec form value chunk → vlen_v2_chunk codec form value ≡ Ok chunk
 decoded_is_written codec form value chunk w = decoded_only codec form value chunk (written_stands codec form value chunk w)
 
 -- a chunk that is decoded: the value stands for it, and its elements are of the type

@@ -13,8 +13,9 @@ use Rattle.zarrs_data_type.specs.Form.{Form}
 use Rattle.zarrs_array_bytes.specs.Held.{Raw, Held, vlen}
 use Rattle.zarrs_array_bytes.specs.Offsets.{is_offsets, last_of, offsets_of}
 use Rattle.zarrs_array_bytes.specs.Pieces.{bytes_with_offsets}
-use Rattle.zarrs_array_bytes.specs.Tight.{flush_with_offsets, without_front, HoldsSame}
+use Rattle.zarrs_array_bytes.specs.Tight.{flush_with_offsets, without_front}
 use Rattle.zarrs_array_bytes.specs.Validity.{Holds}
+use Rattle.zarrs_array_bytes.proofs.FlushLemmas.{HoldsSame}
 use Rattle.zarrs_bytes.specs.ByteOrder.{bytes_of}
 use Rattle.zarrs_bytes.proofs.Coding.{ok}
 use Rattle.zarrs_codec.specs.declared.bytes_representation.BytesRepresentation.{BytesRepresentation}

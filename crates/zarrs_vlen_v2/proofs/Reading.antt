@@ -27,9 +27,11 @@ rest_at : (count whole at size : ℕ) (row : List ℕ) → nat_le 4 (length row)
     → elements_in (suc count) whole at row ≡ elements_in count whole (at + 4 + size) (drop size (drop 4 row)) >>= (λ chunk. Ok (plain (take size (drop 4 row)) ∷ chunk))
 rest_at count whole at size row a b c = rw (a, b, c) refl
 
-pub one_more : (count whole at : ℕ) (row items : List ℕ) → element_in whole at row ≡ Ok items
-    → elements_in (suc count) whole at row ≡ elements_in count whole (at + (4 + length items)) (drop (4 + length items) row) >>= (λ chunk. Ok (plain items ∷ chunk))
-one_more count whole at row items e =
+one_more : (count at : ℕ) (value items : List ℕ) → element_in value at ≡ Ok items
+    → elements_in (suc count) (length value) at (drop at value) ≡ elements_in count (length value) (at + (4 + length items)) (drop (4 + length items) (drop at value)) >>= (λ chunk. Ok (plain items ∷ chunk))
+one_more count at value items e =
+    let whole = length value in
+    let row = drop at value in
     let size = u32_of (take 4 row) in
     let a = bind_ok (demand (nat_le 4 (length row)) (InvalidBytesLength whole (at + 4))) _ items e in
     let b = bind_ok (demand (nat_le size (length row - 4)) (InvalidBytesLength whole (at + 4 + size))) _ items a.2 in
@@ -49,8 +51,10 @@ both_refuse true true e f x k err h = absurd cc
 both_refuse true false e f x k err h = let is : f ≡ err = cc in λ i. Err (is i)
 both_refuse false b e f x k err h = let is : e ≡ err = cc in λ i. Err (is i)
 
-pub one_refused : (count whole at : ℕ) (row : List ℕ) (err : CodecError) → element_in whole at row ≡ Err err → elements_in (suc count) whole at row ≡ Err err
-one_refused count whole at row err e =
+one_refused : (count at : ℕ) (value : List ℕ) (err : CodecError) → element_in value at ≡ Err err → elements_in (suc count) (length value) at (drop at value) ≡ Err err
+one_refused count at value err e =
+    let whole = length value in
+    let row = drop at value in
     let size = u32_of (take 4 row) in
     both_refuse (nat_le 4 (length row)) (nat_le size (length row - 4)) (InvalidBytesLength whole (at + 4)) (InvalidBytesLength whole (at + 4 + size)) (take size (drop 4 row)) _ err e
 
@@ -81,7 +85,7 @@ seen_more : (done : Chunk) (items : List ℕ) (r : Result Chunk CodecError) → 
 seen_more done items (Ok chunk) = λ i. Ok (sym (append_assoc done (plain items ∷ []) chunk) i)
 seen_more done items (Err e) = refl
 
-pub one_read : (value : List ℕ) (count index at : ℕ) (bytes offsets items bytes_after offsets_after : List ℕ) → SoFar value count index at bytes offsets → index < count → element_in (length value) at (drop at value) ≡ Ok items → at + 4 + length items ≤ length value
+pub one_read : (value : List ℕ) (count index at : ℕ) (bytes offsets items bytes_after offsets_after : List ℕ) → SoFar value count index at bytes offsets → index < count → element_in value at ≡ Ok items → at + 4 + length items ≤ length value
     → bytes_after ≡ bytes ++ items → offsets_after ≡ offsets ++ length bytes_after ∷ [] → SoFar value count (index + 1) (at + (4 + length items)) bytes_after offsets_after
 one_read value count index at bytes offsets items bytes_after offsets_after s l e within b o =
     let left : count - index ≡ suc (count - (index + 1)) = omega (arith, l) in
@@ -104,19 +108,19 @@ one_read value count index at bytes offsets items bytes_after offsets_after s l 
       rest =
           s.rest
           ∙ ap (λ n. seen (λ chunk. done ++ chunk) (elements_in n (length value) at (drop at value))) left
-          ∙ ap (seen (λ chunk. done ++ chunk)) (one_more (count - (index + 1)) (length value) at (drop at value) items e)
+          ∙ ap (seen (λ chunk. done ++ chunk)) (one_more (count - (index + 1)) at value items e)
           ∙ seen_more done items (elements_in (count - (index + 1)) (length value) (at + (4 + length items)) (drop (4 + length items) (drop at value)))
           ∙ ap (λ xs. seen (λ chunk. (done ++ plain items ∷ []) ++ chunk) (elements_in (count - (index + 1)) (length value) (at + (4 + length items)) xs)) (drop-drop (4 + length items) at value);
     }
 
-pub refused_here : (value : List ℕ) (count index at : ℕ) (bytes offsets : List ℕ) (err : CodecError) → SoFar value count index at bytes offsets → index < count → element_in (length value) at (drop at value) ≡ Err err
+pub refused_here : (value : List ℕ) (count index at : ℕ) (bytes offsets : List ℕ) (err : CodecError) → SoFar value count index at bytes offsets → index < count → element_in value at ≡ Err err
     → seen (bytes_with_offsets bytes_of) (elements_in count (length value) 4 (drop 4 value)) ≡ Err err
 refused_here value count index at bytes offsets err s l e =
     let left : count - index ≡ suc (count - (index + 1)) = omega (arith, l) in
     ap (seen (bytes_with_offsets bytes_of))
     (s.rest
     ∙ ap (λ n. seen (λ chunk. s.done ++ chunk) (elements_in n (length value) at (drop at value))) left
-    ∙ ap (seen (λ chunk. s.done ++ chunk)) (one_refused (count - (index + 1)) (length value) at (drop at value) err e))
+    ∙ ap (seen (λ chunk. s.done ++ chunk)) (one_refused (count - (index + 1)) at value err e))
 
 -- the offsets rise to the end of the bytes
 pub so_far_rise : (value : List ℕ) (count index at : ℕ) (bytes offsets : List ℕ) → SoFar value count index at bytes offsets → is_offsets offsets ≡ true

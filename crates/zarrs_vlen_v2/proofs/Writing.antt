@@ -1,6 +1,6 @@
 -- A value is written element by element.
-use Rattle.std.proofs.Common.{◌≡◌, ℕ, ◌+◌, ◌-◌, ◌<◌, Bool, true, false, List, [], ◌∷◌, ◌++◌, length, take, get_or, Ok, Err, arith, refl, ap, sym, ◌∙◌}
-use Rattle.std.specs.List.{flat_map, list_all}
+use Rattle.std.proofs.Common.{◌≡◌, ℕ, ◌+◌, ◌-◌, ◌<◌, Bool, true, false, List, [], ◌∷◌, ◌++◌, length, map, take, get_or, Ok, Err, arith, refl, ap, sym, ◌∙◌}
+use Rattle.std.specs.List.{flat_map, list_all, range_with_len}
 use Rattle.std.proofs.lemmas.Bool.{and_from, and_left, and_right}
 use Rattle.std.proofs.lemmas.List.{take_more, take_all, append-nil, append_assoc}
 use Rattle.std.proofs.lemmas.List.Concat.{flat_map-append}
@@ -12,8 +12,12 @@ use Rattle.zarrs_chunk.specs.declared.codec_error.CodecError.TheVariants.{Offset
 use Rattle.zarrs_data_type.specs.Element.{plain, absent, Chunk}
 use Rattle.zarrs_array_bytes.specs.Elements.{cut}
 use Rattle.zarrs_bytes.proofs.Coding.{ok}
-use Rattle.zarrs_vlen_v2.specs.PrefixedValues.{number_fits, cut_elements}
+use Rattle.zarrs_vlen_v2.specs.PrefixedValues.{number_fits}
 use Rattle.zarrs_vlen_v2.specs.VlenV2Codec.{u32_bytes, fits_u32, prefixed, prefixed_element, is_short, lengths_fit, vlen_v2_layout, prefixed_value}
+
+-- the elements between the offsets
+abbrev pub cut_elements : List ℕ → List ℕ → Chunk
+cut_elements offsets items = map (λ place. plain (cut offsets items place)) (range_with_len 0 (length offsets - 1))
 
 pub count_cut : (offsets items : List ℕ) → length (cut_elements offsets items) ≡ length offsets - 1
 count_cut offsets items = length-map-range_with_len (λ place. plain (cut offsets items place)) 0 (length offsets - 1)

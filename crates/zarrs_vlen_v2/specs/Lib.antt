@@ -14,5 +14,6 @@ pub use Rattle.zarrs_array_bytes.specs.Held
 pub use Rattle.zarrs_array_bytes.specs.Tight
 pub use Rattle.zarrs_array_bytes.specs.Validity
 pub use Rattle.zarrs_codec.specs.ChunkCodec
+pub use Rattle.zarrs_codec.specs.CodecMembers
 pub use Rattle.zarrs_codec.specs.Grammar
 pub use Rattle.zarrs_bytes.specs.BytesCodec

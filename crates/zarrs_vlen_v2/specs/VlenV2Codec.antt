@@ -1,10 +1,8 @@
 -- The codecs `vlen-utf8` and `vlen-bytes`: how many elements there are, and each behind its length.
 use Rattle.std.specs.Int.{w32, to_le_bytes, from_le_bytes}
 use Rattle.std.specs.List.{flat_map, list_all}
-use Rattle.std.specs.Prelude.{ℕ, zero, suc, ◌+◌, ◌-◌, ◌^◌, ◌==◌, Bool, true, false, ◌&&◌, nat_lt, nat_le, List, [], ◌∷◌, ◌++◌, length, take, drop, Option, None, Result, Ok, ◌≡◌}
-use Rattle.std.specs.declared.alloc.Global.{Global}
-use Rattle.std.specs.declared.borrow.CowSlice.{CowSlice}
-use Rattle.zarrs_chunk.specs.Answer.{◌>>=◌, demand, checked_u64, seen}
+use Rattle.std.specs.Prelude.{ℕ, zero, suc, ◌+◌, ◌-◌, ◌^◌, ◌==◌, Bool, true, false, ◌&&◌, nat_lt, nat_le, List, [], ◌∷◌, ◌++◌, length, take, drop, Result, Ok, ◌≡◌}
+use Rattle.zarrs_chunk.specs.Answer.{◌>>=◌, demand, checked_u64}
 use Rattle.zarrs_chunk.specs.ChunkShape.{product}
 use Rattle.zarrs_chunk.specs.declared.codec_error.CodecError.{CodecError}
 use Rattle.zarrs_chunk.specs.declared.codec_error.CodecError.TheVariants.{UnsupportedDataType, OffsetTooLarge, InvalidBytesLength, ElementCount}
@@ -13,10 +11,8 @@ use Rattle.zarrs_data_type.specs.Element.{Element, plain, Chunk}
 use Rattle.zarrs_data_type.specs.ElementType.{ElementType, text, bytes}
 use Rattle.zarrs_data_type.specs.Form.{Form, form_of}
 use Rattle.zarrs_array_bytes.specs.Elements.{elements}
-use Rattle.zarrs_array_bytes.specs.Held.{Held, items_of}
+use Rattle.zarrs_array_bytes.specs.Held.{Held}
 use Rattle.zarrs_array_bytes.specs.Validity.{validity}
-use Rattle.zarrs_codec.specs.ChunkCodec.{RepresentsBy, EncodesBy, DecodesBy, CompactsNone}
-use Rattle.zarrs_codec.specs.CodecMembers.{DecodesAgain}
 use Rattle.zarrs_codec.specs.declared.bytes_representation.BytesRepresentation.{BytesRepresentation}
 use Rattle.zarrs_codec.specs.declared.bytes_representation.BytesRepresentation.TheVariants.{UnboundedSize}
 use Rattle.zarrs_bytes.specs.ByteOrder.{bytes_of}
@@ -46,8 +42,8 @@ vlen_v2_represented codec form = do
   Ok UnboundedSize
 
 -- the answer is that representation, or the first error; it is never out of memory
-abbrev pub RepresentsNow : VlenV2Codec → List ℕ → ElementType → List ℕ → Result BytesRepresentation CodecError → Type 0
-RepresentsNow codec sizes type fill result = result ≡ vlen_v2_represented codec (form_of sizes type fill)
+abbrev pub VlenV2RepresentsNow : VlenV2Codec → List ℕ → ElementType → List ℕ → Result BytesRepresentation CodecError → Type 0
+VlenV2RepresentsNow codec sizes type fill result = result ≡ vlen_v2_represented codec (form_of sizes type fill)
 
 -- ---- numbers
 
@@ -159,31 +155,3 @@ pub record VlenV2Written (codec : VlenV2Codec) (form : Form) (value : List ℕ) 
   pub elements : IsChunk form.type (product form.sizes) chunk
   pub fit : lengths_fit chunk ≡ true
   pub spelt : value ≡ vlen_v2_layout chunk
-
--- ---- what its calls answer, of chunks of these sizes, this type and this fill value
-
--- how many bytes the value has, or the first error
-abbrev pub Represents : VlenV2Codec → List ℕ → ElementType → List ℕ → Result BytesRepresentation CodecError → Type 0
-Represents codec sizes type fill result = RepresentsBy (vlen_v2_represented codec) (form_of sizes type fill) result
-
--- the value of the chunk that a container holds is answered, or the first error
-abbrev pub Writes : VlenV2Codec → List ℕ → ElementType → List ℕ → Held → Result (CowSlice ℕ Global) CodecError → Type 0
-Writes codec sizes type fill held result = EncodesBy (vlen_v2_value codec) (form_of sizes type fill) held result
-
--- a value that is answered is decoded again, to the chunk that the container holds
-abbrev pub WritesAgain : VlenV2Codec → List ℕ → ElementType → List ℕ → Held → Result (CowSlice ℕ Global) CodecError → Type 0
-WritesAgain codec sizes type fill held result =
-    DecodesAgain (vlen_v2_chunk codec) (λ type chunk. chunk) (form_of sizes type fill) held result
-
--- a container of the chunk that a value stands for is answered, or the first error
-abbrev pub Reads : VlenV2Codec → List ℕ → ElementType → List ℕ → CowSlice ℕ Global → Result Held CodecError → Type 0
-Reads codec sizes type fill given result = DecodesBy (vlen_v2_chunk codec) (form_of sizes type fill) (items_of given) result
-
--- no value of fewer bytes is answered, or the first error is
-abbrev pub Compacts : VlenV2Codec → List ℕ → ElementType → List ℕ → CowSlice ℕ Global → Result (Option (CowSlice ℕ Global)) CodecError → Type 0
-Compacts codec sizes type fill given result =
-    CompactsNone (λ form _. seen (λ _. tt) (vlen_v2_represented codec form)) (form_of sizes type fill) (items_of given) result
-
--- the same; `OutOfMemory` never comes in its place
-abbrev pub CompactsNow : VlenV2Codec → List ℕ → ElementType → List ℕ → Result (Option (CowSlice ℕ Global)) CodecError → Type 0
-CompactsNow codec sizes type fill result = result ≡ seen (λ _. None) (vlen_v2_represented codec (form_of sizes type fill))

@@ -1,14 +1,13 @@
 -- The metadata of the codecs `vlen-utf8` and `vlen-bytes`, which have no settings.
-use Rattle.std.specs.Prelude.{◌≡◌, ℕ, Bool, List, Option, Some, None, is_some, ok_or, Result, Ok, codes, if◌then◌else◌}
+use Rattle.std.specs.Prelude.{ℕ, Bool, List, Option, Some, None, is_some, ok_or, Result, Ok, codes, if◌then◌else◌}
 use Rattle.std.specs.Str.{bytes_eq}
 use Rattle.zarrs_chunk.specs.Answer.{◌>>=◌}
-use Rattle.zarrs_metadata.specs.CodecMetadata.{members_of, codec_metadata}
+use Rattle.zarrs_metadata.specs.CodecMetadata.{members_of}
 use Rattle.zarrs_metadata.specs.Data.{Members}
 use Rattle.zarrs_metadata.specs.Metadata.{Metadata}
 use Rattle.zarrs_metadata.specs.SqueezeConfiguration.{read_squeeze, write_squeeze}
 use Rattle.zarrs_metadata.specs.declared.plugin_create_error.PluginCreateError.{PluginCreateError}
 use Rattle.zarrs_metadata.specs.declared.plugin_create_error.PluginCreateError.TheVariants.{UnknownName}
-use Rattle.zarrs_codec.specs.MadeAgain.{MadeAgain}
 use Rattle.zarrs_vlen_v2.specs.declared.vlen_v2_codec.VlenV2Codec.{VlenV2Codec}
 use Rattle.zarrs_vlen_v2.specs.declared.vlen_v2_codec.VlenV2Codec.TheVariants.{Utf8, Bytes}
 
@@ -37,11 +36,3 @@ vlen_v2_made metadata = do
 -- the configuration that is written, which has no members
 abbrev pub write_vlen_v2 : Members
 write_vlen_v2 = write_squeeze
-
--- the configuration that is written makes the codec again
-abbrev pub MakesVlenV2Again : {W : Type 0} → (W → Members) → Result (Option W) PluginCreateError → VlenV2Codec → Type 0
-MakesVlenV2Again members result codec = MadeAgain members result vlen_v2_made (vlen_v2_name codec) codec
-
--- what is written of a codec makes an equal one
-abbrev pub CodecsMadeAgain : Type 0
-CodecsMadeAgain = (codec : VlenV2Codec) → vlen_v2_made (codec_metadata (vlen_v2_name codec) write_vlen_v2) ≡ Ok codec

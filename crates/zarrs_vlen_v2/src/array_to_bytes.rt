@@ -7,11 +7,14 @@ use zarrs_codec::{ArrayToBytesCodecTraits, BytesRepresentation};
 use zarrs_data_type::{DataType, FillValue};
 
 impl ArrayToBytesCodecTraits for VlenV2Codec {
-    ghost use Rattle.std.specs.Prelude.{IfOk};
+    ghost use Rattle.std.specs.Prelude.{◌≡◌, IfOk, None};
     ghost use Rattle.zarrs_chunk.specs.Answer.{seen};
+    ghost use Rattle.zarrs_data_type.specs.Form.{form_of};
+    ghost use Rattle.zarrs_array_bytes.specs.Held.{items_of};
     ghost use Rattle.zarrs_array_bytes.specs.Tight.{IsTight};
-    ghost use Rattle.zarrs_codec.specs.ChunkCodec.{GivesValid};
-    ghost use Rattle.zarrs_vlen_v2.specs.VlenV2Codec.{vlen_v2_represented, vlen_v2_value, vlen_v2_chunk, Represents, RepresentsNow, Writes, WritesAgain, Reads, Compacts, CompactsNow};
+    ghost use Rattle.zarrs_codec.specs.ChunkCodec.{CompactsNone, DecodesBy, EncodesBy, GivesValid, RepresentsBy};
+    ghost use Rattle.zarrs_codec.specs.CodecMembers.{DecodesAgain};
+    ghost use Rattle.zarrs_vlen_v2.specs.VlenV2Codec.{vlen_v2_represented, vlen_v2_value, vlen_v2_chunk, VlenV2RepresentsNow};
 
     ghost represented = { λ codec form. vlen_v2_represented codec form };
 
@@ -32,8 +35,9 @@ impl ArrayToBytesCodecTraits for VlenV2Codec {
         data_type: &DataType,
         fill_value: &FillValue,
     ) -> Result<BytesRepresentation, CodecError>
-        ensures answer { Represents self.now shape.now data_type.now fill_value.now result }
-        ensures in_place { RepresentsNow self.now shape.now data_type.now fill_value.now result }
+        ensures answer { RepresentsBy (vlen_v2_represented self.now)
+            (form_of shape.now data_type.now fill_value.now) result }
+        ensures in_place { VlenV2RepresentsNow self.now shape.now data_type.now fill_value.now result }
     {
         VlenV2Codec::encoded_representation(self, shape, data_type, fill_value)
     }
@@ -46,10 +50,10 @@ impl ArrayToBytesCodecTraits for VlenV2Codec {
         data_type: &DataType,
         fill: &FillValue,
     ) -> Result<ArrayBytesRaw<'a>, CodecError>
-        ensures answer { Writes self.now shape.now data_type.now fill.now given.entry result }
-        // Wide: the three parameters of a form, the elements and the answer.
-        ensures decoded_again { WritesAgain self.now
-            shape.now data_type.now fill.now given.entry result }
+        ensures answer { EncodesBy (vlen_v2_value self.now)
+            (form_of shape.now data_type.now fill.now) given.entry result }
+        ensures decoded_again { DecodesAgain (vlen_v2_chunk self.now) (λ _ chunk. chunk)
+            (form_of shape.now data_type.now fill.now) given.entry result }
     {
         VlenV2Codec::encode(self, alloc, given, shape, data_type, fill)
     }
@@ -63,7 +67,8 @@ impl ArrayToBytesCodecTraits for VlenV2Codec {
         data_type: &DataType,
         fill: &FillValue,
     ) -> Result<ArrayBytes<'a>, CodecError>
-        ensures answer { Reads self.now shape.now data_type.now fill.now value.entry result }
+        ensures answer { DecodesBy (vlen_v2_chunk self.now)
+            (form_of shape.now data_type.now fill.now) (items_of value.entry) result }
         ensures valid { GivesValid data_type.now shape.now result }
         ensures tight { IfOk result (IsTight data_type.now) }
     {
@@ -80,10 +85,10 @@ impl ArrayToBytesCodecTraits for VlenV2Codec {
         data_type: &DataType,
         fill_value: &FillValue,
     ) -> Result<Option<ArrayBytesRaw<'a>>, CodecError>
-        // Wide: the three parameters of a form, the value and the answer.
-        ensures answer { Compacts self.now
-            shape.now data_type.now fill_value.now value.entry result }
-        ensures in_place { CompactsNow self.now shape.now data_type.now fill_value.now result }
+        ensures answer { CompactsNone (λ form _. seen (λ _. tt) (vlen_v2_represented self.now form))
+            (form_of shape.now data_type.now fill_value.now) (items_of value.entry) result }
+        ensures in_place { result ≡ seen (λ _. None)
+            (vlen_v2_represented self.now (form_of shape.now data_type.now fill_value.now)) }
     {
         VlenV2Codec::encoded_representation(self, shape, data_type, fill_value)?;
         Ok(None)

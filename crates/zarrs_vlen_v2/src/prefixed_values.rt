@@ -1,10 +1,14 @@
 //! Elements in a row, each behind its length: written, and read again.
-ghost use Rattle.std.specs.Prelude.{◌≡◌, ◌+◌, ◌<◌, ◌≤◌, IfOk, OnOk, length, take, drop, true};
+ghost use Rattle.std.specs.Prelude.{◌≡◌, ◌+◌, ◌-◌, ◌<◌, ◌≤◌, IfOk, length, map, take, drop, true};
+ghost use Rattle.std.specs.List.{range_with_len};
 ghost use Rattle.zarrs_chunk.specs.Answer.{seen, Appends, Gives, GivesItems};
 ghost use Rattle.zarrs_chunk.specs.declared.codec_error.CodecError.TheVariants.{InvalidBytesLength};
+ghost use Rattle.zarrs_data_type.specs.Element.{plain};
 ghost use Rattle.zarrs_array_bytes.specs.Elements.{cut};
 ghost use Rattle.zarrs_array_bytes.specs.Offsets.{is_offsets, last_of};
-ghost use Rattle.zarrs_vlen_v2.specs.PrefixedValues.{number_fits, cut_elements, element_in, GivesParts};
+ghost use Rattle.zarrs_array_bytes.specs.Pieces.{bytes_with_offsets};
+ghost use Rattle.zarrs_bytes.specs.ByteOrder.{bytes_of};
+ghost use Rattle.zarrs_vlen_v2.specs.PrefixedValues.{number_fits, element_in};
 ghost use Rattle.zarrs_vlen_v2.specs.VlenV2Codec.{u32_bytes, u32_of, fits_u32, prefixed, prefixed_value as prefixed_value_of, elements_in};
 
 use std::alloc::{AllocError, Global};
@@ -74,7 +78,8 @@ pub(crate) fn prefixed_value(
 ) -> Result<Vec<u8>, CodecError>
     requires rising { is_offsets offsets.now ≡ true }
     requires ending { last_of offsets.now ≡ length bytes.now }
-    ensures answer { GivesItems result (prefixed_value_of (cut_elements offsets.now bytes.now)) }
+    ensures answer { GivesItems result (prefixed_value_of (map (λ place. plain
+        (cut offsets.now bytes.now place)) (range_with_len 0 (length offsets.now - 1)))) }
 {
     let count = offsets.len() - 1;
     check_number(count)?;
@@ -103,9 +108,7 @@ pub(crate) fn wrong_length(value: &[u8], due: usize) -> CodecError
 /// there, or as many as they say.
 fn next_element<'a>(value: &'a [u8], at: usize) -> Result<&'a [u8], CodecError>
     requires inside { at ≤ length value.now }
-    // Wide: the value, the place and the rest of the value from there on.
-    ensures answer { seen (λ element. element.now) result
-        ≡ element_in (length value.now) at (drop at value.now) }
+    ensures answer { seen (λ element. element.now) result ≡ element_in value.now at }
     ensures inside { IfOk result (λ element. at + 4 + length element.now ≤ length value.now) }
 {
     let row = &value[at..];
@@ -128,9 +131,8 @@ pub(crate) fn prefixed_parts(
     count: usize,
 ) -> Result<(Vec<u8>, Vec<usize>), CodecError>
     requires len { 4 ≤ length value.now }
-    // Wide: the value, and its row of elements.
-    ensures answer { GivesParts result
-        (elements_in count (length value.now) 4 (drop 4 value.now)) }
+    ensures answer { Gives (λ parts. (parts.0.items, parts.1.items)) result (seen
+        (bytes_with_offsets bytes_of) (elements_in count (length value.now) 4 (drop 4 value.now))) }
     ensures rising { IfOk result (λ parts. is_offsets parts.1.items ≡ true) }
     ensures ending { IfOk result (λ parts. last_of parts.1.items ≡ length parts.0.items) }
 {

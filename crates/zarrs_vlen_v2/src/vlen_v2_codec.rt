@@ -1,16 +1,16 @@
 //! The codecs `vlen-utf8` and `vlen-bytes` over whole chunks.
-ghost use Rattle.std.specs.Prelude.{◌≡◌, Some, Ok, IfOk, false};
-ghost use Rattle.zarrs_chunk.specs.Answer.{is_fault};
+ghost use Rattle.std.specs.Prelude.{◌≡◌, Some, Ok, false};
 ghost use Rattle.zarrs_metadata.specs.MetadataV3.{configuration_seen, MakesConfiguration};
 ghost use Rattle.zarrs_data_type.specs.Form.{form_of};
 ghost use Rattle.zarrs_array_bytes.specs.Held.{items_of};
-ghost use Rattle.zarrs_array_bytes.specs.Tight.{IsTight, GivesFlush};
+ghost use Rattle.zarrs_array_bytes.specs.Tight.{GivesFlush};
 ghost use Rattle.zarrs_codec.specs.Grammar.{Encodes, Decodes};
+ghost use Rattle.zarrs_codec.specs.MadeAgain.{MadeAgain};
 ghost use Rattle.zarrs_codec.specs.declared.capabilities.PartialDecoderCapability.{PartialDecoderCapability};
 ghost use Rattle.zarrs_codec.specs.declared.capabilities.PartialEncoderCapability.{PartialEncoderCapability};
-ghost use Rattle.zarrs_vlen_v2.specs.VlenV2Codec.{accepts as accepts_type, error_name as error_name_of, RepresentsNow};
+ghost use Rattle.zarrs_vlen_v2.specs.VlenV2Codec.{accepts as accepts_type, error_name as error_name_of, VlenV2RepresentsNow};
 ghost use Rattle.zarrs_vlen_v2.specs.VlenV2Grammar.{vlen_v2_grammar};
-ghost use Rattle.zarrs_vlen_v2.specs.VlenV2Metadata.{vlen_v2_name, write_vlen_v2, MakesVlenV2Again};
+ghost use Rattle.zarrs_vlen_v2.specs.VlenV2Metadata.{vlen_v2_made, vlen_v2_name, write_vlen_v2};
 
 use crate::prefixed_values::{
     NUMBER_SIZE, prefixed_parts, prefixed_value, read_number, wrong_length,
@@ -81,8 +81,7 @@ impl VlenV2Codec {
         data_type: &DataType,
         _fill_value: &FillValue,
     ) -> Result<BytesRepresentation, CodecError>
-        // Wide: the three parameters of a form have the Rust crate's names.
-        ensures answer { RepresentsNow self.now shape.now data_type.now _fill_value.now result }
+        ensures answer { VlenV2RepresentsNow self.now shape.now data_type.now _fill_value.now result }
     {
         if !self.accepts(data_type) {
             return Err(CodecError::UnsupportedDataType(self.error_name()));
@@ -103,7 +102,6 @@ impl VlenV2Codec {
         data_type: &DataType,
         fill_value: &FillValue,
     ) -> Result<ArrayBytesRaw<'a>, CodecError>
-        // Wide: the three parameters of a form have the Rust crate's names.
         ensures encodes { Encodes (vlen_v2_grammar self.now)
             (form_of shape.now data_type.now fill_value.now) elements.entry result }
     {
@@ -128,7 +126,6 @@ impl VlenV2Codec {
         data_type: &DataType,
         fill_value: &FillValue,
     ) -> Result<ArrayBytes<'a>, CodecError>
-        // Wide: the three parameters of a form have the Rust crate's names.
         ensures decodes { Decodes (vlen_v2_grammar self.now)
             (form_of shape.now data_type.now fill_value.now) (items_of value.entry) result }
         ensures flush { GivesFlush result }
@@ -169,7 +166,8 @@ impl CodecTraits for VlenV2Codec {
     /// It never fails.
     fn configuration(&self, alloc: Global) -> Result<Option<Configuration>, PluginCreateError>
         ensures answer { MakesConfiguration result (Ok (Some write_vlen_v2)) }
-        ensures made_again { MakesVlenV2Again configuration_seen result self.now }
+        ensures made_again { MadeAgain
+            configuration_seen result vlen_v2_made (vlen_v2_name self.now) self.now }
     {
         let configuration = SqueezeCodecConfiguration::V0(SqueezeCodecConfigurationV0 {});
         Ok(Some(configuration.to_configuration(alloc)))

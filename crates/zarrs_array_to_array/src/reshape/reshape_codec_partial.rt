@@ -1,7 +1,9 @@
 //! The codec `reshape` in part.
 ghost use Rattle.std.specs.Prelude.{◌≡◌, IfOk, IfErr};
+ghost use Rattle.zarrs_array_to_array.specs.ArrayToArrayCodec.{reshape};
 ghost use Rattle.zarrs_array_to_array.specs.ArrayToArrayCodecPartial.{input_of};
-ghost use Rattle.zarrs_array_to_array.specs.Stages.{MakesReshaperParts, MakesReshaper, IsStageOf};
+ghost use Rattle.zarrs_array_to_array.specs.Stages.{MakesReshaper, IsStageOf, MakesParts};
+ghost use Rattle.zarrs_data_type.specs.Form.{form_of};
 
 use crate::array_to_array_codec_partial::{ArrayToArrayCodecPartial, partial_decoder_of};
 use crate::reshape::reshape_codec::ReshapeCodec;
@@ -25,7 +27,7 @@ impl ReshapeCodec {
         data_type: &DataType,
         fill_value: &FillValue,
     ) -> Result<(ReshapeCodec, ChunkShape), CodecError>
-        ensures answer { MakesReshaperParts self.now shape.now data_type.now fill_value.now result }
+        ensures answer { MakesParts (λ codec. codec) self.now (reshape self.now) (form_of shape.now data_type.now fill_value.now) result }
     {
         self.encoded_representation(alloc, shape, data_type, fill_value)?;
         let codec = self.clone()?;

@@ -1,7 +1,9 @@
 //! The axes of a chunk in an order, and the places of their tuples.
 ghost use Rattle.std.specs.Prelude.{◌≡◌, ◌<◌, ◌≤◌, ◌^◌, ◌+◌, ◌*◌, ◌++◌, ◌∷◌, [], length, All, IfOk, IfSome, OnOk};
 ghost use Rattle.zarrs_chunk.specs.ChunkShape.{product};
-ghost use Rattle.zarrs_array_to_array.specs.Axes.{behind, reach, axes_of, axes_places, HaveBehind, ReachBehind, HavePlacesOf, ReachWithin, ordered_places, last_ordered_place};
+ghost use Rattle.zarrs_array_to_array.specs.Axes.{behind, reach, axes_of, axes_places, HaveBehind, ReachBehind};
+ghost use Rattle.zarrs_array_to_array.specs.Orders.{permuted};
+ghost use Rattle.zarrs_array_to_array.specs.Strides.{all_stepped, last_tuple, stepped, strides};
 
 use crate::transpose::strides::{strides, write_rows};
 use std::alloc::{AllocError, Global};
@@ -85,8 +87,8 @@ fn axes_in_order(
 ) -> Result<Vec<Axis>, AllocError>
     requires sizes { All (λ axis. axis < length sizes.now) order.now }
     requires steps { All (λ axis. axis < length steps.now) order.now }
-    ensures places { HavePlacesOf (axes_of sizes.now steps.now order.now) result }
-    ensures reach { ReachWithin (axes_of sizes.now steps.now order.now) result }
+    ensures places { IfOk result (λ v. axes_places v.items ≡ axes_places (axes_of sizes.now steps.now order.now)) }
+    ensures reach { IfOk result (λ v. reach v.items ≤ reach (axes_of sizes.now steps.now order.now)) }
     ensures plane { IfOk result (λ v. 2 ≤ length v.items) }
 {
     let mut axes = Vec::with_capacity(alloc, order.len() + 2)?;
@@ -111,8 +113,8 @@ pub(crate) fn ordered_axes(
     requires order { All (λ axis. axis < length sizes.now) order.now }
     requires positive { All (λ size. 0 < size) sizes.now }
     requires fits { product sizes.now < 2 ^ 64 }
-    ensures places { IfOk result (λ v. axes_places v.items ≡ ordered_places order.now sizes.now) }
-    ensures reach { IfOk result (λ v. reach v.items ≤ last_ordered_place order.now sizes.now) }
+    ensures places { IfOk result (λ v. axes_places v.items ≡ all_stepped (permuted order.now sizes.now) (permuted order.now (strides sizes.now))) }
+    ensures reach { IfOk result (λ v. reach v.items ≤ stepped (permuted order.now (strides sizes.now)) (last_tuple (permuted order.now sizes.now))) }
     ensures plane { IfOk result (λ v. 2 ≤ length v.items) }
 {
     let steps = strides(alloc, sizes)?;

@@ -3,7 +3,7 @@
 //! larger parts, and each of these reads waits for the writes.
 ghost use Rattle.std.specs.Prelude.{◌≡◌, ◌+◌, ◌*◌, ◌≤◌, ◌<◌, ◌++◌, length};
 ghost use Rattle.std.specs.List.{between};
-ghost use Rattle.zarrs_array_to_array.specs.Axes.{stretches_at, RowInside, AppendsRow};
+ghost use Rattle.zarrs_array_to_array.specs.Axes.{stretches_at, RowInside};
 ghost use Rattle.zarrs_array_to_array.specs.Strides.{row};
 
 use std::alloc::AllocError;

@@ -1,11 +1,12 @@
 //! An indexer of a chunk as one of the transposed chunk.
-ghost use Rattle.std.specs.Prelude.{◌≡◌, ◌<◌, ◌==◌, Ok, true, length, IfOk};
+ghost use Rattle.std.specs.Prelude.{◌≡◌, ◌<◌, ◌==◌, Ok, true, length, IfOk, map};
 ghost use Rattle.std.specs.List.{list_all};
 ghost use Rattle.zarrs_chunk.specs.Indexer.{selection_of};
-ghost use Rattle.zarrs_chunk.specs.Selection.{bounds_of, len_of};
+ghost use Rattle.zarrs_chunk.specs.Selection.{bounds_of, len_of, indices, tuples_of};
 ghost use Rattle.zarrs_metadata.specs.Orders.{is_order};
 ghost use Rattle.zarrs_array_to_array.specs.Boxes.{tuples_in, ordered_tuples as ordered_tuples_of};
-ghost use Rattle.zarrs_array_to_array.specs.EncodedSelection.{GivesOrdered};
+ghost use Rattle.zarrs_array_to_array.specs.Orders.{permuted};
+ghost use Rattle.zarrs_chunk.specs.Answer.{Gives};
 
 use crate::boxes::ordered_box;
 use crate::transpose::strides::permute;
@@ -41,7 +42,7 @@ pub(crate) fn ordered_indexer(
     requires axes { length order.now ≡ length sizes.now }
     requires inside { bounds_of (selection_of indexer.now) sizes.now ≡ Ok tt }
     requires count { len_of (selection_of indexer.now) ≡ Ok count }
-    ensures answer { GivesOrdered order.now indexer.now result }
+    ensures answer { Gives selection_of result (Ok (indices (map (permuted order.now) (tuples_of (selection_of indexer.now))))) }
 {
     match indexer {
         Indexer::Subset(subset) => {

@@ -1,7 +1,9 @@
 //! The elements of a chunk, appended row by row and plane by plane.
-ghost use Rattle.std.specs.Prelude.{◌≡◌, ◌<◌, ◌≤◌, ◌+◌, ◌*◌, length, IfOk};
+ghost use Rattle.std.specs.Prelude.{◌≡◌, ◌<◌, ◌≤◌, ◌+◌, ◌*◌, length, IfOk, ◌∷◌, []};
 ghost use Rattle.zarrs_array_bytes.specs.Pieces.{pieces_at};
-ghost use Rattle.zarrs_array_to_array.specs.Axes.{reach, axes_places, plane_end, AppendsStretches, AppendsElements, AppendsColumns, AppendsBlock, AppendsPlane};
+ghost use Rattle.zarrs_array_to_array.specs.Axes.{reach, axes_places, plane_end, AppendsColumns, AppendsPlane, behind, stretches_at};
+ghost use Rattle.zarrs_array_to_array.specs.Strides.{next_rows, row};
+ghost use Rattle.zarrs_chunk.specs.Answer.{Appends};
 
 use crate::transpose::axis::Axis;
 use crate::transpose::row_groups::append_row;
@@ -23,7 +25,7 @@ fn append_columns(
 ) -> Result<(), AllocError>
     requires sized { 0 < size }
     requires whole { length block.now ≡ count * (width * size) }
-    ensures appended { AppendsBlock size count width block.now out.old out.new result }
+    ensures appended { Appends out.old out.new result (pieces_at size block.now (next_rows width count (row 0 1 width))) }
 {
     for column in 0..width {
         let axis = Axis {
@@ -47,7 +49,7 @@ fn append_stretches(
     requires sized { 0 < size }
     requires axes { 1 ≤ length axes.now }
     requires inside { (front + reach axes.now) * size + len ≤ length bytes.now }
-    ensures appended { AppendsStretches len size front axes.now bytes.now out.old out.new result }
+    ensures appended { Appends out.old out.new result (stretches_at len size bytes.now (behind axes.now (front ∷ []))) }
 {
     let first = axes[0];
     if axes.len() == 1 {
@@ -182,7 +184,7 @@ fn append_axes(
     requires sized { 0 < size }
     requires plane { 2 ≤ length axes.now }
     requires inside { (front + reach axes.now + 1) * size ≤ length bytes.now }
-    ensures appended { AppendsElements size front axes.now bytes.now out.old out.new result }
+    ensures appended { Appends out.old out.new result (pieces_at size bytes.now (behind axes.now (front ∷ []))) }
 {
     let first = axes[0];
     let wide = (BLOCK / size).min(first.size / 2);

@@ -1,6 +1,6 @@
 //! The elements of a row, appended in groups: many small moves, and few appends.
 ghost use Rattle.std.specs.Prelude.{◌≡◌, ◌<◌, ◌≤◌, ◌*◌, ◌^◌, length};
-ghost use Rattle.zarrs_array_to_array.specs.Axes.{stretches_at, RowInside, AppendsRow, AppendsGroups, AppendsAlong};
+ghost use Rattle.zarrs_array_to_array.specs.Axes.{stretches_at, RowInside, AppendsRow, AppendsAlong};
 ghost use Rattle.zarrs_array_to_array.specs.Strides.{row};
 
 use crate::transpose::axis::Axis;
@@ -174,7 +174,7 @@ fn append_groups(
     requires fits { groups * 8 < 2 ^ 64 }
     requires sized { 0 < size }
     requires inside { RowInside len size front step (groups * 8) bytes.now }
-    ensures appended { AppendsGroups len size front step groups bytes.now out.old out.new result }
+    ensures appended { AppendsRow len size front step (groups * 8) bytes.now out.old out.new result }
 {
     for index in 0..groups {
         append_group(out, bytes, size, front + index * GROUP * step, step, len)?;

@@ -1,7 +1,9 @@
 //! The codec `transpose` in part.
 ghost use Rattle.std.specs.Prelude.{◌≡◌, IfOk, IfErr};
+ghost use Rattle.zarrs_array_to_array.specs.ArrayToArrayCodec.{transpose};
 ghost use Rattle.zarrs_array_to_array.specs.ArrayToArrayCodecPartial.{input_of};
-ghost use Rattle.zarrs_array_to_array.specs.Stages.{MakesTransposerParts, MakesTransposer, IsStageOf};
+ghost use Rattle.zarrs_array_to_array.specs.Stages.{MakesTransposer, IsStageOf, MakesParts};
+ghost use Rattle.zarrs_data_type.specs.Form.{form_of};
 
 use crate::array_to_array_codec_partial::{ArrayToArrayCodecPartial, partial_decoder_of};
 use crate::transpose::transpose_codec::TransposeCodec;
@@ -25,7 +27,7 @@ impl TransposeCodec {
         data_type: &DataType,
         fill: &FillValue,
     ) -> Result<(TransposeCodec, ChunkShape), CodecError>
-        ensures answer { MakesTransposerParts self.now shape.now data_type.now fill.now result }
+        ensures answer { MakesParts (λ codec. codec) self.now (transpose self.now) (form_of shape.now data_type.now fill.now) result }
     {
         self.encoded_representation(alloc, shape, data_type, fill)?;
         let codec = self.clone()?;

@@ -1,10 +1,11 @@
 //! The elements of a transposed chunk, where all have one size.
-ghost use Rattle.std.specs.Prelude.{◌≡◌, ◌<◌, ◌*◌, ◌^◌, true, length, All};
+ghost use Rattle.std.specs.Prelude.{◌≡◌, ◌<◌, ◌*◌, ◌^◌, true, length, All, Ok};
+ghost use Rattle.zarrs_array_bytes.specs.Pieces.{fixed_of};
 ghost use Rattle.zarrs_chunk.specs.ChunkShape.{product};
 ghost use Rattle.zarrs_metadata.specs.Orders.{is_order};
 ghost use Rattle.zarrs_array_to_array.specs.Transpose.{transposed_bytes};
-ghost use Rattle.zarrs_array_to_array.specs.TransposeCodec.{GivesFixed};
 ghost use Rattle.zarrs_array_to_array.specs.Vectors.{ItemsAre};
+ghost use Rattle.zarrs_chunk.specs.Answer.{GivesValue};
 
 use crate::transpose::axis::ordered_axes;
 use crate::transpose::planes::gather_axes;
@@ -47,7 +48,7 @@ pub(crate) fn transpose_fixed<'b>(
     requires fits { product sizes.now < 2 ^ 64 }
     requires sized { 0 < size }
     requires whole { length bytes.now ≡ product sizes.now * size }
-    ensures exact { GivesFixed (transposed_bytes size order.now sizes.now bytes.now) result }
+    ensures exact { GivesValue result (Ok (fixed_of (transposed_bytes size order.now sizes.now bytes.now))) }
 {
     let bytes = transposed_pieces(alloc, bytes, size, order, sizes)?;
     Ok(ArrayBytes::new_flen(CowSlice::Owned(bytes)))

@@ -9,12 +9,12 @@ use std::process::Abort;
 use zarrs_metadata::{
     BytesCodecConfiguration, Configuration, MetadataV3, OptionalCodecConfiguration,
     PackBitsCodecConfiguration, PackBitsCodecConfigurationV1, PackBitsPaddingEncoding,
-    PluginCreateError, ReshapeCodecConfiguration, SqueezeCodecConfiguration,
-    TransposeCodecConfiguration, VlenCodecConfiguration,
+    PluginCreateError, ReshapeCodecConfiguration, ShardingCodecConfiguration,
+    SqueezeCodecConfiguration, TransposeCodecConfiguration, VlenCodecConfiguration,
 };
 
 /// The tree of a text that reads.
-fn tree(alloc: Global, text: &str) -> Result<Value, PluginCreateError> {
+pub(crate) fn tree(alloc: Global, text: &str) -> Result<Value, PluginCreateError> {
     match Value::from_str(alloc, text) {
         Ok(tree) => Ok(tree),
         Err(_) => Err(PluginCreateError::OutOfMemory),
@@ -22,7 +22,7 @@ fn tree(alloc: Global, text: &str) -> Result<Value, PluginCreateError> {
 }
 
 /// The configuration that a tree is.
-fn members(tree: &Value) -> Result<&Configuration, PluginCreateError> {
+pub(crate) fn members(tree: &Value) -> Result<&Configuration, PluginCreateError> {
     match tree {
         Value::Object(members) => Ok(members),
         _ => Err(PluginCreateError::UnknownName),
@@ -40,6 +40,7 @@ enum Kind {
     PackBits,
     Vlen,
     Optional,
+    Sharding,
 }
 
 /// A text, and how it is written again.
@@ -115,6 +116,16 @@ const ROWS: &'static [Row] = &[
         read: r#"{"mask_codecs":[],"data_codecs":[{"name":"x","must_understand":false}]}"#,
         again: r#"{"data_codecs":[{"must_understand":false,"name":"x"}],"mask_codecs":[]}"#,
     },
+    Row {
+        kind: Kind::Sharding,
+        read: r#"{"chunk_shape":[2,3],"codecs":["bytes",{"name":"crc32c"}],"index_codecs":[{"name":"bytes","configuration":{"endian":"little"}},"crc32c"]}"#,
+        again: r#"{"chunk_shape":[2,3],"codecs":["bytes","crc32c"],"index_codecs":[{"configuration":{"endian":"little"},"name":"bytes"},"crc32c"],"index_location":"end"}"#,
+    },
+    Row {
+        kind: Kind::Sharding,
+        read: r#"{"other":7,"index_location":"start","index_codecs":[],"codecs":[],"chunk_shape":[]}"#,
+        again: r#"{"chunk_shape":[],"codecs":[],"index_codecs":[],"index_location":"start"}"#,
+    },
 ];
 
 fn rewrite_metadata(alloc: Global, tree: &Value) -> Result<Value, PluginCreateError> {
@@ -171,6 +182,14 @@ fn rewrite_optional(
     read.to_configuration(alloc)
 }
 
+fn rewrite_sharding(
+    alloc: Global,
+    read: &Configuration,
+) -> Result<Configuration, PluginCreateError> {
+    let read = ShardingCodecConfiguration::from_configuration(alloc, read)?;
+    read.to_configuration(alloc)
+}
+
 /// What is written of a configuration that is read.
 fn rewrite_configuration(
     alloc: Global,
@@ -184,6 +203,7 @@ fn rewrite_configuration(
         Kind::PackBits => rewrite_packbits(alloc, read),
         Kind::Vlen => rewrite_vlen(alloc, read),
         Kind::Optional => rewrite_optional(alloc, read),
+        Kind::Sharding => rewrite_sharding(alloc, read),
         _ => rewrite_squeeze(alloc, read),
     }
 }

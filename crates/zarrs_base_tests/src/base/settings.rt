@@ -1,13 +1,14 @@
-//! Settings of codecs: orders of axes, sizes of a reshaped chunk, and where the offsets of `vlen`
-//! stand. What is read as one, and what is rejected, is played in the transcripts of the tool.
+//! Settings of codecs: orders of axes, sizes of a reshaped chunk, and where the offsets of `vlen` and
+//! the index of `sharding_indexed` stand. What is read as one, and what is rejected, is played in the
+//! transcripts of the tool.
 
 use crate::base::checks::{are, gives, is};
 use std::alloc::Global;
 use std::process::Abort;
 use zarrs_data_type::Endianness;
 use zarrs_metadata::{
-    PluginCreateError, ReshapeDim, ReshapeShape, TransposeOrder, VlenIndexDataType,
-    VlenIndexLocation, count_autos,
+    PluginCreateError, ReshapeDim, ReshapeShape, ShardingIndexLocation, TransposeOrder,
+    VlenIndexDataType, VlenIndexLocation, count_autos,
 };
 
 fn is_order(rt: &impl Abort, made: &TransposeOrder) -> Result<(), PluginCreateError> {
@@ -56,6 +57,8 @@ fn have_defaults(rt: HostRuntime) {
     is(&rt, "default", &default, &VlenIndexLocation::Start);
     let end = default == VlenIndexLocation::End;
     is(&rt, "locations", &end, &false);
+    let default = ShardingIndexLocation::default();
+    is(&rt, "index", &default, &ShardingIndexLocation::End);
     let same = VlenIndexDataType::UInt32 == VlenIndexDataType::UInt64;
     is(&rt, "widths", &same, &false);
 }

@@ -1,7 +1,7 @@
 //! Which call of a handle fails, and what came of the calls.
-ghost use Rattle.std.specs.Prelude.{◌≡◌};
+ghost use Rattle.std.specs.Prelude.{◌≡◌, ◌+◌, ◌%◌, ◌^◌, Some};
 ghost use Rattle.zarrs_chunk.specs.Answer.{is_fault};
-ghost use Rattle.zarrs_codec.specs.FailingCall.{FailsInTurn, failure_due, none_made, one_accepted, one_failed, one_more, one_writes, turn_of};
+ghost use Rattle.zarrs_codec.specs.FailingCall.{FailsInTurn, failure_due, none_made, turn_of, turn_after};
 ghost use Rattle.zarrs_codec.specs.HandleCalls.{Tells};
 ghost use Rattle.zarrs_codec.specs.StorageState.{count_if, last_failure};
 
@@ -37,7 +37,8 @@ impl FailingCall {
     /// Counts a call. It is to fail where it is its turn.
     pub(crate) fn next(&mut self) -> Option<StorageError>
         ensures due { result ≡ failure_due (turn_of self.old) }
-        ensures counted { self.new ≡ one_more self.old }
+        ensures counted { self.new
+            ≡ record self.old { left = (turn_after (turn_of self.old)).left } }
     {
         let due = self.left == 1;
         self.left = self.left.saturating_sub(1);
@@ -51,7 +52,8 @@ impl FailingCall {
     /// Counts a failure, and makes the error of it.
     pub(crate) fn fail(&mut self, failure: StorageError) -> CodecError
         ensures refusal { result ≡ CodecError.Storage failure }
-        ensures counted { self.new ≡ one_failed failure self.old }
+        ensures counted { self.new
+            ≡ record self.old { faults = (self.old.faults + 1) % 2 ^ 64; failure = Some failure } }
     {
         self.faults = self.faults.wrapping_add(1);
         self.failure = Some(failure);
@@ -60,14 +62,16 @@ impl FailingCall {
 
     /// Counts a writing call.
     pub(crate) fn count_write(&mut self)
-        ensures counted { self.new ≡ one_writes self.old }
+        ensures counted { self.new
+            ≡ record self.old { write_calls = (self.old.write_calls + 1) % 2 ^ 64 } }
     {
         self.write_calls = self.write_calls.wrapping_add(1);
     }
 
     /// Counts a writing call that was accepted.
     pub(crate) fn accept_write(&mut self)
-        ensures counted { self.new ≡ one_accepted self.old }
+        ensures counted { self.new
+            ≡ record self.old { accepted_writes = (self.old.accepted_writes + 1) % 2 ^ 64 } }
     {
         self.accepted_writes = self.accepted_writes.wrapping_add(1);
     }

@@ -1,9 +1,9 @@
 //! A handle that is read inside some ranges alone.
-ghost use Rattle.std.specs.Prelude.{◌≡◌, ◌-◌, Ok, Some, None, true, false, MatchOption};
+ghost use Rattle.std.specs.Prelude.{◌≡◌, ◌-◌, Ok, Some, None, true, false, MatchOption, ◌<◌};
 ghost use Rattle.std.specs.List.{list_all, range_with_len};
 ghost use Rattle.std.specs.Option.{option_map};
 ghost use Rattle.zarrs_codec.specs.ByteRanges.{range_indices, ranges_are_sure, read_ranges};
-ghost use Rattle.zarrs_codec.specs.FencedHandle.{FailsUnless, Reach, fenced_state, is_fenced};
+ghost use Rattle.zarrs_codec.specs.FencedHandle.{FailsUnless, fenced_state, is_fenced};
 ghost use Rattle.zarrs_codec.specs.HandleCalls.{ReadsBytes, Tells};
 ghost use Rattle.zarrs_codec.specs.StorageState.{after_reading, value_is_sure};
 
@@ -15,7 +15,8 @@ use zarrs_chunk::{CodecError, StorageError};
 
 /// The end of a range that has this byte, or `None` where none has it.
 fn fence_end(ranges: &[ByteRange], byte: u64) -> Option<u64>
-    ensures end { MatchOption result (is_fenced ranges.now byte ≡ false) (Reach ranges.now byte) }
+    ensures end { MatchOption result (is_fenced ranges.now byte ≡ false) (λ end. (byte < end)
+        × (list_all (is_fenced ranges.now) (range_with_len byte (end - byte)) ≡ true)) }
 {
     for range in ranges {
         if range.start() <= byte && byte < range.end() {

@@ -5,7 +5,7 @@ ghost use Rattle.zarrs_chunk.specs.Answer.{Answers, memory};
 ghost use Rattle.zarrs_codec.specs.BytePieces.{pieces_fit};
 ghost use Rattle.zarrs_codec.specs.ByteRanges.{read_ranges};
 ghost use Rattle.zarrs_codec.specs.FailingCall.{FailsInTurn, TearsInTurn};
-ghost use Rattle.zarrs_codec.specs.WatchedHandle.{HasHalf, Tears, first_half, half_of_pieces, watched_state, watched_turn};
+ghost use Rattle.zarrs_codec.specs.WatchedHandle.{Tears, first_half, half_of_pieces, watched_state, watched_turn};
 ghost use Rattle.zarrs_codec.specs.HandleCalls.{Accepts, ReadsBytes, Tells, WritesPieces};
 ghost use Rattle.zarrs_codec.specs.MemoryHandle.{handle_value};
 ghost use Rattle.zarrs_codec.specs.StorageState.{LeftByWriting, after_reading, value_size};
@@ -51,7 +51,8 @@ fn tear_pieces(
     bytes: &[u8],
 ) -> Result<(), CodecError>
     ensures memory_alone { Answers memory (λ torn. torn) result (Ok tt) }
-    ensures torn { OnOk result (HasHalf pieces.now bytes.now handle.old handle.new) }
+    ensures torn { OnOk result
+        (handle_value handle.new ≡ half_of_pieces pieces.now bytes.now (handle_value handle.old)) }
     ensures kept { OnErr result (handle_value handle.new ≡ handle_value handle.old) }
 {
     if check_pieces(pieces, bytes.len()).is_ok() {

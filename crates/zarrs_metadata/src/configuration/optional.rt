@@ -1,6 +1,6 @@
 //! The configuration of the codec `optional`.
 ghost use Rattle.zarrs_metadata.specs.MetadataV3.{read_by, Writes};
-ghost use Rattle.std.specs.Prelude.{◌≡◌, Ok};
+ghost use Rattle.std.specs.Prelude.{Ok};
 ghost use Rattle.zarrs_metadata.specs.OptionalConfiguration.{optional_seen, read_optional, write_optional};
 ghost use Rattle.zarrs_metadata.specs.PluginCreateError.{Makes};
 

@@ -6,7 +6,7 @@ ghost use Rattle.zarrs_chunk.specs.Answer.{seen};
 ghost use Rattle.zarrs_metadata.specs.PluginCreateError.{Makes};
 ghost use Rattle.zarrs_metadata.specs.ReshapeConfiguration.{reshape_seen, dim_of_number, dim_in, dims_in, dim_tree, dims_tree, read_reshape, write_reshape};
 ghost use Rattle.zarrs_metadata.specs.ReshapeShape.{dim_of};
-ghost use Rattle.zarrs_metadata.specs.Trees.{needed, numbers_tree};
+ghost use Rattle.zarrs_metadata.specs.Trees.{needed};
 
 use crate::codec::reshape::{ReshapeDim, ReshapeShape};
 use crate::json::{member, members_hold_float, numbers_among, numbers_of};

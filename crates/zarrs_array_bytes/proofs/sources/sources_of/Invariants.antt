@@ -1,8 +1,8 @@
 use Rattle.std.proofs.Common.{◌≡◌, ◌-◌, drop, length, map}
 use Rattle.std.specs.List.{range_with_len}
 use Rattle.zarrs_array_bytes.specs.Update.{update}
-use Rattle.zarrs_array_bytes.specs.Sources.{sources}
 use Rattle.zarrs_array_bytes.specs.declared.sources.Source.TheVariants.{Old, New}
+use Rattle.zarrs_array_bytes.proofs.UpdateCalls.{sources}
 use Rattle.zarrs_array_bytes.proofs.sources.sources_of.Given as goal
 
 abbrev pub invariant-loop-place : goal.invariant-loop-place

@@ -4,11 +4,11 @@ use Rattle.zarrs_chunk.specs.Runs.{joined_runs}
 use Rattle.zarrs_chunk.specs.Answer.{Answers, memory}
 use Rattle.zarrs_array_bytes.specs.Elements.{cut}
 use Rattle.zarrs_array_bytes.specs.Pieces.{bytes_with_offsets}
-use Rattle.zarrs_array_bytes.specs.Sources.{sources, source_bytes, IsSourceOf}
+use Rattle.zarrs_array_bytes.specs.Sources.{source_bytes, IsSourceOf}
 use Rattle.zarrs_array_bytes.specs.Update.{cuts_update}
 use Rattle.zarrs_array_bytes.specs.declared.sources.Source.{Source}
 use Rattle.zarrs_array_bytes.proofs.RunLemmas.{places_below}
-use Rattle.zarrs_array_bytes.proofs.UpdateCalls.{sources_known, cuts_update-sources}
+use Rattle.zarrs_array_bytes.proofs.UpdateCalls.{sources, sources_known, cuts_update-sources}
 use Rattle.zarrs_array_bytes.proofs.sources.written_cuts.Goals as goal
 
 pub sources_of-requires : goal.sources_of-requires

@@ -7,8 +7,7 @@ use Rattle.zarrs_codec.specs.BytePieces.{pieces_fit, with_pieces}
 use Rattle.zarrs_chunk.specs.Runs.{joined_runs}
 use Rattle.zarrs_codec.specs.Calls.{after_write}
 use Rattle.zarrs_codec.specs.StorageState.{value_or_empty}
-use Rattle.zarrs_bytes.specs.PartialWrite.{byte_runs}
-use Rattle.zarrs_bytes.proofs.ByteRuns.{length-byte_runs, byte_runs-numbers, byte_runs-ready, byte_runs-written}
+use Rattle.zarrs_bytes.proofs.ByteRuns.{byte_runs, length-byte_runs, byte_runs-numbers, byte_runs-ready, byte_runs-written}
 use Rattle.zarrs_bytes.proofs.write_runs.put_runs.Given.{Over}
 use Rattle.zarrs_bytes.proofs.write_runs.put_runs.Goals as goal
 

@@ -1,5 +1,5 @@
 use Rattle.std.proofs.Common.{◌≡◌, ◌++◌, take, drop}
-use Rattle.zarrs_bytes.specs.PartialWrite.{byte_runs}
+use Rattle.zarrs_bytes.proofs.ByteRuns.{byte_runs}
 use Rattle.zarrs_bytes.proofs.write_runs.scale_runs.Given as goal
 
 abbrev pub invariant-loop-index : goal.invariant-loop-index

@@ -1,7 +1,7 @@
 use Rattle.std.proofs.Common.{◌≡◌, ◌+◌, ◌*◌, ◌∙◌, get_or, arith, sym, true}
 use Rattle.zarrs_chunk.specs.Tuples.{is_tuple_inside}
 use Rattle.zarrs_chunk.proofs.Inside.{is_tuple_inside-length, number_behind-more}
-use Rattle.zarrs_chunk.proofs.Numbers.{number_of_tuple-fails, number_of_tuple-end}
+use Rattle.zarrs_chunk.proofs.Numbers.{ravel_overflows, ravel_ends}
 use Rattle.zarrs_chunk.proofs.indices.ravel_indices.Goals as goal
 
 pub bounds-indices-axis : goal.bounds-indices-axis
@@ -14,7 +14,7 @@ returns-in_err-checked_mul c =
     let sizes = c.as_slice-sizes.result.now in
     let inside : is_tuple_inside sizes c.args.indices.now ≡ true = cc in
     let h = c.in_err-checked_mul.ensures in
-    let none = number_of_tuple-fails sizes c.args.indices.now c.loop-axis.number c.loop-axis.axis inside (omega arith) c.loop-axis.invariant.number (omega (arith, h)) in
+    let none = ravel_overflows sizes c.args.indices.now c.loop-axis.number c.loop-axis.axis inside (omega arith) c.loop-axis.invariant.number (omega (arith, h)) in
     rw (c.from_residual.ensures, ← c.as_slice-sizes.ensures.value) (record { answer = sym none })
 
 pub returns-in_err-number : goal.returns-in_err-number
@@ -23,7 +23,7 @@ returns-in_err-number c =
     let inside : is_tuple_inside sizes c.args.indices.now ≡ true = cc in
     let h = c.in_err-number.ensures in
     let product = c.in_ok-checked_mul.ensures.1 in
-    let none = number_of_tuple-fails sizes c.args.indices.now c.loop-axis.number c.loop-axis.axis inside (omega arith) c.loop-axis.invariant.number (omega (arith, h, product)) in
+    let none = ravel_overflows sizes c.args.indices.now c.loop-axis.number c.loop-axis.axis inside (omega arith) c.loop-axis.invariant.number (omega (arith, h, product)) in
     rw (c.from_residual-in_err-number.ensures, ← c.as_slice-sizes.ensures.value) (record { answer = sym none })
 
 pub loop-axis-preserved : goal.loop-axis-preserved
@@ -41,4 +41,4 @@ pub returns : goal.returns
 returns c =
     let sizes = c.as_slice-sizes.result.now in
     let inside : is_tuple_inside sizes c.args.indices.now ≡ true = cc in
-    rw (← c.as_slice-sizes.ensures.value) (record { answer = number_of_tuple-end sizes c.args.indices.now c.loop-axis.number c.loop-axis.axis inside (omega arith) (omega arith) c.loop-axis.invariant.number })
+    rw (← c.as_slice-sizes.ensures.value) (record { answer = ravel_ends sizes c.args.indices.now c.loop-axis.number c.loop-axis.axis inside (omega arith) (omega arith) c.loop-axis.invariant.number })

@@ -13,8 +13,11 @@ returns-clause-unique c = λ sizes one other p q e. same_tuple sizes one other p
 pub returns-clause-counted : goal.returns-clause-counted
 returns-clause-counted c = λ sizes. whole_places sizes
 
+pub returns-clause-inside : goal.returns-clause-inside
+returns-clause-inside c = λ sizes number h. tuple_of_number-inside sizes number h
+
 pub returns-clause-named : goal.returns-clause-named
-returns-clause-named c = λ sizes number h. (tuple_of_number-inside sizes number h, row_major-tuple_of_number sizes number h)
+returns-clause-named c = λ sizes number h. row_major-tuple_of_number sizes number h
 
 pub returns-clause-found : goal.returns-clause-found
 returns-clause-found c = λ sizes tuple h. tuple_of_number-row_major sizes tuple h

@@ -3,7 +3,7 @@ use Rattle.std.proofs.Math.Nat.{mul-le-mul_right}
 use Rattle.zarrs_packbits.proofs.bit_appends.append_by_words.Goals as goal
 use Rattle.zarrs_packbits.specs.Bits.{low_bits, field}
 use Rattle.zarrs_packbits.specs.KeptBits.{component_bits}
-use Rattle.zarrs_packbits.specs.PackedLayout.{parts_of}
+use Rattle.zarrs_packbits.specs.PackedLayout.{layout_components}
 use Rattle.zarrs_packbits.specs.WrittenBits.{written_bits}
 use Rattle.zarrs_packbits.proofs.LayoutLemmas.{more_behind}
 use Rattle.zarrs_packbits.proofs.LocalLemmas.{field_of_part}
@@ -27,7 +27,7 @@ loop-part-preserved c =
     let part = c.loop-part.part in
     let bytes = c.args.bytes.now in
     let f : ℕ → List ℕ = λ part. field l.first l.count (component_bits l.size bytes part) in
-    let cut = field_of_part l.size part (parts_of l) l.first l.count bytes c.requires.len (omega arith) (omega (arith, c.requires.layout.size)) in
+    let cut = field_of_part l.size part (layout_components l) l.first l.count bytes c.requires.len (omega arith) (omega (arith, c.requires.layout.size)) in
     record {
       bits = λ front h. more_behind front (written_bits c.loop-part.out.items c.loop-part.last c.loop-part.used) (written_bits c.append_bits.new.out.items c.in_ok-more.more c.in_ok-more.reached) (low_bits l.count c.read_within-kept.result) f part
           c.in_ok-more.ensures.bits (c.loop-part.invariant.bits front h) (c.read_within-kept.ensures.bits ∙ cut);

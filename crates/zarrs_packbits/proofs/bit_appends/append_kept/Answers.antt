@@ -3,7 +3,7 @@ use Rattle.std.proofs.lemmas.List.{take_rest, length-drop}
 use Rattle.zarrs_packbits.proofs.bit_appends.append_kept.Goals as goal
 use Rattle.zarrs_packbits.specs.Bits.{bits_of, low_bits, field}
 use Rattle.zarrs_packbits.specs.KeptBits.{component_bits}
-use Rattle.zarrs_packbits.specs.PackedLayout.{parts_of}
+use Rattle.zarrs_packbits.specs.PackedLayout.{layout_components}
 use Rattle.zarrs_packbits.specs.WrittenBits.{written_bits}
 use Rattle.zarrs_packbits.proofs.LayoutLemmas.{more_behind}
 use Rattle.zarrs_packbits.proofs.LocalLemmas.{field_from, component_room}
@@ -14,7 +14,7 @@ read_bits-kept-requires-clause-inside c =
     let bytes = c.args.bytes.now in
     let start = c.loop-part.part * l.size in
     let n : length (take (length bytes - start) (drop start bytes)) ≡ length bytes - start = ap length (take_rest bytes start) ∙ length-drop start bytes in
-    omega (arith, n, component_room l.size c.loop-part.part (parts_of l) bytes c.requires.len (omega arith), c.requires.layout.size)
+    omega (arith, n, component_room l.size c.loop-part.part (layout_components l) bytes c.requires.len (omega arith), c.requires.layout.size)
 
 pub loop-part-preserved : goal.loop-part-preserved
 loop-part-preserved c =
@@ -23,7 +23,7 @@ loop-part-preserved c =
     let bytes = c.args.bytes.now in
     let start = part * l.size in
     let f : ℕ → List ℕ = λ part. field l.first l.count (component_bits l.size bytes part) in
-    let cut = ap (λ b. field l.first l.count (bits_of b)) (take_rest bytes start) ∙ field_from l.size part (parts_of l) l.first l.count bytes c.requires.len (omega arith) (omega (arith, c.requires.layout.size)) in
+    let cut = ap (λ b. field l.first l.count (bits_of b)) (take_rest bytes start) ∙ field_from l.size part (layout_components l) l.first l.count bytes c.requires.len (omega arith) (omega (arith, c.requires.layout.size)) in
     record {
       bits = λ front h. more_behind front (written_bits c.loop-part.out.items c.loop-part.last c.loop-part.used) (written_bits c.append_bits.new.out.items c.in_ok-more.more c.in_ok-more.reached) (low_bits l.count c.read_bits-kept.result) f part
           c.in_ok-more.ensures.bits (c.loop-part.invariant.bits front h) (c.read_bits-kept.ensures.bits ∙ cut);
@@ -31,4 +31,4 @@ loop-part-preserved c =
     }
 
 pub returns-clause-bits : goal.returns-clause-bits
-returns-clause-bits c = let end : c.loop-part.part ≡ parts_of c.args.layout.now = omega (arith, c.requires.begin) in λ front h. rw end at (c.loop-part.invariant.bits front h)
+returns-clause-bits c = let end : c.loop-part.part ≡ layout_components c.args.layout.now = omega (arith, c.requires.begin) in λ front h. rw end at (c.loop-part.invariant.bits front h)

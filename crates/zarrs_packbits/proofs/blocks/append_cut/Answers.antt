@@ -2,9 +2,8 @@ use Rattle.std.proofs.Common.{◌≡◌, ℕ, List, get_or, sym, subst, ◌+◌,
 use Rattle.std.specs.List.{All}
 use Rattle.std.proofs.lemmas.Nat.{pow_pos, mod_below}
 use Rattle.std.proofs.lemmas.List.Elements.{All-map}
-use Rattle.zarrs_packbits.specs.BlockBits.{cut_byte}
 use Rattle.zarrs_packbits.proofs.blocks.append_cut.Goals as goal
-use Rattle.zarrs_packbits.proofs.BlockLemmas.{joined_step}
+use Rattle.zarrs_packbits.proofs.BlockLemmas.{cut_byte, joined_step}
 
 pub append_numbers-requires-clause-bits_fit : goal.append_numbers-requires-clause-bits_fit
 append_numbers-requires-clause-bits_fit c =

@@ -2,9 +2,8 @@ use Rattle.std.proofs.Common.{◌+◌, ◌-◌, ◌*◌, ◌/◌, ◌%◌, ◌^�
 use Rattle.std.specs.Prelude.{bit_and}
 use Rattle.std.proofs.lemmas.Nat.{and_mask, one_shl}
 use Rattle.std.proofs.lemmas.List.{length-set, take_all}
-use Rattle.zarrs_packbits.specs.BlockBits.{cut_byte}
 use Rattle.zarrs_packbits.proofs.blocks.cut.Goals as goal
-use Rattle.zarrs_packbits.proofs.BlockLemmas.{map_more}
+use Rattle.zarrs_packbits.proofs.BlockLemmas.{cut_byte, map_more}
 
 pub loop-place-preserved : goal.loop-place-preserved
 loop-place-preserved c =

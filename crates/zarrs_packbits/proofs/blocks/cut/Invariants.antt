@@ -1,5 +1,5 @@
 use Rattle.std.proofs.Common.{◌≡◌, take, map, length}
-use Rattle.zarrs_packbits.specs.BlockBits.{cut_byte}
+use Rattle.zarrs_packbits.proofs.BlockLemmas.{cut_byte}
 use Rattle.zarrs_packbits.proofs.blocks.cut.Given as goal
 
 abbrev pub invariant-loop-place : goal.invariant-loop-place

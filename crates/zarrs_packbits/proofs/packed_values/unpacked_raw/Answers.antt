@@ -3,7 +3,7 @@ use Rattle.zarrs_array_bytes.proofs.ValidLemmas.{raw_items}
 use Rattle.zarrs_bytes.proofs.Coding.{ok}
 use Rattle.zarrs_packbits.specs.Bits.{bits_of}
 use Rattle.zarrs_packbits.specs.BitStream.{components_from}
-use Rattle.zarrs_packbits.specs.PackedLayout.{parts_of}
+use Rattle.zarrs_packbits.specs.PackedLayout.{layout_components}
 use Rattle.zarrs_packbits.specs.PaddingByte.{lead}
 use Rattle.zarrs_packbits.specs.Packing.{packing}
 use Rattle.zarrs_packbits.proofs.packed_values.unpacked_raw.Goals as goal
@@ -14,4 +14,4 @@ unpacked_bytes-requires-clause-len c = ap length (c.deref.ensures.value ∙ raw_
 pub returns : goal.returns
 returns c =
     let l = c.args.layout.now in
-    record { exact = record { is = ap ok (ap (λ (b : List ℕ). packing (components_from l 0 (parts_of l) (bits_of (drop (lead l) b)))) (sym (c.deref.ensures.value ∙ raw_items c.args.value)) ∙ sym c.in_ok-bytes.ensures.value); no_fault = search rules } }
+    record { exact = record { is = ap ok (ap (λ (b : List ℕ). packing (components_from l 0 (layout_components l) (bits_of (drop (lead l) b)))) (sym (c.deref.ensures.value ∙ raw_items c.args.value)) ∙ sym c.in_ok-bytes.ensures.value); no_fault = search rules } }

@@ -2,10 +2,10 @@ use Rattle.std.proofs.Common.{◌≡◌, ◌<◌, ◌≤◌, ◌+◌, ◌-◌, �
 use Rattle.std.specs.Prelude.{bit_and}
 use Rattle.std.proofs.Math.Nat.{mul-le-mul_right}
 use Rattle.std.proofs.lemmas.Nat.{and_mask, one_shl}
-use Rattle.zarrs_packbits.specs.BlockBits.{cut_byte, lifted_byte}
+use Rattle.zarrs_packbits.specs.BlockBits.{lifted_byte}
 use Rattle.zarrs_packbits.specs.KeptBits.{sign_weight}
 use Rattle.zarrs_packbits.proofs.spread.append_head.Goals as goal
-use Rattle.zarrs_packbits.proofs.BlockLemmas.{head_step}
+use Rattle.zarrs_packbits.proofs.BlockLemmas.{cut_byte, head_step}
 use Rattle.zarrs_packbits.proofs.SpreadLemmas.{small_count}
 
 pub loop-part-preserved : goal.loop-part-preserved

@@ -1,7 +1,7 @@
 use Rattle.std.proofs.Common.{◌≡◌, ◌-◌, ◌++◌, true, length, take}
 use Rattle.std.specs.List.{flat_map, list_all}
-use Rattle.zarrs_vlen_v2.specs.PrefixedValues.{cut_elements}
 use Rattle.zarrs_vlen_v2.specs.VlenV2Codec.{u32_bytes, prefixed_element, is_short}
+use Rattle.zarrs_vlen_v2.proofs.Writing.{cut_elements}
 use Rattle.zarrs_vlen_v2.proofs.prefixed_values.prefixed_value.Given as goal
 
 abbrev pub invariant-loop-index : goal.invariant-loop-index

@@ -1,8 +1,8 @@
 use Rattle.std.proofs.Common.{◌≡◌, ◌≤◌, ℕ, List, true, length, slice_index, sym, subst, arith, rules}
 use Rattle.zarrs_array_bytes.specs.Held.{vlen, raw_of}
 use Rattle.zarrs_array_bytes.specs.Offsets.{is_offsets, last_of}
-use Rattle.zarrs_array_bytes.specs.Tight.{without_front, HoldsSame}
-use Rattle.zarrs_array_bytes.proofs.FlushLemmas.{some, front_same}
+use Rattle.zarrs_array_bytes.specs.Tight.{without_front}
+use Rattle.zarrs_array_bytes.proofs.FlushLemmas.{HoldsSame, some, front_same}
 use Rattle.zarrs_array_bytes.proofs.OffsetLemmas.{rising_last}
 use Rattle.zarrs_array_bytes.proofs.array_bytes.ArrayBytes.new_flush.Goals as goal
 

@@ -4,7 +4,8 @@ use Rattle.zarrs_chunk.specs.ChunkShape.{product}
 use Rattle.zarrs_chunk.specs.declared.codec_error.CodecError.TheVariants.{ElementCount}
 use Rattle.zarrs_data_type.specs.Form.{form_of}
 use Rattle.zarrs_array_bytes.specs.Held.{owned_bytes, vlen}
-use Rattle.zarrs_array_bytes.specs.Tight.{flush_with_offsets, HoldsSame}
+use Rattle.zarrs_array_bytes.specs.Tight.{flush_with_offsets}
+use Rattle.zarrs_array_bytes.proofs.FlushLemmas.{HoldsSame}
 use Rattle.zarrs_array_bytes.proofs.ValidLemmas.{raw_items}
 use Rattle.zarrs_bytes.proofs.Coding.{checked_ok}
 use Rattle.zarrs_codec.specs.Grammar.{Decodes}
