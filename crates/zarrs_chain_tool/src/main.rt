@@ -8,11 +8,12 @@ use std::io;
 use std::io::{BufReader, BufWriter};
 use std::process::ExitCode;
 use zarrs_tool_lines::run::{RunEnd, run};
+use zarrs_tool_lines::streams::{StreamReader, StreamWriter};
 
 /// Answers the lines of the standard input, and returns how that ended.
 fn run_on_standard_streams<R: Input + Print + AllocGlobal>(rt: &R) -> io::Result<RunEnd> {
-    let mut reader = BufReader::new(rt.alloc(), rt.reader())?;
-    let mut writer = BufWriter::new(rt.alloc(), io::writer(rt))?;
+    let mut reader = StreamReader::new(BufReader::new(rt.alloc(), rt.reader())?);
+    let mut writer = StreamWriter::new(BufWriter::new(rt.alloc(), io::writer(rt))?);
     Ok(run(rt.alloc(), &mut reader, &mut writer))
 }
 

@@ -7,7 +7,7 @@ use Rattle.zarrs_chunk.specs.declared.codec_error.CodecError.TheVariants.{OutOfM
 use Rattle.zarrs_metadata.specs.declared.plugin_create_error.PluginCreateError.TheVariants.{OutOfMemory as NoMemory}
 use Rattle.zarrs_json.specs.declared.refusal.Refusal.{Refusal}
 use Rattle.zarrs_json.specs.declared.refusal.Refusal.TheVariants.{Making, Codec}
-use Rattle.zarrs_json.specs.Refusal.{wants_memory, error_line}
+use Rattle.zarrs_json.specs.Refusal.{refusal_memory, error_line}
 use Rattle.zarrs_tool_lines.specs.Lines.{filled_lines}
 use Rattle.zarrs_json.specs.Header.{Header, line_header}
 use Rattle.zarrs_tool_lines.specs.Commands.{State, first_state, answer_to}
@@ -29,10 +29,6 @@ Gives left after line = IfSome left (λ input. (rest : List ℕ) × (after ≡ S
 
 abbrev pub Ends : Option (List ℕ) → Option (List ℕ) → Type 0
 Ends left after = IfSome left (λ input. (rest : List ℕ) × (after ≡ Some rest) × (filled_lines input ≡ []) × (rest ≡ []))
-
-pub so_far-start : (unread held : Option (List ℕ)) (state : State) → SoFar unread unread held held state state
-so_far-start None held state = tt
-so_far-start (Some input) held state = (input, [], refl, Appends-nil held, λ more h. h)
 
 pub so_far-more : (unread left after held holds grown : Option (List ℕ)) (first now next : State) (line reply : List ℕ) → SoFar unread left held holds first now → Gives left after line → IsReply now line reply next → Appends holds grown (output_line reply) → SoFar unread after held grown first next
 so_far-more None left after held holds grown first now next line reply h given replied grew = tt
@@ -78,19 +74,19 @@ pub reply-given : (now next : State) (line reply : List ℕ) → answer_to now l
 reply-given now next line reply h = inl (sym (ap (reply_of now) h))
 
 -- out of memory is shown by its name
-error_line-memory : (refusal : Refusal) → wants_memory refusal ≡ true → error_line refusal ≡ out_of_memory
+error_line-memory : (refusal : Refusal) → refusal_memory refusal ≡ true → error_line refusal ≡ out_of_memory
 error_line-memory (Making NoMemory) h = refl
 error_line-memory (Codec OutOfMemory) h = refl
 error_line-memory _ h = absurd (false≢true h)
 
-refused_by : (b : Bool) (now : State) (line : List ℕ) (refusal : Refusal) → wants_memory refusal ≡ b → Excused b (answer_to now line ≡ Err refusal) → IsReply now line (error_line refusal) now
+refused_by : (b : Bool) (now : State) (line : List ℕ) (refusal : Refusal) → refusal_memory refusal ≡ b → Excused b (answer_to now line ≡ Err refusal) → IsReply now line (error_line refusal) now
 refused_by true now line refusal is h = inr (error_line-memory refusal is, refl)
 refused_by false now line refusal is h = inl (sym (ap (reply_of now) (h refl)))
 
 -- an error that was returned
-pub reply-refused : (now next : State) (line : List ℕ) (refusal : Refusal) → Excused (wants_memory refusal) (answer_to now line ≡ Err refusal) → next ≡ now → IsReply now line (error_line refusal) next
+pub reply-refused : (now next : State) (line : List ℕ) (refusal : Refusal) → Excused (refusal_memory refusal) (answer_to now line ≡ Err refusal) → next ≡ now → IsReply now line (error_line refusal) next
 reply-refused now next line refusal h kept =
-    subst (λ (state : State). IsReply now line (error_line refusal) state) (sym kept) (refused_by (wants_memory refusal) now line refusal refl h)
+    subst (λ (state : State). IsReply now line (error_line refusal) state) (sym kept) (refused_by (refusal_memory refusal) now line refusal refl h)
 
 -- ---- what a header is answered
 
@@ -109,13 +105,13 @@ refused_header : (r : Result Header Refusal) (refusal : Refusal) → seen first_
 refused_header (Ok header) refusal h = absurd (cc)
 refused_header (Err x) refusal h = ap (λ (y : Refusal). output_line (error_line y)) (sym (same_refusal x refusal h))
 
-bad_by : (b : Bool) (line : List ℕ) (refusal : Refusal) → wants_memory refusal ≡ b → Excused b (seen first_state (line_header WithSamples line) ≡ Err refusal) → IsBadHeader (line ∷ []) (output_line (error_line refusal))
+bad_by : (b : Bool) (line : List ℕ) (refusal : Refusal) → refusal_memory refusal ≡ b → Excused b (seen first_state (line_header WithSamples line) ≡ Err refusal) → IsBadHeader (line ∷ []) (output_line (error_line refusal))
 bad_by true line refusal is h = inr (ap output_line (error_line-memory refusal is))
 bad_by false line refusal is h = inl (refused_header (line_header WithSamples line) refusal (h refl))
 
 -- a header that was rejected
-pub bad_header : (line : List ℕ) (refusal : Refusal) → Excused (wants_memory refusal) (seen first_state (line_header WithSamples line) ≡ Err refusal) → IsBadHeader (line ∷ []) (output_line (error_line refusal))
-bad_header line refusal h = bad_by (wants_memory refusal) line refusal refl h
+pub bad_header : (line : List ℕ) (refusal : Refusal) → Excused (refusal_memory refusal) (seen first_state (line_header WithSamples line) ≡ Err refusal) → IsBadHeader (line ∷ []) (output_line (error_line refusal))
+bad_header line refusal h = bad_by (refusal_memory refusal) line refusal refl h
 
 -- ---- the endings
 

@@ -18,9 +18,9 @@ use Rattle.zarrs_json.specs.Refusal.{codec_answer}
 use Rattle.zarrs_json.specs.Json.{tree_of, hex_of, hex_tree, ok_line}
 use Rattle.zarrs_json.specs.Elements.{elements_of, chunk_tree}
 use Rattle.zarrs_json.specs.Containers.{container_of}
-use Rattle.zarrs_json.specs.Indexer.{selection_in}
+use Rattle.zarrs_json.specs.Indexer.{selection_shown}
 use Rattle.zarrs_json.specs.Edit.{PlainEdit, edit_in}
-use Rattle.zarrs_json.specs.Header.{Header, form_of, line_codecs}
+use Rattle.zarrs_json.specs.Header.{Header, header_form, line_codecs}
 use Rattle.zarrs_json.specs.declared.known_maker.KnownMaker.TheVariants.{WithSamples}
 
 -- what a session keeps: the header that opened it, and the stored value
@@ -73,27 +73,27 @@ abbrev pub decode_answer : State → LineAnswer
 decode_answer state = stored_answer chunk_answer state state.value
 
 -- the elements that an indexer selects of a stored value of a header's chunk, by a decoder that is made for it
-abbrev pub part_of : Header → Option (List ℕ) → Selection → Result Chunk CodecError
-part_of header value selection = made_read known_codecs known_reads (form_of header) value selection
+abbrev pub line_part : Header → Option (List ℕ) → Selection → Result Chunk CodecError
+line_part header value selection = made_read known_codecs known_reads (header_form header) value selection
 
 -- read INDEXER: the elements that it means
 abbrev pub read_answer : State → List ℕ → LineAnswer
 read_answer state text = do
   tree ← tree_of text
-  selection ← selection_in tree
-  chunk ← codec_answer (part_of state.header state.value selection)
+  selection ← selection_shown tree
+  chunk ← codec_answer (line_part state.header state.value selection)
   Ok (ok_line (chunk_tree chunk), state)
 
 -- the value that an edit leaves of what is stored, by an encoder that is made for it
-abbrev pub value_left : Header → Option (List ℕ) → PlainEdit → Result (List ℕ) CodecError
-value_left header value edit = made_written known_codecs (form_of header) value edit.selection edit.new
+abbrev pub line_value_left : Header → Option (List ℕ) → PlainEdit → Result (List ℕ) CodecError
+line_value_left header value edit = made_written known_codecs (header_form header) value edit.selection edit.new
 
 -- write {"at":INDEXER,"data":ELEMENTS}: the value with the new elements is stored
 abbrev pub write_answer : State → List ℕ → LineAnswer
 write_answer state text = do
   tree ← tree_of text
   edit ← edit_in state.header.data_type tree
-  value ← codec_answer (value_left state.header state.value edit)
+  value ← codec_answer (line_value_left state.header state.value edit)
   Ok (codes "ok", record { header = state.header; value = Some value })
 
 -- erase: nothing is stored from here on
@@ -179,4 +179,4 @@ answer_to state line = command_answer state (command_of line)
 -- the value with new elements is stored afterwards, or the first error is returned
 abbrev pub StoresEdit : State → State → PlainEdit → Result (Unit {0}) CodecError → Type 0
 StoresEdit before after edit result =
-    Answers memory (λ _. after) result (seen (λ value. record { header = before.header; value = Some value }) (value_left before.header before.value edit))
+    Answers memory (λ _. after) result (seen (λ value. record { header = before.header; value = Some value }) (line_value_left before.header before.value edit))

@@ -1,5 +1,5 @@
 -- The lines of an input.
-use Rattle.std.specs.Prelude.{ℕ, Bool, true, false, List, [], ◌∷◌, ◌==◌, if◌then◌else◌, filter, ◌≡◌, Option, Some, IfSome, MatchBool, Vec, Result, IfOk}
+use Rattle.std.specs.Prelude.{ℕ, ◌<◌, Bool, true, false, List, [], ◌∷◌, ◌==◌, if◌then◌else◌, filter, ◌≡◌, Option, Some, IfSome, MatchBool, Vec, Result, IfOk}
 use Rattle.std.specs.declared.alloc.Global.{Global}
 
 -- a byte at the front of the first line
@@ -13,13 +13,13 @@ lines_of [] = []
 lines_of (b ∷ bs) = if b == 10 then [] ∷ lines_of bs else onto_first b (lines_of bs)
 
 -- the line has bytes
-abbrev pub is_filled : List ℕ → Bool
-is_filled [] = false
-is_filled (b ∷ bs) = true
+abbrev pub line_is_filled : List ℕ → Bool
+line_is_filled [] = false
+line_is_filled (b ∷ bs) = true
 
 -- the lines that aren't empty
 abbrev pub filled_lines : List ℕ → List (List ℕ)
-filled_lines input = filter is_filled (lines_of input)
+filled_lines input = filter line_is_filled (lines_of input)
 
 -- ---- reading, by the bytes that the reader had and has left, where those are known
 
@@ -32,3 +32,8 @@ ReadsNext lines unread left line is_read =
 abbrev pub TakesNext : {R E : Type 0} → (List ℕ → List (List ℕ)) → (R → Option (List ℕ)) → R → R → Vec ℕ Global → Result Bool E → Type 0
 TakesNext lines remaining before after line result =
     IfOk result (ReadsNext lines (remaining before) (remaining after) line.items)
+
+-- a call that answers Ok, of a reader that gives so many lines at most, leaves fewer of them where it took one
+abbrev pub LeavesFewer : {R E : Type 0} → (R → ℕ) → R → R → Result Bool E → Type 0
+LeavesFewer lines_left before after result =
+    IfOk result (λ is_read. is_read ≡ true → lines_left after < lines_left before)

@@ -13,7 +13,7 @@ use Rattle.zarrs_json.specs.Refusal.{ReadsAs}
 use Rattle.zarrs_json.specs.declared.refusal.Refusal.{Refusal}
 use Rattle.zarrs_json.specs.HeaderRead.{header_seen}
 use Rattle.zarrs_json.specs.declared.header.ChunkHeader.{ChunkHeader}
-use Rattle.zarrs_tool_lines.specs.Commands.{State, LineAnswer, part_of}
+use Rattle.zarrs_tool_lines.specs.Commands.{State, LineAnswer, line_part}
 use Rattle.zarrs_tool_lines.specs.declared.session.Session.{Session}
 
 -- the state of a header and what a handle has
@@ -33,4 +33,4 @@ Replies session result expected = ReadsAs (λ line. (line.items, state_of sessio
 -- a container of the elements that an indexer selects of what is stored, or the first error
 abbrev pub GivesChunkPart : ChunkHeader → MemoryHandle → Indexer → Result Held CodecError → Type 0
 GivesChunkPart header handle indexer result =
-    AnswersBy memory (Holds header.data_type) result (part_of (header_seen header) (handle_value handle) (selection_of indexer))
+    AnswersBy memory (Holds header.data_type) result (line_part (header_seen header) (handle_value handle) (selection_of indexer))

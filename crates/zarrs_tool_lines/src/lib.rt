@@ -8,3 +8,4 @@ mod command;
 mod lines;
 pub mod run;
 mod session;
+pub mod streams;

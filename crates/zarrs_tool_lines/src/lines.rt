@@ -1,54 +1,38 @@
-//! Lines read and written.
-ghost use Rattle.std.specs.Prelude.{◌≡◌};
-ghost use Rattle.std.specs.Io.BufRead.{strip_last};
+//! Lines of a run, read and written.
+ghost use Rattle.std.specs.Prelude.{◌≡◌, true, IfErr, is_err};
 ghost use Rattle.std.specs.Io.KnownBytes.{Keeps};
-ghost use Rattle.zarrs_tool_lines.specs.Lines.{filled_lines, lines_of, TakesNext};
+ghost use Rattle.zarrs_codec.specs.StorageState.{count_if};
+ghost use Rattle.zarrs_tool_lines.specs.Lines.{LeavesFewer, TakesNext, filled_lines};
 ghost use Rattle.zarrs_tool_lines.specs.Run.{output_line, refusal_line, Outputs};
 
 use crate::run::StreamFault;
+use crate::streams::{ReadLines, WriteLines};
 use std::io;
-use std::io::{BufRead, ErrorKind, Write};
 use zarrs_json::Refusal;
 
-fn drop_line_end(line: &mut Vec<u8>)
-    ensures written { line.new.items ≡ strip_last 10 line.old.items }
-{
-    let len = line.len();
-    if len > 0 && line[len - 1] == b'\n' {
-        line.truncate(len - 1);
-    }
-}
-
-/// Reads the next line, without its end, or answers `false` where there is none.
-fn next_line<R: BufRead>(reader: &mut R, line: &mut Vec<u8>) -> io::Result<bool>
-    ensures next { TakesNext lines_of R.remaining reader.old reader.new line.new result }
-{
-    line.clear();
-    if reader.read_until(b'\n', line)? == 0 {
-        return Ok(false);
-    }
-    drop_line_end(line);
-    Ok(true)
-}
-
 /// Reads lines until one isn't empty, or answers `false` where none is left.
-fn read_filled_line<R: BufRead>(reader: &mut R, line: &mut Vec<u8>) -> io::Result<bool>
+fn read_filled_line<R: ReadLines>(reader: &mut R, line: &mut Vec<u8>) -> io::Result<bool>
     ensures next { TakesNext filled_lines R.remaining reader.old reader.new line.new result }
+    ensures fewer { LeavesFewer R.lines_left reader.old reader.new result }
+    ensures counted { R.faults reader.new ≡ count_if (is_err result) (R.faults reader.old) }
 {
-    'lines: for _ in 0..u64::MAX {
-        if !next_line(reader, line)? {
-            return Ok(false);
-        }
+    'lines: while reader.next_line(line)? {
         if !line.is_empty() {
             return Ok(true);
         }
     }
-    Err(ErrorKind::TimedOut.into())
+    Ok(false)
 }
 
 /// As `read_filled_line`; where that fails, the reader is at fault.
-pub fn next_filled_line<R: BufRead>(reader: &mut R, line: &mut Vec<u8>) -> Result<bool, StreamFault>
+pub fn next_filled_line<R: ReadLines>(
+    reader: &mut R,
+    line: &mut Vec<u8>,
+) -> Result<bool, StreamFault>
     ensures next { TakesNext filled_lines R.remaining reader.old reader.new line.new result }
+    ensures fewer { LeavesFewer R.lines_left reader.old reader.new result }
+    ensures counted { R.faults reader.new ≡ count_if (is_err result) (R.faults reader.old) }
+    ensures cause { IfErr result (λ fault. fault ≡ StreamFault.Reader) }
 {
     match read_filled_line(reader, line) {
         Ok(is_read) => Ok(is_read),
@@ -56,15 +40,17 @@ pub fn next_filled_line<R: BufRead>(reader: &mut R, line: &mut Vec<u8>) -> Resul
     }
 }
 
-fn append_line<W: Write>(writer: &mut W, answer: &[u8]) -> io::Result<()>
+fn append_line<W: WriteLines>(writer: &mut W, answer: &[u8]) -> io::Result<()>
     ensures written { Outputs W.contents writer.old writer.new (output_line answer.now) result }
+    ensures counted { W.faults writer.new ≡ count_if (is_err result) (W.faults writer.old) }
 {
     writer.write_all(answer)?;
     writer.write_all(b"\n")
 }
 
-fn append_refusal<W: Write>(writer: &mut W, refusal: Refusal) -> io::Result<()>
+fn append_refusal<W: WriteLines>(writer: &mut W, refusal: Refusal) -> io::Result<()>
     ensures written { Outputs W.contents writer.old writer.new (refusal_line refusal) result }
+    ensures counted { W.faults writer.new ≡ count_if (is_err result) (W.faults writer.old) }
 {
     writer.write_all(b"error ")?;
     writer.write_all(refusal.name().as_bytes())?;
@@ -72,8 +58,10 @@ fn append_refusal<W: Write>(writer: &mut W, refusal: Refusal) -> io::Result<()>
 }
 
 /// Writes an answer, and the line's end.
-pub fn write_line<W: Write>(writer: &mut W, answer: &[u8]) -> Result<(), StreamFault>
+pub fn write_line<W: WriteLines>(writer: &mut W, answer: &[u8]) -> Result<(), StreamFault>
     ensures written { Outputs W.contents writer.old writer.new (output_line answer.now) result }
+    ensures counted { W.faults writer.new ≡ count_if (is_err result) (W.faults writer.old) }
+    ensures cause { IfErr result (λ fault. fault ≡ StreamFault.Writer) }
 {
     match append_line(writer, answer) {
         Ok(()) => Ok(()),
@@ -82,8 +70,10 @@ pub fn write_line<W: Write>(writer: &mut W, answer: &[u8]) -> Result<(), StreamF
 }
 
 /// Writes the answer to a line that fails.
-pub fn write_refusal<W: Write>(writer: &mut W, refusal: Refusal) -> Result<(), StreamFault>
+pub fn write_refusal<W: WriteLines>(writer: &mut W, refusal: Refusal) -> Result<(), StreamFault>
     ensures written { Outputs W.contents writer.old writer.new (refusal_line refusal) result }
+    ensures counted { W.faults writer.new ≡ count_if (is_err result) (W.faults writer.old) }
+    ensures cause { IfErr result (λ fault. fault ≡ StreamFault.Writer) }
 {
     match append_refusal(writer, refusal) {
         Ok(()) => Ok(()),
@@ -92,8 +82,11 @@ pub fn write_refusal<W: Write>(writer: &mut W, refusal: Refusal) -> Result<(), S
 }
 
 /// Hands on all that is held back.
-pub fn flush<W: Write>(writer: &mut W) -> Result<(), StreamFault>
+pub fn flush<W: WriteLines>(writer: &mut W) -> Result<(), StreamFault>
     ensures kept { Keeps (W.contents writer.old) (W.contents writer.new) }
+    ensures flushed { W.is_flushed writer.new ≡ true }
+    ensures counted { W.faults writer.new ≡ count_if (is_err result) (W.faults writer.old) }
+    ensures cause { IfErr result (λ fault. fault ≡ StreamFault.Writer) }
 {
     match writer.flush() {
         Ok(()) => Ok(()),

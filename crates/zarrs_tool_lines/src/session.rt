@@ -64,7 +64,6 @@ fn write_part(
     header: &ChunkHeader,
     edit: &Edit,
 ) -> Result<(), CodecError>
-    // Wide: the header, and the handle before and after.
     ensures answer { StoresEdit (state_with header.now handle.old) (state_with header.now handle.new)
         (edit_seen edit.now) result }
     ensures kept { OnErr result (handle_value handle.new ≡ handle_value handle.old) }
@@ -209,7 +208,6 @@ impl Session {
         to: &CodecChain<KnownBytesCodec>,
         value: &[u8],
     ) -> Result<Vec<u8>, Refusal>
-        // Wide: the other chain, the session and the value.
         ensures answer { Replies self.now result
             (reencoded_answer (plain_chain to.now) (state_of self.now) value.now) }
     {

@@ -2,6 +2,7 @@
 use std::alloc::{AllocError, Global};
 use std::str::Lines;
 use zarrs_tool_lines::run::{RunEnd, run};
+use zarrs_tool_lines::streams::{StreamReader, StreamWriter};
 
 /// How a run ends where its transcript says nothing of that: all that is sent is read.
 const DONE: &str = "= done";
@@ -127,13 +128,14 @@ fn name_of_end(end: RunEnd) -> &'static str {
 /// What comes back where this is sent. A good header is answered by nothing, which stands as an
 /// empty line.
 fn play(alloc: Global, input: &str) -> Result<Reply, AllocError> {
-    let mut reader: &[u8] = input.as_bytes();
-    let mut written = Vec::new(alloc);
-    let end = run(alloc, &mut reader, &mut written);
+    let mut reader = StreamReader::new(input.as_bytes());
+    let mut writer = StreamWriter::new(Vec::new(alloc));
+    let end = run(alloc, &mut reader, &mut writer);
     let mut answers = String::new(alloc);
     if end != RunEnd::BadHeader {
         answers.push('\n')?;
     }
+    let written = writer.into_inner();
     let written = String::from_utf8_lossy(alloc, &written)?;
     answers.push_str(written.as_str())?;
     Ok(Reply {

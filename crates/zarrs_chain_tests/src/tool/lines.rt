@@ -2,6 +2,7 @@
 
 use std::alloc::{AllocError, Global};
 use zarrs_tool_lines::run::{RunEnd, run};
+use zarrs_tool_lines::streams::{StreamReader, StreamWriter};
 
 /// Over memory a run ends as a fault only for lack of memory.
 fn wants_memory(end: RunEnd, lines: &str) -> bool {
@@ -17,9 +18,10 @@ pub(crate) fn asked(
     argument: &str,
 ) -> Result<String, AllocError> {
     let lines = format!(in alloc; "{header}\nload \"{value}\"\n{command}{argument}\n")?;
-    let mut reader: &[u8] = lines.as_bytes();
-    let mut written = Vec::new(alloc);
-    let end = run(alloc, &mut reader, &mut written);
+    let mut reader = StreamReader::new(lines.as_bytes());
+    let mut writer = StreamWriter::new(Vec::new(alloc));
+    let end = run(alloc, &mut reader, &mut writer);
+    let written = writer.into_inner();
     let answered = String::from_utf8_lossy(alloc, &written)?
         .as_str()
         .to_string(alloc)?;

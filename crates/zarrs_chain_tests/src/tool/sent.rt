@@ -4,6 +4,7 @@ use std::alloc::Global;
 use std::io;
 use std::io::{BufReader, ErrorKind, Read, Write};
 use zarrs_tool_lines::run::{RunEnd, StreamFault, run};
+use zarrs_tool_lines::streams::{StreamReader, StreamWriter};
 
 /// A header of one element that is good, as a line.
 const HEADER: &'static [u8] =
@@ -135,6 +136,7 @@ fn reader(alloc: Global, row: &Sent) -> io::Result<BufReader<FakeReader>> {
 
 /// Runs what is sent, and writes the answers.
 pub(crate) fn run_over<W: Write>(alloc: Global, row: &Sent, writer: &mut W) -> io::Result<RunEnd> {
-    let mut reader = reader(alloc, row)?;
-    Ok(run(alloc, &mut reader, writer))
+    let mut reader = StreamReader::new(reader(alloc, row)?);
+    let mut writer = StreamWriter::new(writer);
+    Ok(run(alloc, &mut reader, &mut writer))
 }

@@ -3,7 +3,7 @@ use Rattle.std.specs.Io.BufRead.{take_through, drop_through, strip_last, DropsTh
 use Rattle.std.proofs.BufReadLemmas.{take_through_nonempty}
 use Rattle.zarrs_tool_lines.specs.Lines.{lines_of}
 use Rattle.zarrs_tool_lines.proofs.LineLemmas.{lines-step}
-use Rattle.zarrs_tool_lines.proofs.lines.next_line.Goals as goal
+use Rattle.zarrs_tool_lines.proofs.streams.read_line.Goals as goal
 
 read : (before after : Option (List ℕ)) (empty held line : List ℕ) → empty ≡ [] → IfSome before (λ xs. held ≡ empty ++ take_through 10 xs) → DropsThrough before after 10 → 0 < length held → line ≡ strip_last 10 held → IfSome before (λ input. (rest : List ℕ) × (after ≡ Some rest) × (lines_of input ≡ line ∷ lines_of rest))
 read None after empty held line none got rest some is = tt
