@@ -1,1 +1,1 @@
-pub mod Told
+-- The exports' contracts cite the definitions of zarrs_c_calls; there are none here.

@@ -25,7 +25,6 @@ pub extern "C" fn zarrs_edit(
     bytes: &[u8],
     done: &mut usize,
 ) -> u32
-    // Wide: the edits have three parts, and the value is named before and after.
     ensures told { TellsEdits text.now sizes.now numbers.now bytes.now
         value.old value.new result done.new }
 {

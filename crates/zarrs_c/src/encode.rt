@@ -21,7 +21,6 @@ pub extern "C" fn zarrs_encode(
     out: &mut [u8],
     needed: &mut usize,
 ) -> u32
-    // Wide: a caller's three buffers, and the one that is written with its count, before and after.
     ensures told { TellsBytes (encoded text.now (buffers masks.now offsets.now bytes.now)) result
         out.old out.new needed.old needed.new }
 {

@@ -1,5 +1,6 @@
 //! The call `zarrs_reencode`.
-ghost use Rattle.zarrs_c.specs.Told.{Rewrites};
+ghost use Rattle.zarrs_c_calls.specs.Calls.{reencoded};
+ghost use Rattle.zarrs_c_calls.specs.Told.{TellsBytes};
 
 use std::alloc::Global;
 
@@ -18,7 +19,8 @@ pub extern "C" fn zarrs_reencode(
     out: &mut [u8],
     needed: &mut usize,
 ) -> u32
-    ensures told { Rewrites text.now value.now codecs.now result out.old out.new needed.old needed.new }
+    ensures told { TellsBytes (reencoded text.now value.now codecs.now) result
+        out.old out.new needed.old needed.new }
 {
     zarrs_c_calls::zarrs_reencode(alloc, text, value, codecs, out, needed)
 }

@@ -9,11 +9,11 @@ use Rattle.zarrs_array_bytes.specs.Held.{Held}
 use Rattle.zarrs_array_bytes.specs.Tight.{IsTight}
 use Rattle.zarrs_array_bytes.specs.Validity.{Holds}
 use Rattle.zarrs_json.specs.declared.refusal.Refusal.TheVariants.{Codec}
-use Rattle.zarrs_json.specs.Header.{Header, form_of}
+use Rattle.zarrs_json.specs.Header.{Header, header_form}
 use Rattle.zarrs_json.specs.KnownBytesCodec.{known_codecs}
 use Rattle.zarrs_chain_meaning.specs.CodecMeaning.{chain_chunk}
 use Rattle.zarrs_c_calls.specs.Calls.{decoded, header_given}
-use Rattle.zarrs_c_calls.specs.Codes.{codec_answer}
+use Rattle.zarrs_c_calls.specs.Codes.{codec_call_answer}
 use Rattle.zarrs_c_calls.specs.Reads.{form_read, part_read}
 use Rattle.zarrs_c_calls.specs.Selections.{selection_given}
 use Rattle.zarrs_c_calls.specs.Told.{Elements, HoldsThese}
@@ -30,11 +30,11 @@ of_codec error = Refused (Codec error)
 
 -- ---- a codec's answer
 
-pub elements_due : (type : ElementType) (held : Held) (expected : Result Chunk CodecError) → IsOkAnd expected (Holds type held) → IsTight type held → IsOkAnd (codec_answer expected >>= typed type) (HoldsThese held)
+pub elements_due : (type : ElementType) (held : Held) (expected : Result Chunk CodecError) → IsOkAnd expected (Holds type held) → IsTight type held → IsOkAnd (codec_call_answer expected >>= typed type) (HoldsThese held)
 elements_due type held (Ok chunk) h tight = record { holds = h; tight = tight }
 elements_due type held (Err e) h tight = absurd h
 
-pub elements_not_due : (type : ElementType) (error : CodecError) (expected : Result Chunk CodecError) → expected ≡ Err error → (codec_answer expected >>= typed type) ≡ Err (of_codec error)
+pub elements_not_due : (type : ElementType) (error : CodecError) (expected : Result Chunk CodecError) → expected ≡ Err error → (codec_call_answer expected >>= typed type) ≡ Err (of_codec error)
 elements_not_due type error (Ok chunk) e = absurd (cc)
 elements_not_due type error (Err other) e = cc
 
@@ -42,27 +42,27 @@ elements_not_due type error (Err other) e = cc
 
 -- where the header and the selection are read
 pub read_by : (text : List ℕ) (stored : Option (List ℕ)) (tuples : ℕ) (numbers : List ℕ) (header : Header) (selection : Selection) → header_given text ≡ Ok header → selection_given (length header.sizes) tuples numbers ≡ Ok selection
-    → part_read text stored tuples numbers ≡ (codec_answer (form_read (form_of header) stored selection) >>= typed header.data_type)
+    → part_read text stored tuples numbers ≡ (codec_call_answer (form_read (header_form header) stored selection) >>= typed header.data_type)
 read_by text stored tuples numbers header selection e f = rw (e, f) refl
 
 module _ (text : List ℕ) (stored value : Option (List ℕ)) (tuples : ℕ) (numbers : List ℕ) (header : Header) (selection : Selection) (reads : header_given text ≡ Ok header) (means : selection_given (length header.sizes) tuples numbers ≡ Ok selection) (same : value ≡ stored) where
-  of_value : part_read text stored tuples numbers ≡ (codec_answer (form_read (form_of header) value selection) >>= typed header.data_type)
+  of_value : part_read text stored tuples numbers ≡ (codec_call_answer (form_read (header_form header) value selection) >>= typed header.data_type)
   of_value =
       read_by text stored tuples numbers header selection reads means
-      ∙ ap (λ (v : Option (List ℕ)). codec_answer (form_read (form_of header) v selection) >>= typed header.data_type) (sym same)
+      ∙ ap (λ (v : Option (List ℕ)). codec_call_answer (form_read (header_form header) v selection) >>= typed header.data_type) (sym same)
 
   -- a container that holds what is read of the chunk holds what is due
-  pub read_due : (held : Held) → IsOkAnd (form_read (form_of header) value selection) (Holds header.data_type held) → IsTight header.data_type held → IsOkAnd (part_read text stored tuples numbers) (HoldsThese held)
+  pub read_due : (held : Held) → IsOkAnd (form_read (header_form header) value selection) (Holds header.data_type held) → IsTight header.data_type held → IsOkAnd (part_read text stored tuples numbers) (HoldsThese held)
   read_due held h tight =
-      subst (λ (x : Result Elements Cause). IsOkAnd x (HoldsThese held)) (sym of_value) (elements_due header.data_type held (form_read (form_of header) value selection) h tight)
+      subst (λ (x : Result Elements Cause). IsOkAnd x (HoldsThese held)) (sym of_value) (elements_due header.data_type held (form_read (header_form header) value selection) h tight)
 
   -- and an error of it is the one that is due
-  pub read_refused : (excused : Bool) (error : CodecError) → Excused excused (form_read (form_of header) value selection ≡ Err error) → Excused excused (part_read text stored tuples numbers ≡ Err (of_codec error))
-  read_refused excused error h = λ wants. of_value ∙ elements_not_due header.data_type error (form_read (form_of header) value selection) (h wants)
+  pub read_refused : (excused : Bool) (error : CodecError) → Excused excused (form_read (header_form header) value selection ≡ Err error) → Excused excused (part_read text stored tuples numbers ≡ Err (of_codec error))
+  read_refused excused error h = λ wants. of_value ∙ elements_not_due header.data_type error (form_read (header_form header) value selection) (h wants)
 
 -- ---- a whole chunk
 
-decoded_by : (text value : List ℕ) (header : Header) → header_given text ≡ Ok header → decoded text value ≡ (codec_answer (chain_chunk known_codecs header.chain header.sizes header.data_type header.fill value) >>= typed header.data_type)
+decoded_by : (text value : List ℕ) (header : Header) → header_given text ≡ Ok header → decoded text value ≡ (codec_call_answer (chain_chunk known_codecs header.chain header.sizes header.data_type header.fill value) >>= typed header.data_type)
 decoded_by text value header e = rw e refl
 
 -- a tight container that holds the chunk of a value holds what is due

@@ -14,20 +14,20 @@ use Rattle.zarrs_json.specs.KnownBytesCodec.{known_codecs}
 use Rattle.zarrs_codec.specs.declared.bytes_representation.BytesRepresentation.{BytesRepresentation}
 use Rattle.zarrs_chain_meaning.specs.CodecMeaning.{chain_representation}
 use Rattle.zarrs_chain_meaning.proofs.MadeMappings.{same_value}
-use Rattle.zarrs_json.specs.Header.{Header, form_of}
+use Rattle.zarrs_json.specs.Header.{Header, header_form}
 use Rattle.zarrs_json.specs.HeaderRead.{header_seen}
 use Rattle.zarrs_json.specs.declared.header.ChunkHeader.{ChunkHeader}
 use Rattle.zarrs_codec_chain.proofs.MadeCoders.{no_fault}
 use Rattle.zarrs_c_calls.specs.BufferHandle.{buffer_state}
 use Rattle.zarrs_c_calls.specs.Buffers.{Buffers, buffers}
 use Rattle.zarrs_c_calls.specs.Calls.{header_given}
-use Rattle.zarrs_c_calls.specs.Codes.{cause_code, cause_memory, codec_answer}
-use Rattle.zarrs_c_calls.specs.EditRuns.{EditsValue, IsRepresented, RunsEdits}
+use Rattle.zarrs_c_calls.specs.Codes.{cause_code, cause_memory, codec_call_answer}
+use Rattle.zarrs_c_calls.specs.EditRuns.{EditsValue, IsRepresented, EditsInOrder}
 use Rattle.zarrs_c_calls.specs.Edits.{HasEdits, TellsEdits, all_are_taken, edited, edits_in_place, edits_left, edits_opened}
 use Rattle.zarrs_c_calls.specs.Given.{elements_given}
 use Rattle.zarrs_c_calls.specs.Reads.{stored_value}
 use Rattle.zarrs_c_calls.specs.Selections.{selection_given}
-use Rattle.zarrs_c_calls.specs.Writes.{form_written, header_written}
+use Rattle.zarrs_c_calls.specs.Writes.{known_written, header_written}
 use Rattle.zarrs_c_calls.specs.declared.buffer_handle.BufferHandle.{BufferHandle}
 use Rattle.zarrs_c_calls.specs.declared.cause.Cause.{Cause}
 use Rattle.zarrs_c_calls.specs.declared.cause.Cause.TheVariants.{Argument, NotInPlace}
@@ -146,17 +146,17 @@ same_name a b e = ap (first_name a) e
 -- ---- one edit
 
 module _ (header : Header) (before : List ℕ) (tuples : ℕ) (numbers : List ℕ) (b : Buffers) (selection : Selection) (new : Held) where
-  written_by : selection_given (length header.sizes) tuples numbers ≡ Ok selection → elements_given header.data_type b ≡ Ok new → header_written header (Some before) tuples numbers b ≡ codec_answer (form_written (form_of header) (Some before) selection new)
+  written_by : selection_given (length header.sizes) tuples numbers ≡ Ok selection → elements_given header.data_type b ≡ Ok new → header_written header (Some before) tuples numbers b ≡ codec_call_answer (known_written (header_form header) (Some before) selection new)
   written_by means given = rw (means, given) refl
 
   -- what is left is what is due
-  pub edit_due : (after : List ℕ) → selection_given (length header.sizes) tuples numbers ≡ Ok selection → elements_given header.data_type b ≡ Ok new → form_written (form_of header) (Some before) selection new ≡ Ok after → header_written header (Some before) tuples numbers b ≡ Ok after
-  edit_due after means given left = written_by means given ∙ ap codec_answer left
+  pub edit_due : (after : List ℕ) → selection_given (length header.sizes) tuples numbers ≡ Ok selection → elements_given header.data_type b ≡ Ok new → known_written (header_form header) (Some before) selection new ≡ Ok after → header_written header (Some before) tuples numbers b ≡ Ok after
+  edit_due after means given left = written_by means given ∙ ap codec_call_answer left
 
   -- and an error is the one that is due
-  pub edit_not_due : selection_given (length header.sizes) tuples numbers ≡ Ok selection → elements_given header.data_type b ≡ Ok new → (excused : Bool) (error : CodecError) → Excused excused (form_written (form_of header) (Some before) selection new ≡ Err error)
+  pub edit_not_due : selection_given (length header.sizes) tuples numbers ≡ Ok selection → elements_given header.data_type b ≡ Ok new → (excused : Bool) (error : CodecError) → Excused excused (known_written (header_form header) (Some before) selection new ≡ Err error)
       → Excused excused (header_written header (Some before) tuples numbers b ≡ Err (of_codec error))
-  edit_not_due means given excused error refuses = λ wants. written_by means given ∙ ap codec_answer (refuses wants)
+  edit_not_due means given excused error refuses = λ wants. written_by means given ∙ ap codec_call_answer (refuses wants)
 
 -- ---- what is opened
 
@@ -164,7 +164,7 @@ demanded : (test : Bool) (cause : Cause) (x : Unit {0}) → demand test cause �
 demanded true cause x e = refl
 demanded false cause x e = absurd (cc)
 
-answered : {A : Type 0} (r : Result A CodecError) (x : A) → codec_answer r ≡ Ok x → r ≡ Ok x
+answered : {A : Type 0} (r : Result A CodecError) (x : A) → codec_call_answer r ≡ Ok x → r ≡ Ok x
 answered (Ok y) x e = ap (λ (z : _). Ok z) (same_value y x e)
 answered (Err error) x e = absurd (cc)
 
@@ -177,7 +177,7 @@ pub opened : (text : List ℕ) (len : ℕ) (sizes : List EditSize) (numbers byte
 opened text len sizes numbers bytes header e =
     let a = step_ok (header_given text) _ header e in
     let b = step_ok (demand (all_are_taken sizes numbers bytes) Argument) _ header a.2 in
-    let c = step_ok (codec_answer (edits_in_place a.0 len)) _ header b.2 in
+    let c = step_ok (codec_call_answer (edits_in_place a.0 len)) _ header b.2 in
     let d = step_ok (demand c.0 NotInPlace) _ header c.2 in
     let r = step_ok (chain_representation known_codecs a.0.chain a.0.sizes a.0.data_type a.0.fill) _ c.0 (answered (edits_in_place a.0 len) c.0 c.1) in
     let same : a.0 ≡ header = same_value a.0 header d.2 in
@@ -191,7 +191,7 @@ refused_by_memory r e P is refuses = λ wants. absurd (let g = refuses wants in 
 -- so none is made then
 pub none_made : (form : ChunkHeader) (before after : List ℕ) (edits : Edits) (error : CodecError) → after ≡ before → IsRepresented form
     → Excused (memory error) (seen (λ _. tt {0}) (chain_representation known_codecs (header_seen form).chain (header_seen form).sizes (header_seen form).data_type (header_seen form).fill) ≡ Err error)
-    → RunsEdits form before after edits (record { done = 0; refusal = Some (of_codec error) })
+    → EditsInOrder form before after edits (record { done = 0; refusal = Some (of_codec error) })
 none_made form before after edits error same is refuses =
     let header = header_seen form in
     record {
@@ -217,7 +217,7 @@ module _ (text : List ℕ) (before after : List ℕ) (edits : Edits) (form : Chu
   next_refused (Some cause) done refuses = λ wants. by_header (suc done) ∙ refuses wants
 
   -- what edits give of the header that was read, they give of its text
-  pub edits_opened_made : RunsEdits form before after edits outcome → EditsValue text before after edits outcome
+  pub edits_opened_made : EditsInOrder form before after edits outcome → EditsValue text before after edits outcome
   edits_opened_made runs = record {
     made = inr (by_header outcome.done ∙ runs.made);
     all = all_made outcome.refusal outcome.done runs.made runs.all;

@@ -33,16 +33,16 @@ use Rattle.zarrs_codec_chain.specs.CodecPart.{IsCodecPlan, codec_rests_on, Part}
 use Rattle.zarrs_codec_chain.proofs.LawfulPart.{part_laws}
 use Rattle.zarrs_codec_chain.proofs.PlaceWrites.{bytes_alone}
 use Rattle.zarrs_codec_chain.proofs.PlannedPlaces.{planned_are_meant, standing_is}
-use Rattle.zarrs_json.specs.Header.{Header, form_of as header_form}
+use Rattle.zarrs_json.specs.Header.{Header, header_form}
 use Rattle.zarrs_lent_handles.specs.Joined.{has_number, have_number}
 use Rattle.zarrs_lent_handles.specs.Pieces.{is_at_hand}
 use Rattle.zarrs_codec_chain.specs.PlannedReads.{ArePlanned}
-use Rattle.zarrs_c_calls.specs.Codes.{codec_answer}
+use Rattle.zarrs_c_calls.specs.Codes.{codec_call_answer}
 use Rattle.zarrs_c_calls.specs.Enough.{PlanIsEnough}
 use Rattle.zarrs_c_calls.specs.Plans.{Planned, places_planned}
 use Rattle.zarrs_c_calls.proofs.HeaderLemmas.{header_sound}
 use Rattle.zarrs_c_calls.proofs.PlanLemmas.{plan_by, with_header}
-use Rattle.zarrs_packbits.proofs.RunLemmas.{all_from}
+use Rattle.zarrs_codec.proofs.Fences.{range_passes}
 
 -- ---- the bytes of ranges
 
@@ -56,7 +56,7 @@ passes : (test : ℕ → Bool) (ranges : List ByteSpan) → ((n : ℕ) → have_
 passes test [] h = refl
 passes test (range ∷ ranges) h =
     list_all-append test (range_with_len range.start (range.end - range.start)) (range_indices ranges)
-    ∙ and_from _ _ (all_from test range.start (range.end - range.start) (λ n l m. h n (or_left (has_number range n) (have_number ranges n) (in_range range n l m))))
+    ∙ and_from _ _ (range_passes test range.start (range.end - range.start) (λ n l m. h n (or_left (has_number range n) (have_number ranges n) (in_range range n l m))))
     (passes test ranges (λ n e. h n (or_right (has_number range n) (have_number ranges n) e)))
 
 -- ---- places in another order
@@ -155,7 +155,7 @@ module _ (made : List ByteSpan) (test : ℕ → Bool) (all : (n : ℕ) → have_
 
 -- ---- of a header
 
-planned_is : (header : Header) (r : Result (Option (List ℕ)) CodecError) (plan : Planned) → (codec_answer r >>= with_header header) ≡ Ok plan → (r ≡ Ok plan.1) × (header ≡ plan.0)
+planned_is : (header : Header) (r : Result (Option (List ℕ)) CodecError) (plan : Planned) → (codec_call_answer r >>= with_header header) ≡ Ok plan → (r ≡ Ok plan.1) × (header ≡ plan.0)
 planned_is header (Ok places) plan e =
     let same : (header, places) ≡ plan = cc in
     (ap (λ (p : Planned). ok p.1) same, ap (λ (p : Planned). p.0) same)

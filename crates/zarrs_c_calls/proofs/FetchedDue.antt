@@ -8,13 +8,13 @@ use Rattle.zarrs_array_bytes.specs.Held.{Held}
 use Rattle.zarrs_array_bytes.specs.Tight.{IsTight}
 use Rattle.zarrs_array_bytes.specs.Validity.{Holds}
 use Rattle.zarrs_json.specs.KnownBytesCodec.{known_codecs}
-use Rattle.zarrs_json.specs.Header.{Header, form_of}
+use Rattle.zarrs_json.specs.Header.{Header, header_form}
 use Rattle.zarrs_codec_chain.proofs.MadeCoders.{excused_less}
 use Rattle.zarrs_lent_handles.specs.Pieces.{PlainPiece, HasPieces, are_apart, are_at_hand}
 use Rattle.zarrs_codec_chain.specs.PlannedReads.{ArePlanned}
 use Rattle.zarrs_c_calls.specs.Buffers.{Buffers, crossed}
 use Rattle.zarrs_c_calls.specs.Calls.{header_given}
-use Rattle.zarrs_c_calls.specs.Codes.{IsRefusal, cause_code, codec_answer}
+use Rattle.zarrs_c_calls.specs.Codes.{IsRefusal, cause_code, codec_call_answer}
 use Rattle.zarrs_c_calls.specs.Fetched.{HasPlannedPieces, TellsOrLacks, cause_lacks, memory_or_lack, pieces_given, pieces_read}
 use Rattle.zarrs_c_calls.specs.LackingByte.{LacksByte, apart_read}
 use Rattle.zarrs_c_calls.specs.Reads.{form_read, part_read}
@@ -30,7 +30,7 @@ use Rattle.zarrs_c_calls.proofs.LackingLemmas.{is_read, not_lacking}
 -- ---- where the header, the selection and the pieces are read
 
 pieces_by : (text : List ℕ) (len : ℕ) (ranges fetched : List ℕ) (tuples : ℕ) (numbers : List ℕ) (header : Header) (selection : Selection) (pieces : List PlainPiece) → header_given text ≡ Ok header → selection_given (length header.sizes) tuples numbers ≡ Ok selection
-    → pieces_given ranges fetched ≡ Ok pieces → pieces_read text len ranges fetched tuples numbers ≡ (codec_answer (apart_read (form_of header) len pieces selection) >>= typed header.data_type)
+    → pieces_given ranges fetched ≡ Ok pieces → pieces_read text len ranges fetched tuples numbers ≡ (codec_call_answer (apart_read (header_form header) len pieces selection) >>= typed header.data_type)
 pieces_by text len ranges fetched tuples numbers header selection pieces e f g = rw (e, f, g) refl
 
 ok_same : {A E : Type 0} (r : Result A E) (a b : A) → r ≡ Ok a → r ≡ Ok b → a ≡ b
@@ -40,7 +40,7 @@ ok_same r a b e f = (let g = sym e ∙ f in cc)
 record PlannedHere (header : Header) (selection : Selection) (pieces : List PlainPiece) (len : ℕ) (value : List ℕ) : Type 0 where
   planned : List ℕ
   stand_apart : are_apart len 0 pieces ≡ true
-  planned_are : ArePlanned known_codecs (form_of header) selection planned
+  planned_are : ArePlanned known_codecs (header_form header) selection planned
   at_hand : are_at_hand pieces planned ≡ true
   has : HasPieces len pieces value
 
@@ -63,34 +63,34 @@ module _ (text : List ℕ) (len : ℕ) (ranges fetched : List ℕ) (tuples : ℕ
         (subst (λ (x : Selection). PlannedHere h.header x pieces len value) same
         (subst (λ (x : List PlainPiece). PlannedHere h.header h.selection x len value) (pieces_same value h) of_own))
 
-    of_pieces : pieces_read text len ranges fetched tuples numbers ≡ (codec_answer (apart_read (form_of header) len pieces selection) >>= typed header.data_type)
+    of_pieces : pieces_read text len ranges fetched tuples numbers ≡ (codec_call_answer (apart_read (header_form header) len pieces selection) >>= typed header.data_type)
     of_pieces = pieces_by text len ranges fetched tuples numbers header selection pieces reads means given
 
     -- a container that holds what is read of the pieces holds what is due
-    pub pieces_due : (held : Held) → IsOkAnd (apart_read (form_of header) len pieces selection) (Holds header.data_type held) → IsTight header.data_type held → IsOkAnd (pieces_read text len ranges fetched tuples numbers) (HoldsThese held)
+    pub pieces_due : (held : Held) → IsOkAnd (apart_read (header_form header) len pieces selection) (Holds header.data_type held) → IsTight header.data_type held → IsOkAnd (pieces_read text len ranges fetched tuples numbers) (HoldsThese held)
     pieces_due held h tight =
-        subst (λ (x : Result Elements Cause). IsOkAnd x (HoldsThese held)) (sym of_pieces) (elements_due header.data_type held (apart_read (form_of header) len pieces selection) h tight)
+        subst (λ (x : Result Elements Cause). IsOkAnd x (HoldsThese held)) (sym of_pieces) (elements_due header.data_type held (apart_read (header_form header) len pieces selection) h tight)
 
     -- what is read of the pieces is what is read of a value that has them, where the planned bytes are among them
-    read_alike : (value : List ℕ) → HasPlannedPieces text len ranges fetched tuples numbers value → apart_read (form_of header) len pieces selection ≡ form_read (form_of header) (Some value) selection
+    read_alike : (value : List ℕ) → HasPlannedPieces text len ranges fetched tuples numbers value → apart_read (header_form header) len pieces selection ≡ form_read (header_form header) (Some value) selection
     read_alike value h =
         let here = planned_here value h in
-        is_read (form_of header) len pieces selection here.stand_apart
-        ∙ parts_alike (form_of header) len pieces value here.planned selection here.planned_are here.has here.at_hand
+        is_read (header_form header) len pieces selection here.stand_apart
+        ∙ parts_alike (header_form header) len pieces value here.planned selection here.planned_are here.has here.at_hand
 
-    pub alike_due : (value : List ℕ) (held : Held) → HasPlannedPieces text len ranges fetched tuples numbers value → IsOkAnd (apart_read (form_of header) len pieces selection) (Holds header.data_type held) → IsTight header.data_type held
+    pub alike_due : (value : List ℕ) (held : Held) → HasPlannedPieces text len ranges fetched tuples numbers value → IsOkAnd (apart_read (header_form header) len pieces selection) (Holds header.data_type held) → IsTight header.data_type held
         → IsOkAnd (part_read text (Some value) tuples numbers) (HoldsThese held)
     alike_due value held h holds tight =
         read_due text (Some value) (Some value) tuples numbers header selection reads means refl held (subst (λ (x : Result Chunk CodecError). IsOkAnd x (Holds header.data_type held)) (read_alike value h) holds) tight
 
-    pub alike_refused : (value : List ℕ) (error : CodecError) → HasPlannedPieces text len ranges fetched tuples numbers value → (fault error ≡ true → LacksByte (form_of header) len pieces selection)
-        → Excused (memory_or_fault error) (apart_read (form_of header) len pieces selection ≡ Err error) → Excused (memory error) (part_read text (Some value) tuples numbers ≡ Err (of_codec error))
+    pub alike_refused : (value : List ℕ) (error : CodecError) → HasPlannedPieces text len ranges fetched tuples numbers value → (fault error ≡ true → LacksByte (header_form header) len pieces selection)
+        → Excused (memory_or_fault error) (apart_read (header_form header) len pieces selection ≡ Err error) → Excused (memory error) (part_read text (Some value) tuples numbers ≡ Err (of_codec error))
     alike_refused value error h lacking refuses =
         let here = planned_here value h in
-        let quiet : fault error ≡ false = not_lacking (form_of header) len pieces selection here.planned (fault error) here.planned_are here.at_hand lacking in
-        let of_value : Excused (memory_or_fault error) (form_read (form_of header) (Some value) selection ≡ Err error) = subst (λ (x : Result Chunk CodecError). Excused (memory_or_fault error) (x ≡ Err error)) (read_alike value h) refuses in
+        let quiet : fault error ≡ false = not_lacking (header_form header) len pieces selection here.planned (fault error) here.planned_are here.at_hand lacking in
+        let of_value : Excused (memory_or_fault error) (form_read (header_form header) (Some value) selection ≡ Err error) = subst (λ (x : Result Chunk CodecError). Excused (memory_or_fault error) (x ≡ Err error)) (read_alike value h) refuses in
         read_refused text (Some value) (Some value) tuples numbers header selection reads means refl (memory error) error
-        (excused_less (memory error) (fault error) (form_read (form_of header) (Some value) selection ≡ Err error) quiet of_value)
+        (excused_less (memory error) (fault error) (form_read (header_form header) (Some value) selection ≡ Err error) quiet of_value)
 
 -- ---- codes
 

@@ -18,12 +18,12 @@ use Rattle.zarrs_codec_chain.specs.ChunkRead.{asks_in_part, stored_read}
 use Rattle.zarrs_codec_chain.specs.ChunkSource.{Source, bytes_above, source_made, source_made_at}
 use Rattle.zarrs_codec_chain.proofs.CachePlaces.{no_place, no_stage}
 use Rattle.zarrs_lent_handles.specs.PiecesHandle.{made_state}
-use Rattle.zarrs_lent_handles.specs.Pieces.{PlainPiece, HasPieces, are_apart, are_at_hand, byte_at, is_at_hand, value_with}
+use Rattle.zarrs_lent_handles.specs.Pieces.{PlainPiece, HasPieces, are_apart, are_at_hand, byte_at, is_at_hand, value_of_pieces}
 use Rattle.zarrs_codec_chain.specs.PlannedReads.{ArePlanned}
 use Rattle.zarrs_codec_chain.proofs.PlannedAlike.{planned_is_asked, sized_alike}
 use Rattle.zarrs_codec_chain.proofs.SizedAlike.{passes_at}
 use Rattle.zarrs_c_calls.specs.Reads.{form_read}
-use Rattle.zarrs_json.specs.Header.{Form}
+use Rattle.zarrs_json.specs.Header.{HeaderForm}
 use Rattle.zarrs_codec_chain.proofs.MadeCoders.{passes, stops}
 
 -- ---- the bytes at hand
@@ -34,40 +34,40 @@ past (x ∷ xs) zero l = absurd (omega (arith, l))
 past (x ∷ xs) (suc n) l = past xs n (omega (arith, l))
 
 -- a value that has the pieces is the one with zeros elsewhere at each byte at hand
-same_at : (len n : ℕ) (ps : List PlainPiece) (value : List ℕ) → HasPieces len ps value → is_at_hand ps n ≡ true → get_or value n 0 ≡ get_or (value_with len ps) n 0
+same_at : (len n : ℕ) (ps : List PlainPiece) (value : List ℕ) → HasPieces len ps value → is_at_hand ps n ≡ true → get_or value n 0 ≡ get_or (value_of_pieces len ps) n 0
 same_at len n ps value has here = by (nat_lt n len) refl
   where
-    by : (t : Bool) → nat_lt n len ≡ t → get_or value n 0 ≡ get_or (value_with len ps) n 0
+    by : (t : Bool) → nat_lt n len ≡ t → get_or value n 0 ≡ get_or (value_of_pieces len ps) n 0
     by true e =
         let l : n < len = grind (arith, nat_tests) in
         has.same n here ∙ sym (get_or-map-range_with_len (byte_at ps) 0 len n n 0 l (omega arith))
     by false e =
         let l : len ≤ n = grind (arith, nat_tests) in
-        past value n (omega (arith, has.length_is, l)) ∙ sym (past (value_with len ps) n (omega (arith, length-map-range_with_len (byte_at ps) 0 len, l)))
+        past value n (omega (arith, has.length_is, l)) ∙ sym (past (value_of_pieces len ps) n (omega (arith, length-map-range_with_len (byte_at ps) 0 len, l)))
 
-agree : (len : ℕ) (ps : List PlainPiece) (value planned : List ℕ) → HasPieces len ps value → are_at_hand ps planned ≡ true → All (λ n. slice_index value n ≡ slice_index (value_with len ps) n) planned
+agree : (len : ℕ) (ps : List PlainPiece) (value planned : List ℕ) → HasPieces len ps value → are_at_hand ps planned ≡ true → All (λ n. slice_index value n ≡ slice_index (value_of_pieces len ps) n) planned
 agree len ps value planned has hand = λ k d l. same_at len (get_or planned k d) ps value has (passes_at (is_at_hand ps) planned k d hand l)
 
 -- ---- reads by a decoder that is made for them
 
-by_taken : (f : Form) (stored : Option (List ℕ)) (x : Result Chunk CodecError) (t : Result (List ℕ × BytesRepresentation) CodecError)
+by_taken : (f : HeaderForm) (stored : Option (List ℕ)) (x : Result Chunk CodecError) (t : Result (List ℕ × BytesRepresentation) CodecError)
     → ((t >>= λ _. ok (bytes_above (length f.chain.bytes_to_bytes) stored)) >>= λ _. x) ≡ (t >>= λ _. x)
 by_taken f stored x (Ok taken) = refl
 by_taken f stored x (Err e) = refl
 
 -- without a cache the construction fails only where the chain rejects the chunk
-uncached : (f : Form) (stored : Option (List ℕ)) (x : Result Chunk CodecError) → asks_in_part f.chain.bytes_to_bytes f.chain.array_to_bytes ≡ true
+uncached : (f : HeaderForm) (stored : Option (List ℕ)) (x : Result Chunk CodecError) → asks_in_part f.chain.bytes_to_bytes f.chain.array_to_bytes ≡ true
     → (source_made known_codecs known_reads f stored >>= λ _. x) ≡ (taken_form known_codecs f.chain f.sizes f.type f.fill >>= λ _. x)
 uncached f stored x asks =
     ap (λ s. source_made_at known_codecs f s stored >>= λ _. x) (no_stage known_reads f.chain (no_place known_reads f.chain asks))
     ∙ by_taken f stored x (taken_form known_codecs f.chain f.sizes f.type f.fill)
 
 -- a value that has the pieces is read as the one with zeros elsewhere, where the planned bytes are at hand
-pub parts_alike : (f : Form) (len : ℕ) (ps : List PlainPiece) (value planned : List ℕ) (selection : Selection) → ArePlanned known_codecs f selection planned → HasPieces len ps value → are_at_hand ps planned ≡ true
-    → form_read f (Some (value_with len ps)) selection ≡ form_read f (Some value) selection
+pub parts_alike : (f : HeaderForm) (len : ℕ) (ps : List PlainPiece) (value planned : List ℕ) (selection : Selection) → ArePlanned known_codecs f selection planned → HasPieces len ps value → are_at_hand ps planned ≡ true
+    → form_read f (Some (value_of_pieces len ps)) selection ≡ form_read f (Some value) selection
 parts_alike f len ps value planned selection are has hand =
     let asks = planned_is_asked known_codecs f (Some value) selection planned are in
-    let zeros : List ℕ = value_with len ps in
+    let zeros : List ℕ = value_of_pieces len ps in
     let long : length value ≡ length zeros = omega (arith, has.length_is, length-map-range_with_len (byte_at ps) 0 len) in
     let same = sized_alike known_codecs f value zeros selection planned are long (agree len ps value planned has hand) in
     uncached f (Some zeros) (stored_read known_codecs f (Some zeros) selection) asks.in_part
@@ -77,17 +77,17 @@ parts_alike f len ps value planned selection are has hand =
 -- ---- a decoder over pieces
 
 -- what it answers
-pub part_answered : (chunk form : Form) (stored value : Option (List ℕ)) (selection : Selection) (r : Result Held CodecError) (source : Source) → form ≡ chunk → value ≡ stored → source_made known_codecs known_reads chunk stored ≡ Ok source
+pub part_answered : (chunk form : HeaderForm) (stored value : Option (List ℕ)) (selection : Selection) (r : Result Held CodecError) (source : Source) → form ≡ chunk → value ≡ stored → source_made known_codecs known_reads chunk stored ≡ Ok source
     → AnswersBy memory_or_fault (Holds form.type) r (stored_read known_codecs form value selection) → AnswersBy memory_or_fault (Holds chunk.type) r (form_read chunk stored selection)
 part_answered chunk form stored value selection r source same_form same_value made h =
     let of_chunk : AnswersBy memory_or_fault (Holds chunk.type) r (stored_read known_codecs chunk stored selection) =
     subst (λ (v : Option (List ℕ)). AnswersBy memory_or_fault (Holds chunk.type) r (stored_read known_codecs chunk v selection)) same_value
-    (subst (λ (f : Form). AnswersBy memory_or_fault (Holds f.type) r (stored_read known_codecs f value selection)) same_form h) in
+    (subst (λ (f : HeaderForm). AnswersBy memory_or_fault (Holds f.type) r (stored_read known_codecs f value selection)) same_form h) in
     subst (λ (y : Result Chunk CodecError). AnswersBy memory_or_fault (Holds chunk.type) r y)
     (sym (passes (source_made known_codecs known_reads chunk stored) source (stored_read known_codecs chunk stored selection) made)) of_chunk
 
 -- where none is made
-pub part_stopped : (chunk : Form) (stored : Option (List ℕ)) (selection : Selection) (e : CodecError) → Excused (memory_or_fault e) (source_made known_codecs known_reads chunk stored ≡ Err e)
+pub part_stopped : (chunk : HeaderForm) (stored : Option (List ℕ)) (selection : Selection) (e : CodecError) → Excused (memory_or_fault e) (source_made known_codecs known_reads chunk stored ≡ Err e)
     → Excused (memory_or_fault e) (form_read chunk stored selection ≡ Err e)
 part_stopped chunk stored selection e h = λ wants. stops (source_made known_codecs known_reads chunk stored) (stored_read known_codecs chunk stored selection) e (h wants)
 
@@ -95,7 +95,7 @@ part_stopped chunk stored selection e h = λ wants. stops (source_made known_cod
 
 pub record IsMade (len : ℕ) (ps : List PlainPiece) (state : StorageState) : Type 0 where
   pub stand_apart : are_apart len 0 ps ≡ true
-  pub value_is : state.value ≡ Some (value_with len ps)
+  pub value_is : state.value ≡ Some (value_of_pieces len ps)
   pub sure_is : state.sure ≡ Some (is_at_hand ps)
 
 pub made_is : (len : ℕ) (ps : List PlainPiece) (state : StorageState) → Ok state ≡ made_state len ps → IsMade len ps state

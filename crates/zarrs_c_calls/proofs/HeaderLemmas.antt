@@ -17,7 +17,7 @@ use Rattle.zarrs_json.specs.Json as json
 use Rattle.zarrs_json.specs.Refusal.{codec_answer, making_answer}
 use Rattle.zarrs_json.specs.declared.refusal.Refusal.{Refusal}
 use Rattle.zarrs_json.specs.declared.refusal.Refusal.TheVariants.{Syntax}
-use Rattle.zarrs_json.specs.Codecs.{metadata_in, chain_in}
+use Rattle.zarrs_json.specs.Codecs.{metadatas_shown, chain_shown}
 use Rattle.zarrs_json.specs.Header.{Header, shape_at, data_type_at, fill_value_at, codecs_at, header_in, line_header}
 use Rattle.zarrs_c_calls.specs.Calls.{header_given}
 use Rattle.zarrs_c_calls.specs.Codes.{refusal_answer}
@@ -47,14 +47,14 @@ shaped false xs sizes e = (refl, same_value xs sizes e)
 sizes_are : (tree : Option Data) (sizes : List ℕ) → shape_at tree ≡ Ok sizes → All (λ size. 0 < size) sizes
 sizes_are None sizes e = absurd (cc)
 sizes_are (Some tree) sizes e =
-    let a = step_ok (json.number_list tree) _ sizes e in
+    let a = step_ok (json.number_list_shown tree) _ sizes e in
     let s = shaped (list_any (λ size. size == 0) a.0) a.0 sizes a.2 in
     subst (λ (xs : List ℕ). All (λ size. 0 < size) xs) s.1 (All-positive a.0 s.0)
 
 codecs_are : (tree : Option Data) (chain : _) → codecs_at Shipped tree ≡ Ok chain → All IsMapping chain.array_to_array
 codecs_are tree chain e =
     let a = step_ok (ok_or (option_and_then as_array tree) Syntax) _ chain e in
-    let b = step_ok (metadata_in a.0) (chain_made (known_made Shipped)) chain (making_ok (chain_in Shipped a.0) chain a.2) in
+    let b = step_ok (metadatas_shown a.0) (chain_made (known_made Shipped)) chain (making_ok (chain_shown Shipped a.0) chain a.2) in
     chain_mappings (known_made Shipped) b.0 chain b.2
 
 members_sound : (members : Members) (header : Header) → header_in Shipped members ≡ Ok header → IsSound header

@@ -13,12 +13,12 @@ use Rattle.zarrs_data_type.specs.Element.{Chunk}
 use Rattle.zarrs_data_type.specs.ElementType.{ElementType}
 use Rattle.zarrs_array_bytes.specs.Held.{Held}
 use Rattle.zarrs_array_bytes.specs.Validity.{Holds}
-use Rattle.zarrs_json.specs.Header.{Form}
+use Rattle.zarrs_json.specs.Header.{HeaderForm}
 use Rattle.zarrs_json.specs.KnownBytesCodec.{known_codecs}
 use Rattle.zarrs_codec.specs.StorageState.{StorageState, are_sure}
 use Rattle.zarrs_lent_handles.proofs.PieceLemmas.{passes, value_length}
-use Rattle.zarrs_lent_handles.specs.Pieces.{PlainPiece, are_apart, are_at_hand, byte_at, is_at_hand, value_with}
-use Rattle.zarrs_codec_chain.specs.ChunkRead.{ReadsChunk, are_asked_sure, asks_in_part, read_rests_on}
+use Rattle.zarrs_lent_handles.specs.Pieces.{PlainPiece, are_apart, are_at_hand, byte_at, is_at_hand, value_of_pieces}
+use Rattle.zarrs_codec_chain.specs.ChunkRead.{ReadsStoredChunk, are_asked_sure, asks_in_part, read_rests_on}
 use Rattle.zarrs_codec_chain.specs.PlannedReads.{ArePlanned}
 use Rattle.zarrs_codec_chain.proofs.PlannedAlike.{planned_is_asked}
 use Rattle.zarrs_c_calls.specs.Fetched.{AsksSurely}
@@ -58,38 +58,38 @@ refused_first type (Err error) selection sizes (Err cause) is h e = by (fault er
         let same : cause ≡ error = (let due = h (fault_wants error f) in cc) in
         bounds_quiet selection sizes error (is ∙ ap refused same)
 
-pub surely_read : (chunk form : Form) (before state : StorageState) (selection : Selection) (r : Result Held CodecError) → form ≡ chunk → state ≡ before → ReadsChunk known_codecs form state selection r → AsksSurely chunk before selection (is_fault r)
+pub surely_read : (chunk form : HeaderForm) (before state : StorageState) (selection : Selection) (r : Result Held CodecError) → form ≡ chunk → state ≡ before → ReadsStoredChunk known_codecs form state selection r → AsksSurely chunk before selection (is_fault r)
 surely_read chunk form before state selection r same_form same_state reads =
     let own : AsksSurely form state selection (is_fault r) = record {
       refused = refused_first form.type r selection form.sizes (bounds_of selection form.sizes) refl reads.indexer_first;
       sure = asked_quiet state.sure (read_rests_on known_codecs form state.value selection) (is_fault r ≡ false) reads.sure;
     } in
     subst (λ (s : StorageState). AsksSurely chunk s selection (is_fault r)) same_state
-    (subst (λ (f : Form). AsksSurely f state selection (is_fault r)) same_form own)
+    (subst (λ (f : HeaderForm). AsksSurely f state selection (is_fault r)) same_form own)
 
 -- ---- the whole value
 
 abbrev some : List ℕ → Option (List ℕ)
 some value = Some value
 
-pub first_is_whole : (len : ℕ) (ps : List PlainPiece) (value : List ℕ) → whole_value len ps ≡ Some value → value_with len ps ≡ value
+pub first_is_whole : (len : ℕ) (ps : List PlainPiece) (value : List ℕ) → whole_value len ps ≡ Some value → value_of_pieces len ps ≡ value
 first_is_whole len [] value is = by (len == 0) refl
   where
-    by : (t : Bool) → (len == 0) ≡ t → value_with len [] ≡ value
+    by : (t : Bool) → (len == 0) ≡ t → value_of_pieces len [] ≡ value
     by true e =
         let none : len ≡ 0 = grind (arith, nat_tests) in
         let own : some [] ≡ Some value = (let i = rw e at is in i) in
-        ap (λ (n : ℕ). value_with n []) none ∙ (let h = own in cc)
+        ap (λ (n : ℕ). value_of_pieces n []) none ∙ (let h = own in cc)
     by false e = absurd (let i = rw e at is in cc)
 first_is_whole len (p ∷ ps) value is = by ((p.start == 0) && (length p.bytes == len)) refl
   where
-    by : (t : Bool) → ((p.start == 0) && (length p.bytes == len)) ≡ t → value_with len (p ∷ ps) ≡ value
+    by : (t : Bool) → ((p.start == 0) && (length p.bytes == len)) ≡ t → value_of_pieces len (p ∷ ps) ≡ value
     by false e = absurd (let i = rw e at is in cc)
     by true e =
         let first : p.start ≡ 0 = grind (arith, nat_tests) in
         let long : length p.bytes ≡ len = grind (arith, nat_tests) in
         let own : p.bytes ≡ value = (let i = rw e at is in cc) in
-        let same : value_with len (p ∷ ps) ≡ p.bytes = ext_get_or 0 (value_with len (p ∷ ps)) p.bytes (omega (arith, value_length len (p ∷ ps), long)) (λ i l.
+        let same : value_of_pieces len (p ∷ ps) ≡ p.bytes = ext_get_or 0 (value_of_pieces len (p ∷ ps)) p.bytes (omega (arith, value_length len (p ∷ ps), long)) (λ i l.
         let below : i < len = omega (arith, l, value_length len (p ∷ ps)) in
         get_or-map-range_with_len (byte_at (p ∷ ps)) 0 len i i 0 below (omega arith) ∙ byte i first (omega (arith, below, long))) in
         same ∙ own
@@ -133,7 +133,7 @@ not_whole len (p ∷ ps) apart none = by (nat_lt (p.start + length p.bytes) len)
 
 -- ---- pieces that stand apart
 
-pub is_read : (form : Form) (len : ℕ) (ps : List PlainPiece) (selection : Selection) → are_apart len 0 ps ≡ true → apart_read form len ps selection ≡ form_read form (Some (value_with len ps)) selection
+pub is_read : (form : HeaderForm) (len : ℕ) (ps : List PlainPiece) (selection : Selection) → are_apart len 0 ps ≡ true → apart_read form len ps selection ≡ form_read form (Some (value_of_pieces len ps)) selection
 is_read form len ps selection apart = rw apart refl
 
 less_excused : (type : ElementType) (r : Result Held CodecError) (expected : Result Chunk CodecError) → AnswersBy memory (Holds type) r expected → AnswersBy memory_or_fault (Holds type) r expected
@@ -145,10 +145,10 @@ less_excused type (Err e) expected h = λ quiet. h (by (memory e) refl quiet)
     by true f q = absurd (let g = rw f at q in cc)
 
 -- the value itself is read
-pub whole_read : (form : Form) (type : ElementType) (len : ℕ) (ps : List PlainPiece) (value : List ℕ) (stored : Option (List ℕ)) (selection : Selection) (r : Result Held CodecError) → are_apart len 0 ps ≡ true → whole_value len ps ≡ Some value → stored ≡ Some value
+pub whole_read : (form : HeaderForm) (type : ElementType) (len : ℕ) (ps : List PlainPiece) (value : List ℕ) (stored : Option (List ℕ)) (selection : Selection) (r : Result Held CodecError) → are_apart len 0 ps ≡ true → whole_value len ps ≡ Some value → stored ≡ Some value
     → AnswersBy memory (Holds type) r (form_read form stored selection) → AnswersBy memory_or_fault (Holds type) r (apart_read form len ps selection)
 whole_read form type len ps value stored selection r apart whole same h =
-    let at : stored ≡ Some (value_with len ps) = same ∙ ap some (sym (first_is_whole len ps value whole)) in
+    let at : stored ≡ Some (value_of_pieces len ps) = same ∙ ap some (sym (first_is_whole len ps value whole)) in
     let due : form_read form stored selection ≡ apart_read form len ps selection = ap (λ (v : Option (List ℕ)). form_read form v selection) at ∙ sym (is_read form len ps selection apart) in
     less_excused type r (apart_read form len ps selection) (subst (λ (x : Result Chunk CodecError). AnswersBy memory (Holds type) r x) due h)
 
@@ -169,7 +169,7 @@ ok_or_not true failed e h = refl
 ok_or_not false failed e h = never_both failed e (h refl)
 
 -- where a read of pieces fails, a byte is lacking
-pub made_lacks : (form : Form) (len : ℕ) (ps : List PlainPiece) (state : StorageState) (selection : Selection) (failed : Bool) → IsMade len ps state → whole_value len ps ≡ None
+pub made_lacks : (form : HeaderForm) (len : ℕ) (ps : List PlainPiece) (state : StorageState) (selection : Selection) (failed : Bool) → IsMade len ps state → whole_value len ps ≡ None
     → (asks_in_part form.chain.bytes_to_bytes form.chain.array_to_bytes ≡ true → AsksSurely form state selection failed) → failed ≡ true → LacksByte form len ps selection
 made_lacks form len ps state selection failed is none surely e =
     record {
@@ -188,10 +188,10 @@ made_lacks form len ps state selection failed is none surely e =
     }
 
 -- where all planned bytes are at hand, none is lacking
-pub not_lacking : (form : Form) (len : ℕ) (ps : List PlainPiece) (selection : Selection) (planned : List ℕ) (failed : Bool) → ArePlanned known_codecs form selection planned → are_at_hand ps planned ≡ true
+pub not_lacking : (form : HeaderForm) (len : ℕ) (ps : List PlainPiece) (selection : Selection) (planned : List ℕ) (failed : Bool) → ArePlanned known_codecs form selection planned → are_at_hand ps planned ≡ true
     → (failed ≡ true → LacksByte form len ps selection) → failed ≡ false
 not_lacking form len ps selection planned failed are hand lacks = if_false failed (λ e.
-    let asks = planned_is_asked known_codecs form (Some (value_with len ps)) selection planned are in
-    let not : are_asked_sure (Some (is_at_hand ps)) (read_rests_on known_codecs form (Some (value_with len ps)) selection) ≡ false = ((lacks e).in_part asks.in_part).not_asked in
-    let is : are_asked_sure (Some (is_at_hand ps)) (read_rests_on known_codecs form (Some (value_with len ps)) selection) ≡ true = ap (are_asked_sure (Some (is_at_hand ps))) asks.asked ∙ hand in
+    let asks = planned_is_asked known_codecs form (Some (value_of_pieces len ps)) selection planned are in
+    let not : are_asked_sure (Some (is_at_hand ps)) (read_rests_on known_codecs form (Some (value_of_pieces len ps)) selection) ≡ false = ((lacks e).in_part asks.in_part).not_asked in
+    let is : are_asked_sure (Some (is_at_hand ps)) (read_rests_on known_codecs form (Some (value_of_pieces len ps)) selection) ≡ true = ap (are_asked_sure (Some (is_at_hand ps))) asks.asked ∙ hand in
     never_both _ is not)

@@ -8,9 +8,9 @@ use Rattle.zarrs_chunk.specs.declared.codec_error.CodecError.{CodecError}
 use Rattle.zarrs_array_bytes.specs.Held.{Held}
 use Rattle.zarrs_array_bytes.specs.Tight.{IsTight}
 use Rattle.zarrs_array_bytes.specs.Validity.{Holds}
-use Rattle.zarrs_json.specs.Header.{Header, form_of}
+use Rattle.zarrs_json.specs.Header.{Header, header_form}
 use Rattle.zarrs_c_calls.specs.Buffers.{Buffers}
-use Rattle.zarrs_c_calls.specs.Codes.{cause_code, cause_memory, codec_answer}
+use Rattle.zarrs_c_calls.specs.Codes.{cause_code, cause_memory, codec_call_answer}
 use Rattle.zarrs_c_calls.specs.JoinedParts.{ToldJoined, joined_parts}
 use Rattle.zarrs_c_calls.specs.EachRead.{FirstIsGiven, front_given}
 use Rattle.zarrs_c_calls.specs.ManyReads.{HoldEach, TellsMany, front_read, selections_read}
@@ -37,19 +37,19 @@ at_front false g k a e = absurd (cc)
 
 -- where its numbers are read
 pub front_by : (header : Header) (stored : Option (List ℕ)) (size : SelectionSize) (numbers : List ℕ) (selection : Selection) → front_given header size numbers ≡ Ok selection
-    → front_read header stored size numbers ≡ (codec_answer (form_read (form_of header) stored selection) >>= typed header.data_type)
+    → front_read header stored size numbers ≡ (codec_call_answer (form_read (header_form header) stored selection) >>= typed header.data_type)
 front_by header stored size numbers selection e =
-    at_front (nat_le size.numbers (length numbers)) (selection_given (length header.sizes) size.tuples (take size.numbers numbers)) (λ s. codec_answer (form_read (form_of header) stored s) >>= typed header.data_type) selection e
+    at_front (nat_le size.numbers (length numbers)) (selection_given (length header.sizes) size.tuples (take size.numbers numbers)) (λ s. codec_call_answer (form_read (header_form header) stored s) >>= typed header.data_type) selection e
 
 module _ (header : Header) (stored : Option (List ℕ)) (size : SelectionSize) (numbers : List ℕ) (selection : Selection) (given : front_given header size numbers ≡ Ok selection) where
   -- a container that holds what is read holds what is due
-  pub front_due : (held : Held) → IsOkAnd (form_read (form_of header) stored selection) (Holds header.data_type held) → IsTight header.data_type held → IsOkAnd (front_read header stored size numbers) (HoldsThese held)
+  pub front_due : (held : Held) → IsOkAnd (form_read (header_form header) stored selection) (Holds header.data_type held) → IsTight header.data_type held → IsOkAnd (front_read header stored size numbers) (HoldsThese held)
   front_due held h tight =
-      subst (λ (x : Result Elements Cause). IsOkAnd x (HoldsThese held)) (sym (front_by header stored size numbers selection given)) (elements_due header.data_type held (form_read (form_of header) stored selection) h tight)
+      subst (λ (x : Result Elements Cause). IsOkAnd x (HoldsThese held)) (sym (front_by header stored size numbers selection given)) (elements_due header.data_type held (form_read (header_form header) stored selection) h tight)
 
   -- and an error is the one that is due
-  pub front_refused : (excused : Bool) (error : CodecError) → Excused excused (form_read (form_of header) stored selection ≡ Err error) → Excused excused (front_read header stored size numbers ≡ Err (of_codec error))
-  front_refused excused error h = λ wants. front_by header stored size numbers selection given ∙ elements_not_due header.data_type error (form_read (form_of header) stored selection) (h wants)
+  pub front_refused : (excused : Bool) (error : CodecError) → Excused excused (form_read (header_form header) stored selection ≡ Err error) → Excused excused (front_read header stored size numbers ≡ Err (of_codec error))
+  front_refused excused error h = λ wants. front_by header stored size numbers selection given ∙ elements_not_due header.data_type error (form_read (header_form header) stored selection) (h wants)
 
 -- ---- one after another
 
@@ -101,7 +101,7 @@ module _ (header : Header) (stored : Option (List ℕ)) (sizes : List SelectionS
 
 -- where no decoder is made, the first selection fails with the same error
 pub first_refused : (header : Header) (stored : Option (List ℕ)) (sizes : List SelectionSize) (numbers : List ℕ) (excused : Bool) (error : CodecError) → FirstIsGiven header sizes numbers
-    → ((selection : Selection) → Excused excused (form_read (form_of header) stored selection ≡ Err error)) → Excused excused (selections_read header stored sizes numbers ≡ Err (of_codec error))
+    → ((selection : Selection) → Excused excused (form_read (header_form header) stored selection ≡ Err error)) → Excused excused (selections_read header stored sizes numbers ≡ Err (of_codec error))
 first_refused header stored [] numbers excused error first refuses = absurd first
 first_refused header stored (size ∷ sizes) numbers excused error first refuses = λ wants.
     let s = ok_of (front_given header size numbers) first in

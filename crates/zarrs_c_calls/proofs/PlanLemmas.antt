@@ -8,10 +8,10 @@ use Rattle.zarrs_codec.specs.ByteSpan.{ByteSpan}
 use Rattle.zarrs_json.specs.KnownBytesCodec.{known_codecs}
 use Rattle.zarrs_chain_meaning.specs.CodecMeaning.{chain_representation}
 use Rattle.zarrs_codec_chain.specs.ChunkRead.{IsReadPlan, planned_places}
-use Rattle.zarrs_json.specs.Header.{Header, form_of, Form}
+use Rattle.zarrs_json.specs.Header.{Header, header_form, HeaderForm}
 use Rattle.zarrs_lent_handles.specs.Joined.{Joins}
 use Rattle.zarrs_c_calls.specs.Calls.{header_given}
-use Rattle.zarrs_c_calls.specs.Codes.{cause_code, cause_memory, codec_answer}
+use Rattle.zarrs_c_calls.specs.Codes.{cause_code, cause_memory, codec_call_answer}
 use Rattle.zarrs_c_calls.specs.Plans.{Planned, PlanBuffers, TellsPlan, ToldRanges, places_planned, planned, range_numbers}
 use Rattle.zarrs_c_calls.specs.PlanSeen.{IsPlanNumbers}
 use Rattle.zarrs_c_calls.specs.Selections.{selection_given}
@@ -23,22 +23,22 @@ use Rattle.zarrs_codec_chain.proofs.MadeCoders.{fits}
 -- ---- by a coder that is made for it
 
 -- these ranges are a plan of these places
-abbrev IsPlanOf : Form → Option (Vec ByteSpan Global) → Option (List ℕ) → Type 0
+abbrev IsPlanOf : HeaderForm → Option (Vec ByteSpan Global) → Option (List ℕ) → Type 0
 IsPlanOf form ranges places = IsReadPlan known_codecs form (option_map (λ v. v.items) ranges) places
 
 stops : {A B : Type 0} (r : Result A CodecError) (x : Result B CodecError) (e : CodecError) → seen (λ _. tt {0}) r ≡ Err e → (r >>= λ _. x) ≡ Err e
 stops (Ok a) x e h = absurd (cc)
 stops (Err f) x e h = cc
 
-pub plan_refused : (chunk : Form) (selection : Selection) (e : CodecError) → Excused (memory e) (seen (λ _. tt {0}) (chain_representation known_codecs chunk.chain chunk.sizes chunk.type chunk.fill) ≡ Err e)
+pub plan_refused : (chunk : HeaderForm) (selection : Selection) (e : CodecError) → Excused (memory e) (seen (λ _. tt {0}) (chain_representation known_codecs chunk.chain chunk.sizes chunk.type chunk.fill) ≡ Err e)
     → Excused (memory e) (places_planned chunk selection ≡ Err e)
 plan_refused chunk selection e h = λ wants.
     stops (chain_representation known_codecs chunk.chain chunk.sizes chunk.type chunk.fill) (planned_places chunk selection) e (h wants)
 
-pub plan_made : (chunk form : Form) (selection : Selection) (r : Result (Option (Vec ByteSpan Global)) CodecError) → form ≡ chunk → seen (λ _. tt {0}) (chain_representation known_codecs chunk.chain chunk.sizes chunk.type chunk.fill) ≡ Ok tt
+pub plan_made : (chunk form : HeaderForm) (selection : Selection) (r : Result (Option (Vec ByteSpan Global)) CodecError) → form ≡ chunk → seen (λ _. tt {0}) (chain_representation known_codecs chunk.chain chunk.sizes chunk.type chunk.fill) ≡ Ok tt
     → AnswersBy memory (IsPlanOf form) r (planned_places form selection) → AnswersBy memory (IsPlanOf chunk) r (places_planned chunk selection)
 plan_made chunk form selection r same made h =
-    let of_chunk : AnswersBy memory (IsPlanOf chunk) r (planned_places chunk selection) = subst (λ (f : Form). AnswersBy memory (IsPlanOf f) r (planned_places f selection)) same h in
+    let of_chunk : AnswersBy memory (IsPlanOf chunk) r (planned_places chunk selection) = subst (λ (f : HeaderForm). AnswersBy memory (IsPlanOf f) r (planned_places f selection)) same h in
     subst (λ (y : Result (Option (List ℕ)) CodecError). AnswersBy memory (IsPlanOf chunk) r y)
     (sym (fits (chain_representation known_codecs chunk.chain chunk.sizes chunk.type chunk.fill) (planned_places chunk selection) made)) of_chunk
 
@@ -48,7 +48,7 @@ plan_made chunk form selection r same made h =
 abbrev pub with_header : Header → Option (List ℕ) → Result Planned Cause
 with_header header places = Ok (header, places)
 
-none_joined : (header : Header) (places : Result (Option (List ℕ)) CodecError) → IsOkAnd places (IsPlanOf (form_of header) None) → IsOkAnd (codec_answer places >>= with_header header) (IsPlanNumbers None)
+none_joined : (header : Header) (places : Result (Option (List ℕ)) CodecError) → IsOkAnd places (IsPlanOf (header_form header) None) → IsOkAnd (codec_call_answer places >>= with_header header) (IsPlanNumbers None)
 none_joined header (Ok None) h = refl
 none_joined header (Ok (Some places)) h = absurd h
 none_joined header (Err e) h = absurd h
@@ -57,30 +57,30 @@ none_joined header (Err e) h = absurd h
 abbrev AreNumbersOf : List ByteSpan → Vec ℕ Global → Type 0
 AreNumbersOf ranges numbers = (joined : List ByteSpan) × (numbers.items ≡ range_numbers joined) × Joins ranges joined
 
-some_joined : (header : Header) (places : Result (Option (List ℕ)) CodecError) (ranges : Vec ByteSpan Global) (numbers : Vec ℕ Global) → IsOkAnd places (IsPlanOf (form_of header) (Some ranges)) → AreNumbersOf ranges.items numbers
-    → IsOkAnd (codec_answer places >>= with_header header) (IsPlanNumbers (Some numbers))
+some_joined : (header : Header) (places : Result (Option (List ℕ)) CodecError) (ranges : Vec ByteSpan Global) (numbers : Vec ℕ Global) → IsOkAnd places (IsPlanOf (header_form header) (Some ranges)) → AreNumbersOf ranges.items numbers
+    → IsOkAnd (codec_call_answer places >>= with_header header) (IsPlanNumbers (Some numbers))
 some_joined header (Ok None) ranges numbers h joined = absurd h
 some_joined header (Ok (Some places)) ranges numbers h joined = (joined.0, joined.1, (places, ranges.items, refl, h, joined.2))
 some_joined header (Err e) ranges numbers h joined = absurd h
 
 module _ (text : List ℕ) (tuples : ℕ) (numbers : List ℕ) (header : Header) (selection : Selection) (reads : header_given text ≡ Ok header) (means : selection_given (length header.sizes) tuples numbers ≡ Ok selection) where
   abbrev places : Result (Option (List ℕ)) CodecError
-  places = places_planned (form_of header) selection
+  places = places_planned (header_form header) selection
 
-  pub plan_by : planned text tuples numbers ≡ (codec_answer places >>= with_header header)
+  pub plan_by : planned text tuples numbers ≡ (codec_call_answer places >>= with_header header)
   plan_by = rw (reads, means) refl
 
   -- where none is planned, none is due
-  pub none_due : (ranges : Option (Vec ByteSpan Global)) → IsOkAnd places (IsPlanOf (form_of header) ranges) → ranges ≡ None → IsOkAnd (planned text tuples numbers) (IsPlanNumbers None)
+  pub none_due : (ranges : Option (Vec ByteSpan Global)) → IsOkAnd places (IsPlanOf (header_form header) ranges) → ranges ≡ None → IsOkAnd (planned text tuples numbers) (IsPlanNumbers None)
   none_due ranges h is =
-      let of_none : IsOkAnd places (IsPlanOf (form_of header) None) = subst (λ (r : Option (Vec ByteSpan Global)). IsOkAnd places (IsPlanOf (form_of header) r)) is h in
+      let of_none : IsOkAnd places (IsPlanOf (header_form header) None) = subst (λ (r : Option (Vec ByteSpan Global)). IsOkAnd places (IsPlanOf (header_form header) r)) is h in
       subst (λ (x : Result Planned Cause). IsOkAnd x (IsPlanNumbers None)) (sym plan_by) (none_joined header places of_none)
 
   -- those that are planned are due, joined
-  pub some_due : (ranges : Option (Vec ByteSpan Global)) (made : Vec ByteSpan Global) (told : Vec ℕ Global) → IsOkAnd places (IsPlanOf (form_of header) ranges) → ranges ≡ Some made → AreNumbersOf made.items told
+  pub some_due : (ranges : Option (Vec ByteSpan Global)) (made : Vec ByteSpan Global) (told : Vec ℕ Global) → IsOkAnd places (IsPlanOf (header_form header) ranges) → ranges ≡ Some made → AreNumbersOf made.items told
       → IsOkAnd (planned text tuples numbers) (IsPlanNumbers (Some told))
   some_due ranges made told h is joined =
-      let of_some : IsOkAnd places (IsPlanOf (form_of header) (Some made)) = subst (λ (r : Option (Vec ByteSpan Global)). IsOkAnd places (IsPlanOf (form_of header) r)) is h in
+      let of_some : IsOkAnd places (IsPlanOf (header_form header) (Some made)) = subst (λ (r : Option (Vec ByteSpan Global)). IsOkAnd places (IsPlanOf (header_form header) r)) is h in
       subst (λ (x : Result Planned Cause). IsOkAnd x (IsPlanNumbers (Some told))) (sym plan_by) (some_joined header places made told of_some joined)
 
 -- ---- returned

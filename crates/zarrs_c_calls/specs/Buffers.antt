@@ -22,14 +22,14 @@ abbrev pub room : List ℕ → List ℕ → List ℕ → Sizes → Room
 room masks offsets bytes needed = record { parts = buffers masks offsets bytes; needed = needed }
 
 -- with one mask more round them
-abbrev pub under_mask : List ℕ → Buffers → Buffers
-under_mask mask inside = buffers (mask ++ inside.masks) inside.offsets inside.bytes
+abbrev pub masked_buffers : List ℕ → Buffers → Buffers
+masked_buffers mask inside = buffers (mask ++ inside.masks) inside.offsets inside.bytes
 
 -- what a container crosses as
 abbrev pub crossed : Held → Buffers
 crossed (flen raw) = buffers [] [] raw.items
 crossed (vlen raw offsets) = buffers [] offsets raw.items
-crossed (masked inner mask) = under_mask mask.items (crossed inner)
+crossed (masked inner mask) = masked_buffers mask.items (crossed inner)
 
 -- the caller's buffers have room for these
 abbrev pub have_room : Buffers → Buffers → Bool

@@ -8,7 +8,7 @@ use Rattle.zarrs_chain_meaning.specs.CodecMeaning.{chain_chunk, chain_representa
 use Rattle.zarrs_chain.specs.Reencode.{reencoded_value}
 use Rattle.zarrs_json.specs.Header.{Header, line_header, line_codecs}
 use Rattle.zarrs_c_calls.specs.Buffers.{Buffers}
-use Rattle.zarrs_c_calls.specs.Codes.{refusal_answer, codec_answer}
+use Rattle.zarrs_c_calls.specs.Codes.{refusal_answer, codec_call_answer}
 use Rattle.zarrs_c_calls.specs.Given.{elements_given}
 use Rattle.zarrs_c_calls.specs.Told.{Elements}
 use Rattle.zarrs_c_calls.specs.declared.cause.Cause.{Cause}
@@ -22,20 +22,20 @@ header_given text = refusal_answer (line_header Shipped text)
 abbrev pub represented : List ℕ → Result BytesRepresentation Cause
 represented text = do
   header ← header_given text
-  codec_answer (chain_representation known_codecs header.chain header.sizes header.data_type header.fill)
+  codec_call_answer (chain_representation known_codecs header.chain header.sizes header.data_type header.fill)
 
 -- the value that is written for the chunk of these elements
 abbrev pub encoded : List ℕ → Buffers → Result (List ℕ) Cause
 encoded text elements = do
   header ← header_given text
   held ← elements_given header.data_type elements
-  codec_answer (held_value known_codecs header.chain header.sizes header.data_type header.fill held)
+  codec_call_answer (held_value known_codecs header.chain header.sizes header.data_type header.fill held)
 
 -- the chunk that a value stands for
 abbrev pub decoded : List ℕ → List ℕ → Result Elements Cause
 decoded text value = do
   header ← header_given text
-  chunk ← codec_answer (chain_chunk known_codecs header.chain header.sizes header.data_type header.fill value)
+  chunk ← codec_call_answer (chain_chunk known_codecs header.chain header.sizes header.data_type header.fill value)
   Ok (header.data_type, chunk)
 
 -- the value that the chain of these codecs writes for the chunk that a value stands for
@@ -43,4 +43,4 @@ abbrev pub reencoded : List ℕ → List ℕ → List ℕ → Result (List ℕ) 
 reencoded text value codecs = do
   header ← header_given text
   to ← refusal_answer (line_codecs Shipped codecs)
-  codec_answer (reencoded_value known_codecs header.chain known_codecs to (record { sizes = header.sizes; type = header.data_type; fill = header.fill }) value)
+  codec_call_answer (reencoded_value known_codecs header.chain known_codecs to (record { sizes = header.sizes; type = header.data_type; fill = header.fill }) value)

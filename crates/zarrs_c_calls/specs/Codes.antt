@@ -4,7 +4,7 @@ use Rattle.zarrs_chunk.specs.declared.codec_error.CodecError.{CodecError}
 use Rattle.zarrs_chunk.specs.declared.codec_error.CodecError.TheVariants.{OutOfMemory, Storage, UnsupportedDataType, EndiannessMissing, ArrayBytesKind, InvalidBytesLength, IncompatibleDimensionality, OutOfBounds, Overflow, InvalidFillValue, ReshapeDimension, ReshapeElements, BitRange, PaddingByte, IndexLength, InvalidOffsets, OffsetTooLarge, OffsetNotKept, MaskValue, HeaderOverflow, InvalidByteRange, BytesCodec, DataMismatch, UnsupportedTarget, TargetMismatch, ReversedRange, ElementCount, IndivisibleShape, IndexNotFixed}
 use Rattle.zarrs_metadata.specs.declared.plugin_create_error.PluginCreateError.{PluginCreateError}
 use Rattle.zarrs_metadata.specs.declared.plugin_create_error.PluginCreateError.TheVariants as making
-use Rattle.zarrs_json.specs.Refusal.{wants_memory}
+use Rattle.zarrs_json.specs.Refusal.{refusal_memory}
 use Rattle.zarrs_json.specs.declared.refusal.Refusal.{Refusal}
 use Rattle.zarrs_json.specs.declared.refusal.Refusal.TheVariants.{Syntax, Making, Codec}
 use Rattle.zarrs_c_calls.specs.declared.cause.Cause.{Cause}
@@ -16,7 +16,7 @@ use Rattle.zarrs_c_calls.specs.declared.cause.Cause.TheVariants.{Argument, NotIn
 abbrev pub cause_memory : Cause → Bool
 cause_memory Argument = false
 cause_memory NotInPlace = false
-cause_memory (Refused refusal) = wants_memory refusal
+cause_memory (Refused refusal) = refusal_memory refusal
 
 -- the answer of a reading of a header or a list of codecs
 abbrev pub refusal_answer : {A : Type 0} → Result A Refusal → Result A Cause
@@ -24,9 +24,9 @@ refusal_answer (Ok value) = Ok value
 refusal_answer (Err refusal) = Err (Refused refusal)
 
 -- a codec's answer
-abbrev pub codec_answer : {A : Type 0} → Result A CodecError → Result A Cause
-codec_answer (Ok value) = Ok value
-codec_answer (Err error) = Err (Refused (Codec error))
+abbrev pub codec_call_answer : {A : Type 0} → Result A CodecError → Result A Cause
+codec_call_answer (Ok value) = Ok value
+codec_call_answer (Err error) = Err (Refused (Codec error))
 
 -- ---- codes
 

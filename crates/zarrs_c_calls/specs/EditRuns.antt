@@ -23,8 +23,8 @@ abbrev pub buffer_of : {B : Type 0} {h : _} {w : _} {b : _} → ArrayPartialEnco
 buffer_of encoder = encoder_handle encoder
 
 -- and its bytes
-abbrev pub bytes_of : {B : Type 0} {h : _} {w : _} {b : _} → ArrayPartialEncoder BufferHandle B h w b → List ℕ
-bytes_of encoder = buffer_bytes (buffer_of encoder)
+abbrev pub encoder_bytes : {B : Type 0} {h : _} {w : _} {b : _} → ArrayPartialEncoder BufferHandle B h w b → List ℕ
+encoder_bytes encoder = buffer_bytes (buffer_of encoder)
 
 -- the edits take just all numbers and bytes
 abbrev pub AreTaken : Edits → Type 0
@@ -37,11 +37,11 @@ IsRepresented form =
 
 -- an edit leaves in a buffer what `zarrs_write` leaves of its bytes, or the first error is returned, and the bytes stay as they were
 pub record MakesEdit {B : Type 0} {h : _} {w : _} {b : _} (form : ChunkHeader) (before after : ArrayPartialEncoder BufferHandle B h w b) (edit : Edit) (result : Result (Unit {0}) Cause) : Type 0 where
-  pub made : Answers cause_memory (λ _. bytes_of after) result (header_written (header_seen form) (Some (bytes_of before)) edit.tuples edit.numbers.now (buffers edit.masks.now edit.offsets.now edit.bytes.now))
-  pub kept : OnErr result (bytes_of after ≡ bytes_of before)
+  pub made : Answers cause_memory (λ _. encoder_bytes after) result (header_written (header_seen form) (Some (encoder_bytes before)) edit.tuples edit.numbers.now (buffers edit.masks.now edit.offsets.now edit.bytes.now))
+  pub kept : OnErr result (encoder_bytes after ≡ encoder_bytes before)
 
 -- What edits of a value give: the value has the first `done` ones. Where none failed, these are all; else the next one failed for this cause, lack of memory aside.
-pub record RunsEdits (form : ChunkHeader) (before after : List ℕ) (edits : Edits) (outcome : EditsOutcome) : Type 0 where
+pub record EditsInOrder (form : ChunkHeader) (before after : List ℕ) (edits : Edits) (outcome : EditsOutcome) : Type 0 where
   pub made : edits_left (header_seen form) edits.sizes.now edits.numbers.now edits.bytes.now before outcome.done ≡ Ok after
   pub all : IfNone outcome.refusal (outcome.done ≡ length edits.sizes.now)
   pub refused : IfSome outcome.refusal (λ cause. Excused (cause_memory cause) (edits_left (header_seen form) edits.sizes.now edits.numbers.now edits.bytes.now before (suc outcome.done) ≡ Err cause))

@@ -10,7 +10,7 @@ use Rattle.zarrs_chain_meaning.specs.CodecMeaning.{chain_representation}
 use Rattle.zarrs_json.specs.Header.{Header}
 use Rattle.zarrs_c_calls.specs.Buffers.{buffers}
 use Rattle.zarrs_c_calls.specs.Calls.{header_given}
-use Rattle.zarrs_c_calls.specs.Codes.{IsRefusal, codec_answer}
+use Rattle.zarrs_c_calls.specs.Codes.{IsRefusal, codec_call_answer}
 use Rattle.zarrs_c_calls.specs.Writes.{header_written}
 use Rattle.zarrs_c_calls.specs.declared.cause.Cause.{Cause}
 use Rattle.zarrs_c_calls.specs.declared.cause.Cause.TheVariants.{Argument, NotInPlace}
@@ -41,7 +41,7 @@ abbrev pub edits_opened : List ℕ → ℕ → List EditSize → ℕ → ℕ →
 edits_opened text len sizes numbers bytes = do
   header ← header_given text
   _ ← demand (all_are_taken sizes numbers bytes) Argument
-  in_place ← codec_answer (edits_in_place header len)
+  in_place ← codec_call_answer (edits_in_place header len)
   _ ← demand in_place NotInPlace
   Ok header
 

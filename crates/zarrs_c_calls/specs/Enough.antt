@@ -3,7 +3,7 @@ use Rattle.std.specs.Prelude.{◌≡◌, ℕ, true, Some, List, length, Ok}
 use Rattle.zarrs_chunk.specs.Selection.{Selection}
 use Rattle.zarrs_codec.specs.ByteSpan.{ByteSpan}
 use Rattle.zarrs_json.specs.KnownBytesCodec.{known_codecs}
-use Rattle.zarrs_json.specs.Header.{Header, form_of}
+use Rattle.zarrs_json.specs.Header.{Header, header_form}
 use Rattle.zarrs_lent_handles.specs.Joined.{have_number}
 use Rattle.zarrs_lent_handles.specs.Pieces.{PlainPiece, are_at_hand, is_at_hand}
 use Rattle.zarrs_codec_chain.specs.PlannedReads.{ArePlanned}
@@ -16,4 +16,4 @@ abbrev pub PlanIsEnough : Type 0
 PlanIsEnough =
     (text : List ℕ) (tuples : ℕ) (numbers : List ℕ) (header : Header) (selection : Selection) (plan : Planned) (ranges : List ByteSpan) (pieces : List PlainPiece)
     → header_given text ≡ Ok header → selection_given (length header.sizes) tuples numbers ≡ Ok selection → planned text tuples numbers ≡ Ok plan → AreForPlan (Some ranges) plan
-    → ((number : ℕ) → have_number ranges number ≡ true → is_at_hand pieces number ≡ true) → (asked : List ℕ) × ArePlanned known_codecs (form_of header) selection asked × (are_at_hand pieces asked ≡ true)
+    → ((number : ℕ) → have_number ranges number ≡ true → is_at_hand pieces number ≡ true) → (asked : List ℕ) × ArePlanned known_codecs (header_form header) selection asked × (are_at_hand pieces asked ≡ true)

@@ -10,7 +10,7 @@ use Rattle.zarrs_array_bytes.specs.Held.{Held}
 use Rattle.zarrs_json.specs.KnownBytesCodec.{known_codecs}
 use Rattle.zarrs_codec.specs.StorageState.{StorageState}
 use Rattle.zarrs_json.specs.declared.refusal.Refusal.TheVariants.{Syntax, Making, Codec}
-use Rattle.zarrs_json.specs.Header.{Form, Header, form_of}
+use Rattle.zarrs_json.specs.Header.{HeaderForm, Header, header_form}
 use Rattle.zarrs_json.specs.declared.header.ChunkHeader.{ChunkHeader}
 use Rattle.zarrs_lent_handles.specs.Pieces.{PlainPiece, HasPieces, are_apart, are_at_hand, pieces_seen}
 use Rattle.zarrs_lent_handles.specs.PiecesHandle.{pieces_state}
@@ -20,7 +20,7 @@ use Rattle.zarrs_codec_chain.specs.ChunkRead.{are_asked_sure, asks_in_part, read
 use Rattle.zarrs_codec_chain.specs.PlannedReads.{ArePlanned}
 use Rattle.zarrs_c_calls.specs.Buffers.{Room, crossed}
 use Rattle.zarrs_c_calls.specs.Calls.{header_given}
-use Rattle.zarrs_c_calls.specs.Codes.{IsRefusal, cause_memory, codec_answer}
+use Rattle.zarrs_c_calls.specs.Codes.{IsRefusal, cause_memory, codec_call_answer}
 use Rattle.zarrs_c_calls.specs.LackingByte.{LacksByte, apart_read}
 use Rattle.zarrs_c_calls.specs.Reads.{form_seen, part_read}
 use Rattle.zarrs_c_calls.specs.Selections.{selection_given}
@@ -51,7 +51,7 @@ pieces_read text len ranges fetched tuples numbers = do
   header ← header_given text
   selection ← selection_given (length header.sizes) tuples numbers
   pieces ← pieces_given ranges fetched
-  chunk ← codec_answer (apart_read (form_of header) len pieces selection)
+  chunk ← codec_call_answer (apart_read (header_form header) len pieces selection)
   Ok (header.data_type, chunk)
 
 -- The value has so many bytes and these pieces, and all bytes that a read of the selection plans to ask for are among them.
@@ -64,7 +64,7 @@ pub record HasPlannedPieces (text : List ℕ) (len : ℕ) (ranges fetched : List
   pub selection_is : selection_given (length header.sizes) tuples numbers ≡ Ok selection
   pub pieces_are : pieces_given ranges fetched ≡ Ok pieces
   pub stand_apart : are_apart len 0 pieces ≡ true
-  pub planned_are : ArePlanned known_codecs (form_of header) selection planned
+  pub planned_are : ArePlanned known_codecs (header_form header) selection planned
   pub at_hand : are_at_hand pieces planned ≡ true
   pub has : HasPieces len pieces value
 
@@ -88,7 +88,7 @@ pub record Lacks (text : List ℕ) (len : ℕ) (ranges fetched : List ℕ) (tupl
   pub header_is : header_given text ≡ Ok header
   pub selection_is : selection_given (length header.sizes) tuples numbers ≡ Ok selection
   pub pieces_are : pieces_given ranges fetched ≡ Ok pieces
-  pub lacking : LacksByte (form_of header) len pieces selection
+  pub lacking : LacksByte (header_form header) len pieces selection
 
 -- The call returns a container of the elements that are due; or it fails, or returns the code 11, where a byte is lacking, and it leaves the buffers and the counts as they were.
 abbrev pub TellsOrLacks : Type 0 → Result Elements Cause → ℕ → Room → Room → Type 0
@@ -108,7 +108,7 @@ abbrev pub pieces_in : Vec Piece Global → List PlainPiece
 pieces_in pieces = pieces_seen pieces.items
 
 -- where a read asks for a part of the value alone, no byte is lacking if the selection has an error, or if all bytes are at hand that it asks for
-pub record AsksSurely (form : Form) (state : StorageState) (selection : Selection) (failed : Bool) : Type 0 where
+pub record AsksSurely (form : HeaderForm) (state : StorageState) (selection : Selection) (failed : Bool) : Type 0 where
   pub refused : is_ok (bounds_of selection form.sizes) ≡ false → failed ≡ false
   pub sure : are_asked_sure state.sure (read_rests_on known_codecs form state.value selection) ≡ true → failed ≡ false
 
@@ -117,8 +117,8 @@ ReadsSurelyInPart form handle indexer result =
     asks_in_part (form_seen form).chain.bytes_to_bytes (form_seen form).chain.array_to_bytes ≡ true → AsksSurely (form_seen form) (pieces_state handle) (selection_of indexer) (is_fault result)
 
 -- of each value that has the fetched pieces, where all bytes that are planned are among them, the answer is that of a read of the value
-abbrev pub ReadsAlike : List ℕ → Fetched → ℕ → List ℕ → Result Held Cause → Type 0
-ReadsAlike text fetched tuples numbers result =
+abbrev pub ReadsFetchedAlike : List ℕ → Fetched → ℕ → List ℕ → Result Held Cause → Type 0
+ReadsFetchedAlike text fetched tuples numbers result =
     (value : List ℕ) → HasPlannedPieces text fetched.len fetched.ranges.now fetched.bytes.now tuples numbers value → AnswersBy cause_memory HoldsThese result (part_read text (Some value) tuples numbers)
 
 -- the error that a byte isn't at hand comes only where it is due, or where a byte is lacking

@@ -6,7 +6,7 @@ use Rattle.zarrs_array_bytes.specs.Held.{Held, flen}
 use Rattle.zarrs_array_bytes.specs.Offsets.{offsets_of}
 use Rattle.zarrs_array_bytes.specs.Parts.{with_offsets, with_mask}
 use Rattle.zarrs_c_calls.specs.Buffers.{Buffers}
-use Rattle.zarrs_c_calls.specs.Codes.{codec_answer}
+use Rattle.zarrs_c_calls.specs.Codes.{codec_call_answer}
 use Rattle.zarrs_c_calls.specs.declared.cause.Cause.{Cause}
 use Rattle.zarrs_c_calls.specs.declared.cause.Cause.TheVariants.{Argument}
 use Rattle.zarrs_chain_meaning.specs.vlen.VlenSteps.{lent_bytes}
@@ -23,8 +23,8 @@ mask_length levels count =
 -- elements of any length
 abbrev pub variable_given : List ℕ → List ℕ → Result Held Cause
 variable_given offsets items = do
-  starts ← codec_answer (offsets_of offsets)
-  codec_answer (with_offsets (lent_bytes items) starts)
+  starts ← codec_call_answer (offsets_of offsets)
+  codec_call_answer (with_offsets (lent_bytes items) starts)
 
 -- elements of the type under masks of so many bytes each, the outermost first
 abbrev pub given_under : ElementType → ℕ → List ℕ → List ℕ → List ℕ → Result Held Cause
@@ -34,7 +34,7 @@ given_under bytes each masks offsets items = variable_given offsets items
 given_under (optional type) each masks offsets items = do
   _ ← demand (nat_le each (length masks)) Argument
   inner ← given_under type each (drop each masks) offsets items
-  codec_answer (with_mask inner (lent_bytes (take each masks)))
+  codec_call_answer (with_mask inner (lent_bytes (take each masks)))
 
 -- The elements of the type: its masks are of one length, and offsets are read of a variable type alone. That there are as many elements as are due is tested by the calls that take them.
 abbrev pub elements_given : ElementType → Buffers → Result Held Cause

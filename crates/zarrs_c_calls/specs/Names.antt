@@ -29,8 +29,8 @@ shape_name code =
     []
 
 -- errors of codecs: of bytes and targets
-abbrev pub bytes_name : ℕ → List ℕ
-bytes_name code =
+abbrev pub content_name : ℕ → List ℕ
+content_name code =
     if code == 22 then codes "BitRange" else
     if code == 23 then codes "PaddingByte" else
     if code == 24 then codes "IndexLength" else
@@ -66,4 +66,4 @@ making_name code =
 -- the name of a number that calls answer; none of any other number
 abbrev pub code_name : ℕ → List ℕ
 code_name code =
-    if nat_lt code 10 then call_name code else if nat_lt code 22 then shape_name code else if nat_lt code 50 then bytes_name code else making_name code
+    if nat_lt code 10 then call_name code else if nat_lt code 22 then shape_name code else if nat_lt code 50 then content_name code else making_name code

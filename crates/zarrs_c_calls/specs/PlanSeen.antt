@@ -7,12 +7,12 @@ use Rattle.zarrs_chunk.specs.Selection.{Selection}
 use Rattle.zarrs_chunk.specs.declared.codec_error.CodecError.{CodecError}
 use Rattle.zarrs_codec.specs.ByteSpan.{ByteSpan}
 use Rattle.zarrs_json.specs.KnownBytesCodec.{known_codecs}
-use Rattle.zarrs_json.specs.Header.{Form}
+use Rattle.zarrs_json.specs.Header.{HeaderForm}
 use Rattle.zarrs_codec_chain.specs.ChunkRead.{IsReadPlan}
 use Rattle.zarrs_c_calls.specs.Plans.{Planned, AreForPlan, places_planned, range_numbers}
 
 -- a plan of a read of a selection, or the first error
-abbrev pub PlansPart : Form → Selection → Result (Option (Vec ByteSpan Global)) CodecError → Type 0
+abbrev pub PlansPart : HeaderForm → Selection → Result (Option (Vec ByteSpan Global)) CodecError → Type 0
 PlansPart form selection result =
     AnswersBy memory (λ ranges. IsReadPlan known_codecs form (option_map (λ v. v.items) ranges)) result (places_planned form selection)
 

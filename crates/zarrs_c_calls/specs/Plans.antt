@@ -10,10 +10,10 @@ use Rattle.zarrs_json.specs.declared.known_bytes_codec.KnownBytesCodec.{KnownByt
 use Rattle.zarrs_chain_meaning.specs.CodecMeaning.{chain_representation}
 use Rattle.zarrs_codec_chain.specs.ChunkRead.{IsReadPlan, planned_places}
 use Rattle.zarrs_chain_meaning.specs.ChunkForm.{ChunkForm}
-use Rattle.zarrs_json.specs.Header.{Header, form_of}
+use Rattle.zarrs_json.specs.Header.{Header, header_form}
 use Rattle.zarrs_lent_handles.specs.Joined.{Joins}
 use Rattle.zarrs_c_calls.specs.Calls.{header_given}
-use Rattle.zarrs_c_calls.specs.Codes.{IsRefusal, codec_answer}
+use Rattle.zarrs_c_calls.specs.Codes.{IsRefusal, codec_call_answer}
 use Rattle.zarrs_c_calls.specs.Selections.{selection_given}
 use Rattle.zarrs_c_calls.specs.Told.{ToldBytes}
 use Rattle.zarrs_c_calls.specs.declared.cause.Cause.{Cause}
@@ -33,14 +33,14 @@ abbrev pub planned : List ℕ → ℕ → List ℕ → Result Planned Cause
 planned text tuples numbers = do
   header ← header_given text
   selection ← selection_given (length header.sizes) tuples numbers
-  places ← codec_answer (places_planned (form_of header) selection)
+  places ← codec_call_answer (places_planned (header_form header) selection)
   Ok (header, places)
 
 -- The ranges have the bytes of the planned places and no others; they are in order, and between one and the next there is a byte. There are none where more is asked for than the bytes of places.
 abbrev pub AreForPlan : Option (List ByteSpan) → Planned → Type 0
 AreForPlan None plan = plan.1 ≡ None
 AreForPlan (Some ranges) plan =
-    (places : List ℕ) × (made : List ByteSpan) × (plan.1 ≡ Some places) × IsReadPlan known_codecs (form_of plan.0) (Some made) (Some places) × Joins made ranges
+    (places : List ℕ) × (made : List ByteSpan) × (plan.1 ≡ Some places) × IsReadPlan known_codecs (header_form plan.0) (Some made) (Some places) × Joins made ranges
 
 -- ranges as numbers, each a start and an end
 abbrev pub range_numbers : List ByteSpan → List ℕ

@@ -12,11 +12,11 @@ use Rattle.zarrs_array_bytes.specs.Held.{Held}
 use Rattle.zarrs_array_bytes.specs.Validity.{Holds}
 use Rattle.zarrs_json.specs.KnownBytesCodec.{known_codecs, known_reads}
 use Rattle.zarrs_codec_chain.specs.MadeCoder.{made_read}
-use Rattle.zarrs_json.specs.Header.{Form, Header, form_of}
+use Rattle.zarrs_json.specs.Header.{HeaderForm, Header, header_form}
 use Rattle.zarrs_json.specs.HeaderRead.{header_seen}
 use Rattle.zarrs_json.specs.declared.header.ChunkHeader.{ChunkHeader}
 use Rattle.zarrs_c_calls.specs.Calls.{header_given}
-use Rattle.zarrs_c_calls.specs.Codes.{codec_answer}
+use Rattle.zarrs_c_calls.specs.Codes.{codec_call_answer}
 use Rattle.zarrs_c_calls.specs.Selections.{selection_given}
 use Rattle.zarrs_c_calls.specs.Told.{Elements}
 use Rattle.zarrs_c_calls.specs.declared.cause.Cause.{Cause}
@@ -26,22 +26,22 @@ abbrev pub stored_value : Bool → List ℕ → Option (List ℕ)
 stored_value is_stored value = if is_stored then Some value else None
 
 -- the value that is lent, or none
-abbrev pub stored_bytes : Option (Bor (List ℕ)) → Option (List ℕ)
-stored_bytes stored = option_map (λ value. value.now) stored
+abbrev pub lent_stored : Option (Bor (List ℕ)) → Option (List ℕ)
+lent_stored stored = option_map (λ value. value.now) stored
 
 -- the form of the chunks of a header that was read
-abbrev pub form_seen : ChunkHeader → Form
-form_seen form = form_of (header_seen form)
+abbrev pub form_seen : ChunkHeader → HeaderForm
+form_seen form = header_form (header_seen form)
 
 -- the elements that a selection selects of what is stored, by a decoder that is made for it
-abbrev pub form_read : Form → Option (List ℕ) → Selection → Result Chunk CodecError
+abbrev pub form_read : HeaderForm → Option (List ℕ) → Selection → Result Chunk CodecError
 form_read form stored selection = made_read known_codecs known_reads form stored selection
 
 -- those of the chunk of a header that was read
 abbrev pub header_read : Header → Option (List ℕ) → ℕ → List ℕ → Result Elements Cause
 header_read header stored tuples numbers = do
   selection ← selection_given (length header.sizes) tuples numbers
-  chunk ← codec_answer (form_read (form_of header) stored selection)
+  chunk ← codec_call_answer (form_read (header_form header) stored selection)
   Ok (header.data_type, chunk)
 
 -- and of the chunk of a header

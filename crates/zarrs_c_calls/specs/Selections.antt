@@ -5,7 +5,7 @@ use Rattle.zarrs_chunk.specs.ArraySubset.{subset_of_start_shape}
 use Rattle.zarrs_chunk.specs.Indexer.{selection_of}
 use Rattle.zarrs_chunk.specs.Selection.{Selection, subset, indices}
 use Rattle.zarrs_chunk.specs.declared.indexer.Indexer.{Indexer}
-use Rattle.zarrs_c_calls.specs.Codes.{cause_memory, codec_answer}
+use Rattle.zarrs_c_calls.specs.Codes.{cause_memory, codec_call_answer}
 use Rattle.zarrs_c_calls.specs.declared.cause.Cause.{Cause}
 use Rattle.zarrs_c_calls.specs.declared.cause.Cause.TheVariants.{Argument}
 
@@ -13,7 +13,7 @@ use Rattle.zarrs_c_calls.specs.declared.cause.Cause.TheVariants.{Argument}
 abbrev pub box_given : List ℕ → Result Selection Cause
 box_given numbers = do
   _ ← demand (length numbers % 2 == 0) Argument
-  region ← codec_answer (subset_of_start_shape (take (length numbers / 2) numbers) (drop (length numbers / 2) numbers))
+  region ← codec_call_answer (subset_of_start_shape (take (length numbers / 2) numbers) (drop (length numbers / 2) numbers))
   Ok (subset region)
 
 -- so many tuples of so many numbers each, one after another

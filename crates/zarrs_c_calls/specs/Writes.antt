@@ -7,25 +7,25 @@ use Rattle.zarrs_chunk.specs.declared.codec_error.CodecError.{CodecError}
 use Rattle.zarrs_array_bytes.specs.Held.{Held}
 use Rattle.zarrs_json.specs.KnownBytesCodec.{known_codecs}
 use Rattle.zarrs_codec_chain.specs.MadeCoder.{made_written}
-use Rattle.zarrs_json.specs.Header.{Form, Header, form_of}
+use Rattle.zarrs_json.specs.Header.{HeaderForm, Header, header_form}
 use Rattle.zarrs_c_calls.specs.Buffers.{Buffers, buffers}
 use Rattle.zarrs_c_calls.specs.Calls.{header_given}
-use Rattle.zarrs_c_calls.specs.Codes.{cause_memory, codec_answer}
+use Rattle.zarrs_c_calls.specs.Codes.{cause_memory, codec_call_answer}
 use Rattle.zarrs_c_calls.specs.Given.{elements_given}
 use Rattle.zarrs_c_calls.specs.Selections.{selection_given}
 use Rattle.zarrs_c_calls.specs.declared.cause.Cause.{Cause}
 use Rattle.zarrs_c_calls.specs.declared.part_writes.Edit.{Edit}
 
 -- the value that new elements at a selection leave of what is stored, by an encoder that is made for it: errors of its construction come first, then those of the selection, then those of the new elements
-abbrev pub form_written : Form → Option (List ℕ) → Selection → Held → Result (List ℕ) CodecError
-form_written form stored selection new = made_written known_codecs form stored selection new
+abbrev pub known_written : HeaderForm → Option (List ℕ) → Selection → Held → Result (List ℕ) CodecError
+known_written form stored selection new = made_written known_codecs form stored selection new
 
 -- what the new elements that cross leave of the chunk of a header that was read
 abbrev pub header_written : Header → Option (List ℕ) → ℕ → List ℕ → Buffers → Result (List ℕ) Cause
 header_written header stored tuples numbers elements = do
   selection ← selection_given (length header.sizes) tuples numbers
   new ← elements_given header.data_type elements
-  codec_answer (form_written (form_of header) stored selection new)
+  codec_call_answer (known_written (header_form header) stored selection new)
 
 -- and of the chunk of a header
 abbrev pub part_written : List ℕ → Option (List ℕ) → ℕ → List ℕ → Buffers → Result (List ℕ) Cause

@@ -42,7 +42,6 @@ pub(crate) fn encode<'a>(
     offsets: &[u64],
     bytes: &'a [u8],
 ) -> Result<ArrayBytesRaw<'a>, Cause>
-    // Wide: a header's text and three buffers.
     ensures answer { Answers cause_memory items_of result
         (encoded text.now (buffers masks.now offsets.now bytes.now)) }
 {

@@ -7,9 +7,9 @@ ghost use Rattle.zarrs_codec_chain.specs.PartialEncoder.{encoder_form};
 ghost use Rattle.zarrs_c_calls.specs.BufferHandle.{buffer_bytes, buffer_is_stored, buffer_name};
 ghost use Rattle.zarrs_c_calls.specs.Codes.{cause_memory};
 ghost use Rattle.zarrs_c_calls.specs.Edits.{all_are_taken, edits_in_place, edits_opened, has_all_bytes as has_all};
-ghost use Rattle.zarrs_c_calls.specs.EditRuns.{buffer_of, bytes_of, AreTaken, EditsValue, IsRepresented, MakesEdit, RunsEdits};
+ghost use Rattle.zarrs_c_calls.specs.EditRuns.{buffer_of, encoder_bytes, AreTaken, EditsValue, IsRepresented, MakesEdit, EditsInOrder};
 ghost use Rattle.zarrs_c_calls.specs.Reads.{form_seen};
-ghost use Rattle.zarrs_c_calls.specs.Writes.{form_written};
+ghost use Rattle.zarrs_c_calls.specs.Writes.{known_written};
 
 use crate::buffer_handle::BufferHandle;
 use crate::calls::form_given;
@@ -85,7 +85,6 @@ fn form_opened(
     len: usize,
     edits: &Edits<'_>,
 ) -> Result<ChunkHeader, Cause>
-    // Wide: a header's text and the three parts of the edits.
     ensures answer { Answers cause_memory header_seen result (edits_opened text.now len
         edits.now.sizes.now (length edits.now.numbers.now) (length edits.now.bytes.now)) }
 {
@@ -110,10 +109,9 @@ fn write_new(
     requires form { encoder_form encoder.old ≡ form_seen form.now }
     requires represented { IsRepresented form.now }
     requires stored { buffer_is_stored (buffer_of encoder.old) ≡ true }
-    // Wide: the header, the encoder before and after, the indexer and the new elements.
-    ensures answer { Answers memory (λ _. bytes_of encoder.new) result (form_written
-        (form_seen form.now) (Some (bytes_of encoder.old)) (selection_of indexer.now) new.now) }
-    ensures kept { OnErr result (bytes_of encoder.new ≡ bytes_of encoder.old) }
+    ensures answer { Answers memory (λ _. encoder_bytes encoder.new) result (known_written
+        (form_seen form.now) (Some (encoder_bytes encoder.old)) (selection_of indexer.now) new.now) }
+    ensures kept { OnErr result (encoder_bytes encoder.new ≡ encoder_bytes encoder.old) }
     ensures stored { buffer_is_stored (buffer_of encoder.new) ≡ true }
     ensures same_reference { buffer_name (buffer_of encoder.new) ≡ buffer_name (buffer_of encoder.old) }
     ensures form_kept { encoder_form encoder.new ≡ encoder_form encoder.old }
@@ -163,7 +161,8 @@ fn make_edits(
     requires represented { IsRepresented form.now }
     requires stored { buffer_is_stored (buffer_of encoder.old) ≡ true }
     requires taken { AreTaken edits.now }
-    ensures runs { RunsEdits form.now (bytes_of encoder.old) (bytes_of encoder.new) edits.now result }
+    ensures runs { EditsInOrder form.now (encoder_bytes encoder.old) (encoder_bytes encoder.new)
+        edits.now result }
     ensures stored { buffer_is_stored (buffer_of encoder.new) ≡ true }
     ensures same_reference { buffer_name (buffer_of encoder.new) ≡ buffer_name (buffer_of encoder.old) }
 {
@@ -203,7 +202,7 @@ fn edit_buffer<'h>(
 ) -> BufferHandle<'h>
     requires represented { IsRepresented form.now }
     requires taken { AreTaken edits.now }
-    ensures runs { RunsEdits form.now value.old (buffer_bytes result) edits.now outcome.new }
+    ensures runs { EditsInOrder form.now value.old (buffer_bytes result) edits.now outcome.new }
     ensures same_reference { buffer_name result ≡ value.entry.ghost_name }
 {
     let chain = &form.chain;
@@ -237,7 +236,7 @@ fn edit_value(
 ) -> EditsOutcome
     requires represented { IsRepresented form.now }
     requires taken { AreTaken edits.now }
-    ensures runs { RunsEdits form.now value.old value.new edits.now result }
+    ensures runs { EditsInOrder form.now value.old value.new edits.now result }
 {
     let mut outcome = EditsOutcome {
         done: 0,

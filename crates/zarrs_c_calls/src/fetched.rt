@@ -9,7 +9,7 @@ ghost use Rattle.zarrs_json.specs.HeaderRead.{header_seen};
 ghost use Rattle.zarrs_lent_handles.specs.Pieces.{pieces_seen};
 ghost use Rattle.zarrs_lent_handles.specs.PiecesHandle.{pieces_state};
 ghost use Rattle.zarrs_c_calls.specs.Codes.{cause_memory};
-ghost use Rattle.zarrs_c_calls.specs.Fetched.{front_bytes, memory_or_lack, pieces_in, pieces_given as pieces_of, pieces_read, LacksWhereAnswered, ReadsAlike, ReadsSurelyInPart};
+ghost use Rattle.zarrs_c_calls.specs.Fetched.{front_bytes, memory_or_lack, pieces_in, pieces_given as pieces_of, pieces_read, LacksWhereAnswered, ReadsFetchedAlike, ReadsSurelyInPart};
 ghost use Rattle.zarrs_c_calls.specs.LackingByte.{apart_read, whole_value as whole_of, LacksByte};
 ghost use Rattle.zarrs_c_calls.specs.Reads.{form_seen, ReadsForm};
 ghost use Rattle.zarrs_c_calls.specs.Told.{HoldsThese};
@@ -69,7 +69,6 @@ fn read_pieces_part(
     handle: PiecesHandle<'_>,
     indexer: &Indexer,
 ) -> Result<ArrayBytes<'static>, CodecError>
-    // Wide: the header, the handle's value and the indexer.
     ensures answer { ReadsForm memory_or_fault form.now (pieces_state handle.entry).value
         indexer.now result }
     ensures tight { IfOk result (IsTight (header_seen form.now).data_type) }
@@ -111,11 +110,9 @@ fn read_apart(
     pieces: Vec<Piece<'_>>,
     indexer: &Indexer,
 ) -> Result<ArrayBytes<'static>, CodecError>
-    // Wide: the header, the pieces and the indexer.
     ensures answer { AnswersBy memory_or_fault (Holds form.now.data_type) result
         (apart_read (form_seen form.now) len (pieces_in pieces.entry) (selection_of indexer.now)) }
     ensures tight { IfOk result (IsTight (header_seen form.now).data_type) }
-    // Wide: the header, the pieces and the indexer.
     ensures lacking { is_fault result ≡ true
         → LacksByte (form_seen form.now) len (pieces_in pieces.entry) (selection_of indexer.now) }
 {
@@ -143,10 +140,9 @@ pub(crate) fn read_fetched(
     tuples: u64,
     numbers: &[u64],
 ) -> Result<ArrayBytes<'static>, Cause>
-    // Wide: a header's text, the three parts of what was fetched, and the two of a selection.
     ensures answer { AnswersBy memory_or_lack HoldsThese result (pieces_read text.now
         fetched.now.len fetched.now.ranges.now fetched.now.bytes.now tuples numbers.now) }
-    ensures alike { ReadsAlike text.now fetched.now tuples numbers.now result }
+    ensures alike { ReadsFetchedAlike text.now fetched.now tuples numbers.now result }
     ensures lacking { LacksWhereAnswered text.now fetched.now tuples numbers.now result }
 {
     let form = form_given(alloc, text)?;

@@ -4,7 +4,7 @@ ghost use Rattle.zarrs_chunk.specs.Answer.{AnswersValue};
 ghost use Rattle.zarrs_data_type.specs.ElementType.{optional_levels};
 ghost use Rattle.zarrs_array_bytes.specs.Offsets.{offsets_of};
 ghost use Rattle.zarrs_c_calls.specs.Buffers.{buffers};
-ghost use Rattle.zarrs_c_calls.specs.Codes.{cause_memory, codec_answer};
+ghost use Rattle.zarrs_c_calls.specs.Codes.{cause_memory, codec_call_answer};
 ghost use Rattle.zarrs_c_calls.specs.Given.{mask_length as mask_length_of, variable_given as variable_of, given_under as under, elements_given as elements_of};
 
 use crate::cause::Cause;
@@ -37,7 +37,7 @@ fn mask_length(levels: usize, count: usize) -> Option<usize>
 }
 
 fn rising(alloc: Global, offsets: &[u64]) -> Result<ArrayBytesOffsets, Cause>
-    ensures answer { AnswersValue cause_memory result (codec_answer (offsets_of offsets.now)) }
+    ensures answer { AnswersValue cause_memory result (codec_call_answer (offsets_of offsets.now)) }
 {
     let mut starts = Vec::with_capacity(alloc, offsets.len())?;
     for offset in offsets {
@@ -66,7 +66,6 @@ fn given_under<'a>(
     offsets: &[u64],
     bytes: &'a [u8],
 ) -> Result<ArrayBytes<'a>, Cause>
-    // Wide: the type, the size of a mask, and three buffers.
     ensures answer { AnswersValue cause_memory result
         (under data_type.now each masks.now offsets.now bytes.now) }
 {
@@ -94,7 +93,6 @@ pub(crate) fn elements_given<'a>(
     offsets: &[u64],
     bytes: &'a [u8],
 ) -> Result<ArrayBytes<'a>, Cause>
-    // Wide: the type and three buffers.
     ensures answer { AnswersValue cause_memory result
         (elements_of data_type.now (buffers masks.now offsets.now bytes.now)) }
 {

@@ -3,12 +3,12 @@ ghost use Rattle.std.specs.Prelude.{◌≡◌, ◌≤◌, IfOk, drop, length};
 ghost use Rattle.zarrs_chunk.specs.Answer.{memory, AnswersBy};
 ghost use Rattle.zarrs_array_bytes.specs.Tight.{IsTight};
 ghost use Rattle.zarrs_json.specs.HeaderRead.{header_seen};
-ghost use Rattle.zarrs_codec_chain.specs.PartialDecoder.{form_of};
+ghost use Rattle.zarrs_codec_chain.specs.PartialDecoder.{decoder_form};
 ghost use Rattle.zarrs_lent_handles.specs.LentHandle.{lent_value};
 ghost use Rattle.zarrs_c_calls.specs.Codes.{cause_memory};
 ghost use Rattle.zarrs_c_calls.specs.EachRead.{decoder_value, front_given, FirstIsGiven, GivesEach, IsSourced};
 ghost use Rattle.zarrs_c_calls.specs.ManyReads.{front_read, many_read, HoldEach};
-ghost use Rattle.zarrs_c_calls.specs.Reads.{form_seen, stored_bytes, ReadsForm};
+ghost use Rattle.zarrs_c_calls.specs.Reads.{form_seen, lent_stored, ReadsForm};
 ghost use Rattle.zarrs_c_calls.specs.Selections.{Selects};
 ghost use Rattle.zarrs_c_calls.specs.Told.{HoldsThese};
 
@@ -46,12 +46,12 @@ fn read_one(
     decoder: &mut ArrayPartialDecoder<'_, LentHandle<'_>, KnownBytesCodec>,
     indexer: &Indexer,
 ) -> Result<ArrayBytes<'static>, CodecError>
-    requires form { form_of decoder.old ≡ form_seen form.now }
+    requires form { decoder_form decoder.old ≡ form_seen form.now }
     requires sourced { IsSourced (form_seen form.now) (decoder_value decoder.old) }
     ensures answer { ReadsForm memory form.now (decoder_value decoder.old) indexer.now result }
     ensures tight { IfOk result (IsTight (header_seen form.now).data_type) }
     ensures value_kept { decoder_value decoder.new ≡ decoder_value decoder.old }
-    ensures form_kept { form_of decoder.new ≡ form_of decoder.old }
+    ensures form_kept { decoder_form decoder.new ≡ decoder_form decoder.old }
 {
     decoder.partial_decode(alloc, indexer)
 }
@@ -64,14 +64,13 @@ fn read_front(
     size: &SelectionSize,
     numbers: &[u64],
 ) -> Result<ArrayBytes<'static>, Cause>
-    requires form { form_of decoder.old ≡ form_seen form.now }
+    requires form { decoder_form decoder.old ≡ form_seen form.now }
     requires sourced { IsSourced (form_seen form.now) (decoder_value decoder.old) }
-    // Wide: the header, what is stored, and the two parts of a selection.
     ensures answer { AnswersBy cause_memory HoldsThese result
         (front_read (header_seen form.now) (decoder_value decoder.old) size.now numbers.now) }
     ensures count { IfOk result (λ _. size.now.numbers ≤ length numbers.now) }
     ensures value_kept { decoder_value decoder.new ≡ decoder_value decoder.old }
-    ensures form_kept { form_of decoder.new ≡ form_of decoder.old }
+    ensures form_kept { decoder_form decoder.new ≡ decoder_form decoder.old }
 {
     let indexer = front_selection(alloc, form, size, numbers)?;
     let elements = read_one(alloc, form, decoder, &indexer)?;
@@ -95,7 +94,7 @@ fn read_each(
     sizes: &[SelectionSize],
     numbers: &[u64],
 ) -> Result<Vec<ArrayBytes<'static>>, Cause>
-    requires form { form_of decoder.old ≡ form_seen form.now }
+    requires form { decoder_form decoder.old ≡ form_seen form.now }
     requires sourced { IsSourced (form_seen form.now) (decoder_value decoder.old) }
     ensures answer { GivesEach form.now (decoder_value decoder.old) sizes.now numbers.now result }
 {
@@ -145,9 +144,8 @@ pub(crate) fn read_many(
     sizes: &[SelectionSize],
     numbers: &[u64],
 ) -> Result<Vec<ArrayBytes<'static>>, Cause>
-    // Wide: a header's text, what is stored, and the two parts of a list of selections.
     ensures answer { AnswersBy cause_memory (λ v. HoldEach v.items) result
-        (many_read text.now (stored_bytes stored.entry) sizes.now numbers.now) }
+        (many_read text.now (lent_stored stored.entry) sizes.now numbers.now) }
 {
     let form = form_given(alloc, text)?;
     if sizes.len() == 0 {

@@ -1,6 +1,6 @@
 //! The names of the numbers that calls answer.
 ghost use Rattle.std.specs.Prelude.{◌≡◌};
-ghost use Rattle.zarrs_c_calls.specs.Names.{call_name as name_of_call, shape_name as name_of_shape, bytes_name as name_of_bytes, making_name as name_of_making, code_name as name_of_code};
+ghost use Rattle.zarrs_c_calls.specs.Names.{call_name as name_of_call, shape_name as name_of_shape, content_name as name_of_content, making_name as name_of_making, code_name as name_of_code};
 
 /// What every call may answer.
 fn call_name(code: u32) -> &'static str
@@ -38,8 +38,8 @@ fn shape_name(code: u32) -> &'static str
 }
 
 /// Errors of codecs: of bytes and targets.
-fn bytes_name(code: u32) -> &'static str
-    ensures value { result.now ≡ name_of_bytes code }
+fn content_name(code: u32) -> &'static str
+    ensures value { result.now ≡ name_of_content code }
 {
     match code {
         22 => "BitRange",
@@ -92,7 +92,7 @@ pub(crate) fn code_name(code: u32) -> &'static str
         return shape_name(code);
     }
     if code < 50 {
-        return bytes_name(code);
+        return content_name(code);
     }
     making_name(code)
 }

@@ -5,7 +5,7 @@ ghost use Rattle.zarrs_array_bytes.specs.Tight.{IsTight};
 ghost use Rattle.zarrs_json.specs.HeaderRead.{header_seen};
 ghost use Rattle.zarrs_lent_handles.specs.LentHandle.{lent_value};
 ghost use Rattle.zarrs_c_calls.specs.Codes.{cause_memory};
-ghost use Rattle.zarrs_c_calls.specs.Reads.{part_read, stored_value, stored_bytes, ReadsForm};
+ghost use Rattle.zarrs_c_calls.specs.Reads.{part_read, stored_value, lent_stored, ReadsForm};
 ghost use Rattle.zarrs_c_calls.specs.Told.{HoldsThese};
 
 use crate::calls::form_given;
@@ -20,7 +20,7 @@ use zarrs_lent_handles::LentHandle;
 
 /// A value, where it is stored.
 pub(crate) fn stored_given(is_stored: bool, value: &[u8]) -> Option<&[u8]>
-    ensures value { stored_bytes result ≡ stored_value is_stored value.now }
+    ensures value { lent_stored result ≡ stored_value is_stored value.now }
 {
     if is_stored { Some(value) } else { None }
 }
@@ -57,9 +57,8 @@ pub(crate) fn read(
     tuples: u64,
     numbers: &[u64],
 ) -> Result<ArrayBytes<'static>, Cause>
-    // Wide: a header's text, what is stored, and the two parts of a selection.
     ensures answer { AnswersBy cause_memory HoldsThese result
-        (part_read text.now (stored_bytes stored.entry) tuples numbers.now) }
+        (part_read text.now (lent_stored stored.entry) tuples numbers.now) }
 {
     let form = form_given(alloc, text)?;
     let indexer = selection_given(alloc, &form, tuples, numbers)?;

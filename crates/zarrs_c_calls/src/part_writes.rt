@@ -4,8 +4,8 @@ ghost use Rattle.zarrs_chunk.specs.Answer.{memory, seen, Answers, AnswersItems};
 ghost use Rattle.zarrs_chunk.specs.Indexer.{selection_of};
 ghost use Rattle.zarrs_codec.specs.MemoryHandle.{handle_value};
 ghost use Rattle.zarrs_c_calls.specs.Codes.{cause_memory};
-ghost use Rattle.zarrs_c_calls.specs.Reads.{form_seen, stored_bytes};
-ghost use Rattle.zarrs_c_calls.specs.Writes.{form_written, GivesPartWritten};
+ghost use Rattle.zarrs_c_calls.specs.Reads.{form_seen, lent_stored};
+ghost use Rattle.zarrs_c_calls.specs.Writes.{known_written, GivesPartWritten};
 
 use crate::calls::form_given;
 use crate::cause::Cause;
@@ -26,8 +26,7 @@ fn write_part(
     indexer: &Indexer,
     new: &ArrayBytes<'_>,
 ) -> Result<(), CodecError>
-    // Wide: the header, the handle before and after, the indexer and the new elements.
-    ensures answer { Answers memory (λ _. handle_value handle.new) result (seen Some (form_written
+    ensures answer { Answers memory (λ _. handle_value handle.new) result (seen Some (known_written
         (form_seen form.now) (handle_value handle.old) (selection_of indexer.now) new.now)) }
 {
     let chain = &form.chain;
@@ -49,7 +48,7 @@ fn write_part(
 
 /// A handle on a copy of a value, or on none.
 fn handle_with(alloc: Global, stored: Option<&[u8]>) -> Result<MemoryHandle, Cause>
-    ensures answer { Answers cause_memory handle_value result (Ok (stored_bytes stored.entry)) }
+    ensures answer { Answers cause_memory handle_value result (Ok (lent_stored stored.entry)) }
 {
     match stored {
         Some(value) => Ok(MemoryHandle::with_value(Vec::from_slice(alloc, value)?)),
@@ -59,7 +58,6 @@ fn handle_with(alloc: Global, stored: Option<&[u8]>) -> Result<MemoryHandle, Cau
 
 /// What is stored after a write, which stores something.
 fn stored_after(handle: MemoryHandle) -> Result<Vec<u8>, Cause>
-    // Wide: it names the value that the handle has.
     ensures answer { (value : List ℕ) → handle_value handle ≡ Some value
         → AnswersItems cause_memory result (Ok value) }
 {
@@ -86,7 +84,7 @@ pub(crate) fn write(
     stored: Option<&[u8]>,
     edit: &Edit<'_>,
 ) -> Result<Vec<u8>, Cause>
-    ensures answer { GivesPartWritten text.now (stored_bytes stored.entry) edit.now result }
+    ensures answer { GivesPartWritten text.now (lent_stored stored.entry) edit.now result }
 {
     let form = form_given(alloc, text)?;
     let indexer = selection_given(alloc, &form, edit.tuples, edit.numbers)?;

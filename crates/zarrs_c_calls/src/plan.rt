@@ -56,7 +56,6 @@ fn numbers_of(alloc: Global, ranges: &[ByteRange]) -> Result<Vec<u64>, AllocErro
 
 /// Ranges in order and joined, as numbers.
 fn joined_numbers(alloc: Global, ranges: Vec<ByteRange>) -> Result<Vec<u64>, CodecError>
-    // Wide: the ranges in order and joined are none of the function's values.
     ensures numbers { IfOk result (λ v. (joined : List ByteSpan)
         × (v.items ≡ range_numbers joined) × Joins ranges.items joined) }
     ensures memory { IfErr result (λ error. error ≡ OutOfMemory) }

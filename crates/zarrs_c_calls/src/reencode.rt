@@ -21,7 +21,6 @@ pub fn zarrs_reencode(
     out: &mut [u8],
     needed: &mut usize,
 ) -> u32
-    // Wide: three texts, and the buffer that is written with its count, before and after.
     ensures told { TellsBytes (reencoded text.now value.now codecs.now) result
         out.old out.new needed.old needed.new }
 {

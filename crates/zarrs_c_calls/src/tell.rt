@@ -160,7 +160,6 @@ pub(crate) fn write_offsets(starts: &[usize], out: &mut [u64])
 
 /// Whether so many items fit into buffers of so many.
 pub(crate) fn fit(sizes: &Sizes, masks: usize, offsets: usize, bytes: usize) -> bool
-    // Wide: three parts.
     ensures value { result ≡ (nat_le sizes.now.masks masks && nat_le sizes.now.offsets offsets
         && nat_le sizes.now.bytes bytes) }
 {

@@ -16,3 +16,4 @@ pub mod ReencodeLaws
 pub mod PlainForms
 pub mod TurnedLast
 pub mod BytesBehind
+pub mod KeptBytes

@@ -18,8 +18,9 @@ use Rattle.zarrs_array_bytes.specs.Held.{Held, Raw, flen, vlen, masked}
 use Rattle.zarrs_array_bytes.specs.Offsets.{rises, last_of, offsets_of}
 use Rattle.zarrs_array_bytes.specs.Parts.{fixed_part}
 use Rattle.zarrs_array_bytes.specs.Pieces.{pieces}
-use Rattle.zarrs_array_bytes.specs.Tight.{HoldsSame, flush_with_offsets, without_front}
+use Rattle.zarrs_array_bytes.specs.Tight.{flush_with_offsets, without_front}
 use Rattle.zarrs_array_bytes.specs.Validity.{Holds}
+use Rattle.zarrs_array_bytes.proofs.FlushLemmas.{HoldsSame}
 use Rattle.zarrs_array_bytes.proofs.OffsetLemmas.{flat_map-concat}
 use Rattle.zarrs_array_bytes.proofs.Pieces.{concat-pieces, elements-pieces}
 use Rattle.zarrs_array_bytes.proofs.ValidLemmas.{both_ok, fixed_fits}
@@ -27,7 +28,7 @@ use Rattle.zarrs_bytes.specs.ByteOrder.{bytes_of}
 use Rattle.zarrs_codec.specs.BytesToBytesCodec.{BytesCodecs}
 use Rattle.zarrs_chain_meaning.specs.PlainChain.{PlainCodec, PlainChain, vlen_codec_of}
 use Rattle.zarrs_chain_meaning.specs.Meaning.{Decoder, part_chunk}
-use Rattle.zarrs_chain_meaning.specs.vlen.Vlen.{offsets_in_chunk, slices, vlen_parts, offset_bytes, offset_type, vlen_representation}
+use Rattle.zarrs_chain_meaning.specs.vlen.Vlen.{offsets_in_chunk, slices, vlen_value_parts, offset_bytes, offset_type, vlen_representation}
 use Rattle.zarrs_chain_meaning.specs.CodecMeaning.{codec_chunk, chain_chunk, codec_representation, meaning}
 use Rattle.zarrs_chain_meaning.specs.Parts.{all_bytes, byte_type}
 use Rattle.zarrs_chain.specs.ChainView.{plain_chain, plain_vlen, plain_vlen_at}
@@ -105,7 +106,7 @@ content_long f chain count part held raw h is =
 -- the parts, the offsets and the bytes
 abbrev pub vlen_read : {B : Type 0} → BytesCodecs B → PlainChain B → PlainChain B → Bool → Bool → ℕ → List ℕ → Result Chunk CodecError
 vlen_read f index content wide at_end count value =
-    vlen_parts at_end value >>= λ parts. checked_u64 (count + 1) >>= λ _. index_offsets f index wide (count + 1) parts.0 >>= λ offsets. content_bytes f content (last_of offsets) parts.1 >>= λ items. ok (slices count offsets items)
+    vlen_value_parts at_end value >>= λ parts. checked_u64 (count + 1) >>= λ _. index_offsets f index wide (count + 1) parts.0 >>= λ offsets. content_bytes f content (last_of offsets) parts.1 >>= λ items. ok (slices count offsets items)
 
 bind_same : {A C : Type 0} (r : Result A CodecError) (f g : A → Result C CodecError) → ((x : A) → f x ≡ g x) → r >>= f ≡ r >>= g
 bind_same (Ok x) f g h = h x
@@ -133,7 +134,7 @@ unfolding meaning
 read_is f codec index content wide at_end sizes type fill value e =
     let count = product sizes in
     ap (λ c. codec_chunk f c sizes type fill value) e
-    ∙ bind_same (vlen_parts at_end value) _ _ (λ parts. bind_same (checked_u64 (count + 1)) _ _ (λ _.
+    ∙ bind_same (vlen_value_parts at_end value) _ _ (λ parts. bind_same (checked_u64 (count + 1)) _ _ (λ _.
     rows_step wide (chain_chunk f index ((count + 1) ∷ []) (offset_type wide) (offset_bytes wide 0) parts.0) (λ n. part_chunk (chain_chunk f content) byte_type (0 ∷ []) n parts.1) count))
 
 bind_same_at : {A C : Type 0} (r : Result A CodecError) (f g : A → Result C CodecError) → ((x : A) → r ≡ Ok x → f x ≡ g x) → r >>= f ≡ r >>= g
@@ -141,7 +142,7 @@ bind_same_at (Ok x) f g h = h x refl
 bind_same_at (Err e) f g h = refl
 
 -- the data are what the length of the index leaves
-data_is : (at_end : Bool) (value i d : List ℕ) → vlen_parts at_end value ≡ Ok (i, d) → data_part at_end (length i) value ≡ d
+data_is : (at_end : Bool) (value i d : List ℕ) → vlen_value_parts at_end value ≡ Ok (i, d) → data_part at_end (length i) value ≡ d
 data_is false value i d e =
     let c = vlen_cut false value (i, d) e in
     let two : length (c.head ++ i) ≡ 8 + length i = omega (arith, length-append c.head i, c.head_size) in
@@ -154,11 +155,11 @@ data_is true value i d e =
 -- the same, where the data are cut by the length of the index
 abbrev pub vlen_read_by : {B : Type 0} → BytesCodecs B → PlainChain B → PlainChain B → Bool → Bool → ℕ → List ℕ → Result Chunk CodecError
 vlen_read_by f index content wide at_end count value =
-    vlen_parts at_end value >>= λ parts. checked_u64 (count + 1) >>= λ _. index_offsets f index wide (count + 1) parts.0 >>= λ offsets. content_bytes f content (last_of offsets) (data_part at_end (length parts.0) value) >>= λ items. ok (slices count offsets items)
+    vlen_value_parts at_end value >>= λ parts. checked_u64 (count + 1) >>= λ _. index_offsets f index wide (count + 1) parts.0 >>= λ offsets. content_bytes f content (last_of offsets) (data_part at_end (length parts.0) value) >>= λ items. ok (slices count offsets items)
 
 read_by : {B : Type 0} (f : BytesCodecs B) (index content : PlainChain B) (wide at_end : Bool) (count : ℕ) (value : List ℕ) → vlen_read f index content wide at_end count value ≡ vlen_read_by f index content wide at_end count value
 read_by f index content wide at_end count value =
-    bind_same_at (vlen_parts at_end value) _ _ (λ parts h.
+    bind_same_at (vlen_value_parts at_end value) _ _ (λ parts h.
     ap (λ d. checked_u64 (count + 1) >>= λ _. index_offsets f index wide (count + 1) parts.0 >>= λ offsets. content_bytes f content (last_of offsets) d >>= λ items. ok (slices count offsets items)) (sym (data_is at_end value parts.0 parts.1 h)))
 
 pub vlen_read_at : {B : Type 0} (f : BytesCodecs B) (codec : VlenCodec B) (sizes : List ℕ) (type : ElementType) (fill value : List ℕ)
@@ -229,34 +230,34 @@ offsets_answered r f chain wide count part held type fill items numbers some t e
 
 -- past the parts
 past_parts : {B : Type 0} (f : BytesCodecs B) (codec : PlainCodec B) (index content : PlainChain B) (wide at_end : Bool) (sizes : List ℕ) (type : ElementType) (fill value i d : List ℕ)
-    → codec ≡ vlen_codec_of index content wide at_end → ok (i, d) ≡ vlen_parts at_end value
+    → codec ≡ vlen_codec_of index content wide at_end → ok (i, d) ≡ vlen_value_parts at_end value
     → codec_chunk f codec sizes type fill value ≡ checked_u64 (product sizes + 1) >>= (λ _. index_offsets f index wide (product sizes + 1) i >>= λ offsets. content_bytes f content (last_of offsets) d >>= λ items. ok (slices (product sizes) offsets items))
 past_parts f codec index content wide at_end sizes type fill value i d e h =
-    read_is f codec index content wide at_end sizes type fill value e ∙ next_answer (vlen_parts at_end value) (i, d) _ (sym h)
+    read_is f codec index content wide at_end sizes type fill value e ∙ next_answer (vlen_value_parts at_end value) (i, d) _ (sym h)
 
 counted_so : (n : ℕ) → n < 2 ^ 64 → checked_u64 n ≡ Ok n
 counted_so n l = let t : nat_lt n (2 ^ 64) ≡ true = grind (arith, nat_tests) in rw t refl
 
 past_count : {B : Type 0} (f : BytesCodecs B) (codec : PlainCodec B) (index content : PlainChain B) (wide at_end : Bool) (sizes : List ℕ) (type : ElementType) (fill value i d : List ℕ)
-    → codec ≡ vlen_codec_of index content wide at_end → ok (i, d) ≡ vlen_parts at_end value → product sizes + 1 < 2 ^ 64
+    → codec ≡ vlen_codec_of index content wide at_end → ok (i, d) ≡ vlen_value_parts at_end value → product sizes + 1 < 2 ^ 64
     → codec_chunk f codec sizes type fill value ≡ index_offsets f index wide (product sizes + 1) i >>= (λ offsets. content_bytes f content (last_of offsets) d >>= λ items. ok (slices (product sizes) offsets items))
 past_count f codec index content wide at_end sizes type fill value i d e h l =
     past_parts f codec index content wide at_end sizes type fill value i d e h ∙ next_answer (checked_u64 (product sizes + 1)) (product sizes + 1) _ (counted_so (product sizes + 1) l)
 
 pub read_index_refused : {B : Type 0} (f : BytesCodecs B) (codec : PlainCodec B) (index content : PlainChain B) (wide at_end : Bool) (sizes : List ℕ) (type : ElementType) (fill value i d : List ℕ) (error : CodecError)
-    → codec ≡ vlen_codec_of index content wide at_end → ok (i, d) ≡ vlen_parts at_end value → product sizes + 1 < 2 ^ 64 → index_offsets f index wide (product sizes + 1) i ≡ Err error → codec_chunk f codec sizes type fill value ≡ Err error
+    → codec ≡ vlen_codec_of index content wide at_end → ok (i, d) ≡ vlen_value_parts at_end value → product sizes + 1 < 2 ^ 64 → index_offsets f index wide (product sizes + 1) i ≡ Err error → codec_chunk f codec sizes type fill value ≡ Err error
 read_index_refused f codec index content wide at_end sizes type fill value i d error e h l k =
     past_count f codec index content wide at_end sizes type fill value i d e h l ∙ next_err (index_offsets f index wide (product sizes + 1) i) error _ k
 
 pub read_content_refused : {B : Type 0} (f : BytesCodecs B) (codec : PlainCodec B) (index content : PlainChain B) (wide at_end : Bool) (sizes : List ℕ) (type : ElementType) (fill value i d offsets : List ℕ) (error : CodecError)
-    → codec ≡ vlen_codec_of index content wide at_end → ok (i, d) ≡ vlen_parts at_end value → product sizes + 1 < 2 ^ 64 → index_offsets f index wide (product sizes + 1) i ≡ Ok offsets → content_bytes f content (last_of offsets) d ≡ Err error → codec_chunk f codec sizes type fill value ≡ Err error
+    → codec ≡ vlen_codec_of index content wide at_end → ok (i, d) ≡ vlen_value_parts at_end value → product sizes + 1 < 2 ^ 64 → index_offsets f index wide (product sizes + 1) i ≡ Ok offsets → content_bytes f content (last_of offsets) d ≡ Err error → codec_chunk f codec sizes type fill value ≡ Err error
 read_content_refused f codec index content wide at_end sizes type fill value i d offsets error e h l k m =
     past_count f codec index content wide at_end sizes type fill value i d e h l
     ∙ next_answer (index_offsets f index wide (product sizes + 1) i) offsets (λ offsets. content_bytes f content (last_of offsets) d >>= λ items. ok (slices (product sizes) offsets items)) k
     ∙ next_err (content_bytes f content (last_of offsets) d) error _ m
 
 pub read_done : {B : Type 0} (f : BytesCodecs B) (codec : PlainCodec B) (index content : PlainChain B) (wide at_end : Bool) (sizes : List ℕ) (type : ElementType) (fill value i d offsets items : List ℕ)
-    → codec ≡ vlen_codec_of index content wide at_end → ok (i, d) ≡ vlen_parts at_end value → product sizes + 1 < 2 ^ 64 → index_offsets f index wide (product sizes + 1) i ≡ Ok offsets → content_bytes f content (last_of offsets) d ≡ Ok items
+    → codec ≡ vlen_codec_of index content wide at_end → ok (i, d) ≡ vlen_value_parts at_end value → product sizes + 1 < 2 ^ 64 → index_offsets f index wide (product sizes + 1) i ≡ Ok offsets → content_bytes f content (last_of offsets) d ≡ Ok items
     → codec_chunk f codec sizes type fill value ≡ Ok (slices (product sizes) offsets items)
 read_done f codec index content wide at_end sizes type fill value i d offsets items e h l k m =
     past_count f codec index content wide at_end sizes type fill value i d e h l
@@ -272,7 +273,7 @@ offsets_long f chain wide count part offsets e =
     ap length (sym (ok_is (offsets_in_chunk wide rows.0) offsets rising.2)) ∙ numbers_long wide rows.0 ∙ omega (arith, long)
 
 -- the index stands inside, and the data are what is left
-pub index_inside : (at_end : Bool) (value i d : List ℕ) → ok (i, d) ≡ vlen_parts at_end value → 8 + length i ≤ length value
+pub index_inside : (at_end : Bool) (value i d : List ℕ) → ok (i, d) ≡ vlen_value_parts at_end value → 8 + length i ≤ length value
 index_inside false value i d e =
     let c = vlen_cut false value (i, d) (sym e) in
     omega (arith, ap length c.parts, length-append c.head (i ++ d), length-append i d, c.head_size)
@@ -305,7 +306,7 @@ made_so raw offsets e = let t : (last_of offsets == length raw.items) ≡ true =
 
 -- the container that the code makes holds the chunk
 pub vlen_answered : {B : Type 0} (f : BytesCodecs B) (codec : VlenCodec B) (sizes : List ℕ) (type : ElementType) (fill value : List ℕ) (r : Result Held CodecError) (i d offsets : List ℕ) (raw : Raw) (count : ℕ)
-    → IsOk (codec_representation f (plain_vlen codec) sizes type fill) → ok (i, d) ≡ vlen_parts (is_at_end (out-VlenCodec _ codec).index_location) value → ok count ≡ checked_u64 (product sizes + 1)
+    → IsOk (codec_representation f (plain_vlen codec) sizes type fill) → ok (i, d) ≡ vlen_value_parts (is_at_end (out-VlenCodec _ codec).index_location) value → ok count ≡ checked_u64 (product sizes + 1)
     → index_offsets f (plain_chain (out-VlenCodec _ codec).index_codecs.value) (is_wide (out-VlenCodec _ codec).index_data_type) count i ≡ Ok offsets
     → content_bytes f (plain_chain (out-VlenCodec _ codec).data_codecs.value) (last_of offsets) (data_part (is_at_end (out-VlenCodec _ codec).index_location) (length i) value) ≡ Ok raw.items
     → length raw.items ≡ last_of offsets → r ≡ flush_with_offsets raw offsets → IfOk r (HoldsSame (vlen raw offsets)) → AnswersBy memory (Holds type) r (codec_chunk f (plain_vlen codec) sizes type fill value)
@@ -326,7 +327,7 @@ vlen_answered f codec sizes type fill value r i d offsets raw count taken parts 
 -- errors, by the number of offsets that the code counts
 
 pub index_refused_by : {B : Type 0} (f : BytesCodecs B) (codec : VlenCodec B) (sizes : List ℕ) (type : ElementType) (fill value i d : List ℕ) (count : ℕ) (error : CodecError)
-    → ok (i, d) ≡ vlen_parts (is_at_end (out-VlenCodec _ codec).index_location) value → ok count ≡ checked_u64 (product sizes + 1)
+    → ok (i, d) ≡ vlen_value_parts (is_at_end (out-VlenCodec _ codec).index_location) value → ok count ≡ checked_u64 (product sizes + 1)
     → index_offsets f (plain_chain (out-VlenCodec _ codec).index_codecs.value) (is_wide (out-VlenCodec _ codec).index_data_type) count i ≡ Err error → codec_chunk f (plain_vlen codec) sizes type fill value ≡ Err error
 index_refused_by f codec sizes type fill value i d count error parts counted index =
     let o = out-VlenCodec _ codec in
@@ -335,7 +336,7 @@ index_refused_by f codec sizes type fill value i d count error parts counted ind
     (ap (λ k. index_offsets f (plain_chain o.index_codecs.value) (is_wide o.index_data_type) k i) n.0 ∙ index)
 
 pub content_refused_by : {B : Type 0} (f : BytesCodecs B) (codec : VlenCodec B) (sizes : List ℕ) (type : ElementType) (fill value i d offsets : List ℕ) (count : ℕ) (error : CodecError)
-    → ok (i, d) ≡ vlen_parts (is_at_end (out-VlenCodec _ codec).index_location) value → ok count ≡ checked_u64 (product sizes + 1)
+    → ok (i, d) ≡ vlen_value_parts (is_at_end (out-VlenCodec _ codec).index_location) value → ok count ≡ checked_u64 (product sizes + 1)
     → index_offsets f (plain_chain (out-VlenCodec _ codec).index_codecs.value) (is_wide (out-VlenCodec _ codec).index_data_type) count i ≡ Ok offsets
     → content_bytes f (plain_chain (out-VlenCodec _ codec).data_codecs.value) (last_of offsets) (data_part (is_at_end (out-VlenCodec _ codec).index_location) (length i) value) ≡ Err error → codec_chunk f (plain_vlen codec) sizes type fill value ≡ Err error
 content_refused_by f codec sizes type fill value i d offsets count error parts counted index content =

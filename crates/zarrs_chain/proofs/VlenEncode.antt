@@ -40,8 +40,8 @@ use Rattle.zarrs_chain_meaning.specs.BytesStages.{in_memory}
 use Rattle.zarrs_chain_meaning.specs.Chain.{codec_held_value, held_part}
 use Rattle.zarrs_chain_meaning.specs.vlen.Vlen.{slices, chunk_offsets, offset_bytes, offset_fits, offset_elements, is_same_bytes, vlen_value, offset_type, vlen_representation, arranged}
 use Rattle.zarrs_chain_meaning.specs.Meaning.{Encoder, part_value, around_representation, Keeping}
-use Rattle.zarrs_chain_meaning.specs.Parts.{byte_elements, all_bytes, byte_type, length_bytes}
-use Rattle.zarrs_chain_meaning.specs.CodecMeaning.{codec_value, chain_value, normal_element, codec_representation, chain_representation, meaning}
+use Rattle.zarrs_chain_meaning.specs.Parts.{byte_elements, all_bytes, byte_type, part_length_bytes}
+use Rattle.zarrs_chain_meaning.specs.CodecMeaning.{codec_value, chain_value, codec_normal_element, codec_representation, chain_representation, meaning}
 use Rattle.zarrs_chain_meaning.specs.Laws.{IsChainOfMappings}
 use Rattle.zarrs_chain.specs.ChainView.{plain_vlen, plain_vlen_at}
 use Rattle.zarrs_chain.specs.declared.vlen.vlen_codec.VlenCodec.{VlenCodec}
@@ -120,7 +120,7 @@ vlen_from wide at_end keep index content offsets all = do
   part ← index (length rows ∷ []) (offset_type wide) (offset_bytes wide 0) rows
   _ ← demand (is_same_bytes (map (keep (offset_type wide)) rows) rows) OffsetNotKept
   data_part ← part_value content byte_type (0 ∷ []) (byte_elements items)
-  in_memory (arranged at_end (length_bytes part) part data_part)
+  in_memory (arranged at_end (part_length_bytes part) part data_part)
 
 last_steps : (r : Result (List ℕ) CodecError) (kept : Bool) (content : Result (List ℕ) CodecError) (join : List ℕ → List ℕ → Result (List ℕ) CodecError)
     → (r >>= λ part. demand kept OffsetNotKept >>= λ _. content >>= λ d. join part d) ≡ (r >>= λ part. demand kept OffsetNotKept >>= λ _. ok part) >>= λ part. content >>= λ d. join part d
@@ -137,19 +137,19 @@ all_steps false rows index kept content join = refl
 -- the index part, the data part and both joined
 abbrev pub parts_value : {B : Type 0} → BytesCodecs B → PlainChain B → PlainChain B → Bool → Bool → List ℕ → List ℕ → Result (List ℕ) CodecError
 parts_value f index content wide at_end offsets items =
-    index_part f index wide offsets >>= λ part. content_part f content (drop (slice_index offsets 0) items) >>= λ d. in_memory (arranged at_end (length_bytes part) part d)
+    index_part f index wide offsets >>= λ part. content_part f content (drop (slice_index offsets 0) items) >>= λ d. in_memory (arranged at_end (part_length_bytes part) part d)
 
 vlen_value_is : {B : Type 0} (f : BytesCodecs B) (index content : PlainChain B) (wide at_end : Bool) (offsets items : List ℕ) (count : ℕ) → IsRow offsets items count → length items < 2 ^ 64
-    → vlen_value wide at_end (normal_element index.array_to_bytes) (chain_value f index) (chain_value f content) (slices count offsets items) ≡ parts_value f index content wide at_end offsets items
+    → vlen_value wide at_end (codec_normal_element index.array_to_bytes) (chain_value f index) (chain_value f content) (slices count offsets items) ≡ parts_value f index content wide at_end offsets items
 vlen_value_is f index content wide at_end offsets items count r small =
     let first : ℕ = slice_index offsets 0 in
     let rows = offset_elements wide (from_first offsets) in
     let long : length (drop first items) ≡ last_of offsets - first = length-drop first items ∙ ap (λ n. n - first) (sym r.ending) in
     let memory_is : in_memory (drop first items) ≡ Ok (drop first items) = memory_so (drop first items) (omega (arith, length-drop first items)) in
-    (λ i. vlen_from wide at_end (normal_element index.array_to_bytes) (chain_value f index) (chain_value f content) (whole_offsets offsets items count r i) (whole_bytes offsets items count r i))
-    ∙ next_answer (in_memory (drop first items)) (drop first items) (λ all. demand (offset_fits wide (length all)) OffsetTooLarge >>= λ _. chain_value f index (length rows ∷ []) (offset_type wide) (offset_bytes wide 0) rows >>= λ part. demand (is_same_bytes (map (normal_element index.array_to_bytes (offset_type wide)) rows) rows) OffsetNotKept >>= λ _. part_value (chain_value f content) byte_type (0 ∷ []) (byte_elements all) >>= λ d. in_memory (arranged at_end (length_bytes part) part d)) memory_is
-    ∙ ap (λ n. demand (offset_fits wide n) OffsetTooLarge >>= λ _. chain_value f index (length rows ∷ []) (offset_type wide) (offset_bytes wide 0) rows >>= λ part. demand (is_same_bytes (map (normal_element index.array_to_bytes (offset_type wide)) rows) rows) OffsetNotKept >>= λ _. content_part f content (drop first items) >>= λ d. in_memory (arranged at_end (length_bytes part) part d)) long
-    ∙ all_steps (offsets_fit wide offsets) rows (λ r. chain_value f index (length r ∷ []) (offset_type wide) (offset_bytes wide 0) r) (keeps_offsets index.array_to_bytes wide offsets) (content_part f content (drop first items)) (λ part d. in_memory (arranged at_end (length_bytes part) part d))
+    (λ i. vlen_from wide at_end (codec_normal_element index.array_to_bytes) (chain_value f index) (chain_value f content) (whole_offsets offsets items count r i) (whole_bytes offsets items count r i))
+    ∙ next_answer (in_memory (drop first items)) (drop first items) (λ all. demand (offset_fits wide (length all)) OffsetTooLarge >>= λ _. chain_value f index (length rows ∷ []) (offset_type wide) (offset_bytes wide 0) rows >>= λ part. demand (is_same_bytes (map (codec_normal_element index.array_to_bytes (offset_type wide)) rows) rows) OffsetNotKept >>= λ _. part_value (chain_value f content) byte_type (0 ∷ []) (byte_elements all) >>= λ d. in_memory (arranged at_end (part_length_bytes part) part d)) memory_is
+    ∙ ap (λ n. demand (offset_fits wide n) OffsetTooLarge >>= λ _. chain_value f index (length rows ∷ []) (offset_type wide) (offset_bytes wide 0) rows >>= λ part. demand (is_same_bytes (map (codec_normal_element index.array_to_bytes (offset_type wide)) rows) rows) OffsetNotKept >>= λ _. content_part f content (drop first items) >>= λ d. in_memory (arranged at_end (part_length_bytes part) part d)) long
+    ∙ all_steps (offsets_fit wide offsets) rows (λ r. chain_value f index (length r ∷ []) (offset_type wide) (offset_bytes wide 0) r) (keeps_offsets index.array_to_bytes wide offsets) (content_part f content (drop first items)) (λ part d. in_memory (arranged at_end (part_length_bytes part) part d))
 
 demand_so : (test : Bool) (cause : CodecError) (r : BytesRepresentation) (rest : Result BytesRepresentation CodecError) → demand test cause >>= (λ _. rest) ≡ Ok r → test ≡ true
 demand_so true cause r rest e = refl
@@ -172,7 +172,7 @@ held_is f codec index content wide at_end sizes type fill raw offsets e t =
     let variable : is_variable type ≡ true = demand_so (is_variable type) (UnsupportedDataType VLEN) t.size _ t.measured in
     let row : IsRow offsets raw.items count = record { rising = t.rising; ending = t.ending; long = variable_fits InvalidBytesLength type count raw offsets (both_ok _ _ t.valid).1 } in
     ap (λ c. codec_held_value f c sizes type fill (vlen raw offsets)) e
-    ∙ rw (t.measured, t.valid) (ap (vlen_value wide at_end (normal_element index.array_to_bytes) (chain_value f index) (chain_value f content)) (elements_cut type count raw offsets variable)
+    ∙ rw (t.measured, t.valid) (ap (vlen_value wide at_end (codec_normal_element index.array_to_bytes) (chain_value f index) (chain_value f content)) (elements_cut type count raw offsets variable)
     ∙ vlen_value_is f index content wide at_end offsets raw.items count row t.small)
 
 -- ---- the elements of a row through a chain
@@ -356,22 +356,22 @@ pub value_index_refused : {B : Type 0} (f : BytesCodecs B) (codec : PlainCodec B
     → codec ≡ vlen_codec_of index content wide at_end → IsVariableHeld sizes type held raw offsets → index_part f index wide offsets ≡ Err error → codec_held_value f codec sizes type fill held ≡ Err error
 value_index_refused f codec index content wide at_end sizes type fill held raw offsets error e v h =
     value_is f codec index content wide at_end sizes type fill held raw offsets e v
-    ∙ next_err (index_part f index wide offsets) error (λ part. content_part f content (drop (slice_index offsets 0) raw.items) >>= λ d. in_memory (arranged at_end (length_bytes part) part d)) h
+    ∙ next_err (index_part f index wide offsets) error (λ part. content_part f content (drop (slice_index offsets 0) raw.items) >>= λ d. in_memory (arranged at_end (part_length_bytes part) part d)) h
 
 pub value_content_refused : {B : Type 0} (f : BytesCodecs B) (codec : PlainCodec B) (index content : PlainChain B) (wide at_end : Bool) (sizes : List ℕ) (type : ElementType) (fill : List ℕ) (held : Held) (raw : Raw) (offsets part : List ℕ) (error : CodecError)
     → codec ≡ vlen_codec_of index content wide at_end → IsVariableHeld sizes type held raw offsets → index_part f index wide offsets ≡ Ok part → content_part f content (drop (slice_index offsets 0) raw.items) ≡ Err error → codec_held_value f codec sizes type fill held ≡ Err error
 value_content_refused f codec index content wide at_end sizes type fill held raw offsets part error e v h k =
     value_is f codec index content wide at_end sizes type fill held raw offsets e v
-    ∙ next_answer (index_part f index wide offsets) part (λ part. content_part f content (drop (slice_index offsets 0) raw.items) >>= λ d. in_memory (arranged at_end (length_bytes part) part d)) h
-    ∙ next_err (content_part f content (drop (slice_index offsets 0) raw.items)) error (λ d. in_memory (arranged at_end (length_bytes part) part d)) k
+    ∙ next_answer (index_part f index wide offsets) part (λ part. content_part f content (drop (slice_index offsets 0) raw.items) >>= λ d. in_memory (arranged at_end (part_length_bytes part) part d)) h
+    ∙ next_err (content_part f content (drop (slice_index offsets 0) raw.items)) error (λ d. in_memory (arranged at_end (part_length_bytes part) part d)) k
 
 pub value_joined : {B : Type 0} (f : BytesCodecs B) (codec : PlainCodec B) (index content : PlainChain B) (wide at_end : Bool) (sizes : List ℕ) (type : ElementType) (fill : List ℕ) (held : Held) (raw : Raw) (offsets part items : List ℕ)
     → codec ≡ vlen_codec_of index content wide at_end → IsVariableHeld sizes type held raw offsets → index_part f index wide offsets ≡ Ok part → content_part f content (drop (slice_index offsets 0) raw.items) ≡ Ok items
-    → codec_held_value f codec sizes type fill held ≡ in_memory (arranged at_end (length_bytes part) part items)
+    → codec_held_value f codec sizes type fill held ≡ in_memory (arranged at_end (part_length_bytes part) part items)
 value_joined f codec index content wide at_end sizes type fill held raw offsets part items e v h k =
     value_is f codec index content wide at_end sizes type fill held raw offsets e v
-    ∙ next_answer (index_part f index wide offsets) part (λ part. content_part f content (drop (slice_index offsets 0) raw.items) >>= λ d. in_memory (arranged at_end (length_bytes part) part d)) h
-    ∙ next_answer (content_part f content (drop (slice_index offsets 0) raw.items)) items (λ d. in_memory (arranged at_end (length_bytes part) part d)) k
+    ∙ next_answer (index_part f index wide offsets) part (λ part. content_part f content (drop (slice_index offsets 0) raw.items) >>= λ d. in_memory (arranged at_end (part_length_bytes part) part d)) h
+    ∙ next_answer (content_part f content (drop (slice_index offsets 0) raw.items)) items (λ d. in_memory (arranged at_end (part_length_bytes part) part d)) k
 
 -- ---- the first errors, one level as the code opens it
 

@@ -11,8 +11,8 @@ use Rattle.zarrs_chain.specs.ChainView.{plain_chain}
 use Rattle.zarrs_chain.specs.declared.codec_chain.CodecChain.{CodecChain}
 
 -- how many bytes the value of such a chunk has, or the first error
-abbrev pub Counts : {B : Type 0} → BytesCodecs B → CodecChain B → List ℕ → ElementType → List ℕ → Result BytesRepresentation CodecError → Type 0
-Counts f chain sizes type fill result = GivesChainRepresentation f (plain_chain chain) (form_of sizes type fill) result
+abbrev pub ChainRepresents : {B : Type 0} → BytesCodecs B → CodecChain B → List ℕ → ElementType → List ℕ → Result BytesRepresentation CodecError → Type 0
+ChainRepresents f chain sizes type fill result = GivesChainRepresentation f (plain_chain chain) (form_of sizes type fill) result
 
 -- where a call answers Ok, what the array-to-array codecs do to such chunks is a coordinate map
 abbrev pub MapsArrays : {B E T : Type 0} → CodecChain B → ElementType → List ℕ → Result T E → Type 0

@@ -19,12 +19,12 @@ use Rattle.zarrs_chain.specs.ChainView.{plain_codec}
 use Rattle.zarrs_chain.specs.declared.array_to_bytes_codec.ArrayToBytesCodec.{ArrayToBytesCodec}
 
 -- the codec takes such chunks
-abbrev pub Takes : {B : Type 0} → BytesCodecs B → ArrayToBytesCodec B → List ℕ → ElementType → List ℕ → Type 0
-Takes f codec sizes type fill = IsTaken f (plain_codec codec) (form_of sizes type fill)
+abbrev pub CodecAccepts : {B : Type 0} → BytesCodecs B → ArrayToBytesCodec B → List ℕ → ElementType → List ℕ → Type 0
+CodecAccepts f codec sizes type fill = IsTaken f (plain_codec codec) (form_of sizes type fill)
 
 -- the value of the chunk that a container holds, or the first error
-abbrev pub Writes : {B : Type 0} → BytesCodecs B → ArrayToBytesCodec B → List ℕ → ElementType → List ℕ → Held → Result (CowSlice ℕ Global) CodecError → Type 0
-Writes f codec sizes type fill held result = GivesCodecValue f (plain_codec codec) (form_of sizes type fill) held result
+abbrev pub CodecEncodes : {B : Type 0} → BytesCodecs B → ArrayToBytesCodec B → List ℕ → ElementType → List ℕ → Held → Result (CowSlice ℕ Global) CodecError → Type 0
+CodecEncodes f codec sizes type fill held result = GivesCodecValue f (plain_codec codec) (form_of sizes type fill) held result
 
 -- A container of the chunk of these sizes that the value of `bytes` in this order stands for, as the array-to-array codecs decode it where they take such chunks; or the first error.
 abbrev pub ReadsBehind : Option Endianness → List ArrayToArrayCodec → List ℕ → ElementType → List ℕ → CowSlice ℕ Global → Result Held CodecError → Type 0

@@ -2,12 +2,14 @@ ghost use Rattle.zarrs_array_bytes.specs.Held.{items_of};
 ghost use Rattle.zarrs_array_bytes.specs.Tight.{IsTight};
 ghost use Rattle.zarrs_data_type.specs.Form.{form_of};
 ghost use Rattle.zarrs_chain_meaning.specs.CallAnswers.{GivesRepresentation, GivesCodecChunk};
-ghost use Rattle.std.specs.Prelude.{◌≡◌, IfOk};
+ghost use Rattle.std.specs.Prelude.{◌≡◌, IfOk, true};
+ghost use Rattle.zarrs_bytes.specs.GivenBytes.{HoldsGiven, IsGiven};
+ghost use Rattle.zarrs_chain_meaning.specs.KeptBytes.{codec_keeps_bytes};
 ghost use Rattle.zarrs_chain_meaning.specs.Chain.{codec_reads as codec_reads_of, codec_writes as codec_writes_of};
 ghost use Rattle.zarrs_chain.specs.ChainView.{plain_codec};
 ghost use Rattle.zarrs_chain_meaning.specs.CodecMeaning.{HasMappings};
 ghost use Rattle.zarrs_chain_meaning.specs.MadeAgain.{HasRanges};
-ghost use Rattle.zarrs_chain.specs.CodecCalls.{Takes, Writes};
+ghost use Rattle.zarrs_chain.specs.CodecCalls.{CodecAccepts, CodecEncodes};
 
 use crate::optional::optional_codec::{
     OptionalCodec, optional_decode, optional_encode, optional_has_ranges, optional_is_sound,
@@ -85,7 +87,6 @@ pub(crate) fn codec_representation<B: BytesToBytesCodecTraits>(
     data_type: &DataType,
     fill_value: &FillValue,
 ) -> Result<BytesRepresentation, CodecError>
-    // Wide: the form of a chunk is three parameters, as in the Rust crate.
     ensures answer { GivesRepresentation B.functions (plain_codec codec.now)
         (form_of shape.now data_type.now fill_value.now) result }
 {
@@ -118,8 +119,10 @@ pub(crate) fn codec_encode<'a, B: BytesToBytesCodecTraits>(
     kind: &DataType,
     fill: &FillValue,
 ) -> Result<ArrayBytesRaw<'a>, CodecError>
-    requires taken { Takes B.functions codec.now shape.now kind.now fill.now }
-    ensures answer { Writes B.functions codec.now shape.now kind.now fill.now held.entry result }
+    requires taken { CodecAccepts B.functions codec.now shape.now kind.now fill.now }
+    ensures answer { CodecEncodes B.functions codec.now shape.now kind.now fill.now held.entry result }
+    ensures kept { codec_keeps_bytes (plain_codec codec.now) kind.now ≡ true
+        → IsGiven held.entry result }
 {
     match codec {
         ArrayToBytesCodec::Bytes(codec) => { codec.encode(alloc, held, shape, kind, fill) }
@@ -141,7 +144,7 @@ pub(crate) fn codec_taken_encode<'a, B: BytesToBytesCodecTraits>(
     kind: &DataType,
     fill: &FillValue,
 ) -> Result<ArrayBytesRaw<'a>, CodecError>
-    ensures answer { Writes B.functions codec.now shape.now kind.now fill.now held.entry result }
+    ensures answer { CodecEncodes B.functions codec.now shape.now kind.now fill.now held.entry result }
 {
     codec_representation(alloc, codec, shape, kind, fill)?;
     codec_encode(alloc, codec, held, shape, kind, fill)
@@ -159,11 +162,12 @@ pub fn codec_decode<'a, B: BytesToBytesCodecTraits>(
     kind: &DataType,
     fill: &FillValue,
 ) -> Result<ArrayBytes<'a>, CodecError>
-    requires taken { Takes B.functions codec.now shape.now kind.now fill.now }
-    // Wide: the three parameters of a form, the value and the answer.
+    requires taken { CodecAccepts B.functions codec.now shape.now kind.now fill.now }
     ensures answer { GivesCodecChunk B.functions (plain_codec codec.now)
         (form_of shape.now kind.now fill.now) (items_of value.entry) result }
     ensures tight { IfOk result (IsTight kind.now) }
+    ensures kept { codec_keeps_bytes (plain_codec codec.now) kind.now ≡ true
+        → HoldsGiven value.entry result }
 {
     match codec {
         ArrayToBytesCodec::Bytes(codec) => codec.decode(alloc, value, shape, kind, fill),

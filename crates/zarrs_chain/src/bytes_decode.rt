@@ -1,8 +1,12 @@
 //! The chunk that a value of the codec `bytes` stands for, behind array-to-array codecs.
 ghost use Rattle.zarrs_array_bytes.specs.Tight.{IsTight};
-ghost use Rattle.std.specs.Prelude.{IfOk};
+ghost use Rattle.std.specs.Prelude.{◌≡◌, IfOk, None, map, true};
+ghost use Rattle.std.specs.List.{list_all};
 ghost use Rattle.zarrs_data_type.specs.Form.{form_of};
-ghost use Rattle.zarrs_bytes.specs.BytesCodec.{BytesTakes};
+ghost use Rattle.zarrs_array_to_array.specs.Mapping.{mapping_of};
+ghost use Rattle.zarrs_bytes.specs.BytesCodec.{BytesTakes, turn_size};
+ghost use Rattle.zarrs_bytes.specs.GivenBytes.{HoldsGiven};
+ghost use Rattle.zarrs_chain_meaning.specs.KeptBytes.{hands_on};
 ghost use Rattle.zarrs_chain.specs.CodecCalls.{ReadsBehind};
 
 use std::alloc::Global;
@@ -29,6 +33,8 @@ pub(crate) fn bytes_decode<'a>(
     requires taken { BytesTakes codec.now (form_of shape.now kind.now fill.now) }
     ensures answer { ReadsBehind codec.now codecs.now shape.now kind.now fill.now value.entry result }
     ensures tight { IfOk result (IsTight kind.now) }
+    ensures kept { turn_size codec.now kind.now ≡ None
+        → list_all hands_on (map mapping_of codecs.now) ≡ true → HoldsGiven value.entry result }
 {
     shape.as_slice();
     let stored = BytesCodec::little().decode(alloc, value, shape, kind, fill)?;

@@ -9,9 +9,11 @@ ghost use Rattle.zarrs_array_to_array.specs.ArrayToArrayCodec.{IsMapping};
 ghost use Rattle.zarrs_array_to_array.specs.Mapping.{mapping_of};
 ghost use Rattle.zarrs_chain_meaning.specs.Chain.{outer_reads as outer_reads_of};
 ghost use Rattle.zarrs_chain.specs.ChainView.{plain_chain, plain_codec, chain_of};
+ghost use Rattle.zarrs_bytes.specs.GivenBytes.{HoldsGiven, IsGiven};
+ghost use Rattle.zarrs_chain_meaning.specs.KeptBytes.{KeepsBytes};
 ghost use Rattle.zarrs_chain_meaning.specs.Laws.{IsChainOfMappings};
 ghost use Rattle.zarrs_chain_meaning.specs.MadeAgain.{HasRanges};
-ghost use Rattle.zarrs_chain.specs.ChainCalls.{Counts};
+ghost use Rattle.zarrs_chain.specs.ChainCalls.{ChainRepresents};
 
 use crate::array_to_bytes_codec::{
     ArrayToBytesCodec, codec_has_ranges, codec_is_sound, codec_reads, codec_writes,
@@ -121,7 +123,8 @@ impl<B: BytesToBytesCodecTraits> CodecChain<B> {
         data_type: &DataType,
         fill_value: &FillValue,
     ) -> Result<BytesRepresentation, CodecError>
-        ensures answer { Counts B.functions self.now shape.now data_type.now fill_value.now result }
+        ensures answer { ChainRepresents B.functions self.now
+            shape.now data_type.now fill_value.now result }
     {
         chain_representation(alloc, self, shape, data_type, fill_value)
     }
@@ -139,6 +142,9 @@ impl<B: BytesToBytesCodecTraits> CodecChain<B> {
     ///
     /// A chain inside is asked as this one is, `encoded_representation` first, and not at all about
     /// a row of no elements. Each codec gets what the one before made, owned bytes as owned ones.
+    /// Where none changes a byte or its place, which is so of `reshape`, `squeeze` and `bytes` that
+    /// turns nothing round, the answer is what was given, owned bytes owned and borrowed ones
+    /// borrowed.
     pub fn encode<'a>(
         &self,
         alloc: Global,
@@ -147,9 +153,10 @@ impl<B: BytesToBytesCodecTraits> CodecChain<B> {
         data_type: &DataType,
         fill_value: &FillValue,
     ) -> Result<ArrayBytesRaw<'a>, CodecError>
-        // Wide: the form of a chunk is three parameters, as in the Rust crate.
         ensures encodes { Encodes (chain_grammar B.functions (plain_chain self.now))
             (form_of shape.now data_type.now fill_value.now) elements.entry result }
+        ensures kept { KeepsBytes (plain_chain self.now) data_type.now
+            → IsGiven elements.entry result }
     {
         chain_is_sound(self);
         shape.as_slice();
@@ -175,6 +182,7 @@ impl<B: BytesToBytesCodecTraits> CodecChain<B> {
     /// A chain inside is asked as this one is, `encoded_representation` first, and not at all about
     /// a row of no elements. Each codec gets what the one behind it made, owned bytes as owned
     /// ones; elements of `bytes` are moved as they are stored, and their bytes turned round last.
+    /// Where none changes a byte or its place, as at `encode`, the answer holds what was given.
     ///
     /// The chunk alone fixes the container, at every depth and whatever the value has: offsets begin
     /// at 0, mask bytes are 0 or 1, and absent elements stand over blank ones.
@@ -186,10 +194,11 @@ impl<B: BytesToBytesCodecTraits> CodecChain<B> {
         data_type: &DataType,
         fill_value: &FillValue,
     ) -> Result<ArrayBytes<'a>, CodecError>
-        // Wide: the form of a chunk is three parameters, as in the Rust crate.
         ensures decodes { Decodes (chain_grammar B.functions (plain_chain self.now))
             (form_of shape.now data_type.now fill_value.now) (items_of value.entry) result }
         ensures tight { IfOk result (IsTight data_type.now) }
+        ensures kept { KeepsBytes (plain_chain self.now) data_type.now
+            → HoldsGiven value.entry result }
     {
         chain_is_sound(self);
         shape.as_slice();

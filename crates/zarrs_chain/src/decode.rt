@@ -5,7 +5,9 @@ ghost use Rattle.zarrs_array_bytes.specs.Tight.{IsTight};
 ghost use Rattle.zarrs_array_bytes.specs.Validity.{Holds};
 ghost use Rattle.std.specs.Prelude.{◌≡◌, IfOk, true};
 ghost use Rattle.zarrs_data_type.specs.FillValue.{fill_fits};
+ghost use Rattle.zarrs_bytes.specs.GivenBytes.{HoldsGiven};
 ghost use Rattle.zarrs_chain_meaning.specs.CodecMeaning.{chain_chunk};
+ghost use Rattle.zarrs_chain_meaning.specs.KeptBytes.{KeepsBytes};
 ghost use Rattle.zarrs_chain_meaning.specs.Meaning.{part_chunk};
 ghost use Rattle.zarrs_chain.specs.ChainView.{plain_chain};
 
@@ -33,10 +35,10 @@ pub(crate) fn chain_decode<'a, B: BytesToBytesCodecTraits>(
     kind: &DataType,
     fill: &FillValue,
 ) -> Result<ArrayBytes<'a>, CodecError>
-    // Wide: the three parameters of a form, the value and the answer.
     ensures exact { GivesBy (Holds kind.now) result (chain_chunk B.functions (plain_chain chain.now)
         shape.now kind.now fill.now (items_of value.entry)) }
     ensures tight { IfOk result (IsTight kind.now) }
+    ensures kept { KeepsBytes (plain_chain chain.now) kind.now → HoldsGiven value.entry result }
 {
     let taken = taken_form(alloc, chain, shape, kind, fill)?;
     let below = decode_bytes(alloc, &chain.bytes_to_bytes, &taken.representation, value)?;
@@ -67,7 +69,6 @@ pub(crate) fn part_decode<'a, B: BytesToBytesCodecTraits>(
     fill: &FillValue,
 ) -> Result<ArrayBytes<'a>, CodecError>
     requires filling { fill_fits kind.now fill.now ≡ true }
-    // Wide: a row is its count, type and fill value; the part and the answer.
     ensures exact { GivesBy (Holds kind.now) result (part_chunk (chain_chunk B.functions
         (plain_chain chain.now)) kind.now fill.now count (items_of part.entry)) }
     ensures tight { IfOk result (IsTight kind.now) }

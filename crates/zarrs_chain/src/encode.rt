@@ -4,7 +4,9 @@ ghost use Rattle.std.specs.Prelude.{◌≡◌, Ok, false};
 ghost use Rattle.zarrs_chunk.specs.ChunkShape.{product};
 ghost use Rattle.zarrs_array_bytes.specs.Held.{items_of};
 ghost use Rattle.zarrs_array_bytes.specs.Validity.{validity};
+ghost use Rattle.zarrs_bytes.specs.GivenBytes.{IsGiven};
 ghost use Rattle.zarrs_chain_meaning.specs.CallAnswers.{GivesPartValue};
+ghost use Rattle.zarrs_chain_meaning.specs.KeptBytes.{KeepsBytes};
 ghost use Rattle.zarrs_chain_meaning.specs.Chain.{held_value, row_sizes};
 ghost use Rattle.zarrs_chain.specs.ChainView.{plain_chain};
 
@@ -46,9 +48,9 @@ pub(crate) fn chain_encode<'a, B: BytesToBytesCodecTraits>(
     kind: &DataType,
     fill: &FillValue,
 ) -> Result<ArrayBytesRaw<'a>, CodecError>
-    // Wide: the three parameters of a form, the container and the answer.
     ensures exact { Gives items_of result (held_value B.functions (plain_chain chain.now)
         shape.now kind.now fill.now held.entry) }
+    ensures kept { KeepsBytes (plain_chain chain.now) kind.now → IsGiven held.entry result }
 {
     let taken = taken_form(alloc, chain, shape, kind, fill)?;
     check_elements(&held, shape, kind)?;
@@ -75,7 +77,6 @@ pub(crate) fn part_encode<'a, B: BytesToBytesCodecTraits>(
     kind: &DataType,
     fill: &FillValue,
 ) -> Result<ArrayBytesRaw<'a>, CodecError>
-    // Wide: a row is its count, type and fill value.
     ensures exact { GivesPartValue B.functions (plain_chain chain.now)
         count kind.now fill.now held.entry result }
 {

@@ -3,7 +3,7 @@ ghost use Rattle.zarrs_chunk.specs.Answer.{Gives, checked_u64};
 ghost use Rattle.std.specs.Prelude.{◌≡◌, IfOk, Ok};
 ghost use Rattle.zarrs_chunk.specs.ChunkShape.{product};
 ghost use Rattle.zarrs_chain_meaning.specs.Chain.{taken_form as taken_form_of};
-ghost use Rattle.zarrs_chain.specs.ChainCalls.{Counts, MapsArrays};
+ghost use Rattle.zarrs_chain.specs.ChainCalls.{ChainRepresents, MapsArrays};
 ghost use Rattle.zarrs_chain.specs.ChainView.{plain_chain};
 
 use crate::array_to_bytes_codec::codec_representation;
@@ -33,7 +33,6 @@ pub(crate) fn taken_form<B: BytesToBytesCodecTraits>(
     kind: &DataType,
     fill: &FillValue,
 ) -> Result<TakenForm, CodecError>
-    // Wide: the three parameters of a form, and both fields of the answer.
     ensures answer { Gives (λ taken. (taken.shape, taken.representation)) result
         (taken_form_of B.functions (plain_chain chain.now) shape.now kind.now fill.now) }
     ensures map { MapsArrays chain.now kind.now shape.now result }
@@ -57,7 +56,7 @@ pub(crate) fn chain_representation<B: BytesToBytesCodecTraits>(
     kind: &DataType,
     fill: &FillValue,
 ) -> Result<BytesRepresentation, CodecError>
-    ensures answer { Counts B.functions chain.now shape.now kind.now fill.now result }
+    ensures answer { ChainRepresents B.functions chain.now shape.now kind.now fill.now result }
 {
     let taken = taken_form(alloc, chain, shape, kind, fill)?;
     Ok(outer_representation(&chain.bytes_to_bytes, taken.representation))

@@ -29,7 +29,6 @@ pub fn taken_form<B: BytesToBytesCodecTraits>(
     data_type: &DataType,
     fill_value: &FillValue,
 ) -> Result<(ChunkShape, BytesRepresentation), CodecError>
-    // Wide: the form of a chunk is three parameters, as in the Rust crate.
     ensures answer { GivesValue result (taken_form_of B.functions (plain_chain chain.now)
         shape.now data_type.now fill_value.now) }
     ensures map { MapsArrays chain.now data_type.now shape.now result }

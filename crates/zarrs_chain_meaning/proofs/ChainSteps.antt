@@ -27,7 +27,7 @@ use Rattle.zarrs_chain_meaning.specs.PlainChain.{PlainChain}
 use Rattle.zarrs_chain_meaning.specs.ArrayStages.{arrays_map, IsMapWhere}
 use Rattle.zarrs_chain_meaning.specs.BytesStages.{outer_value, outer_bytes, outer_representation}
 use Rattle.zarrs_chain_meaning.specs.Chain.{taken_form, codec_held_value, held_value}
-use Rattle.zarrs_chain_meaning.specs.vlen.Vlen.{offset_bytes, offsets_in_chunk, slices, vlen_parts, vlen_chunk, offset_type}
+use Rattle.zarrs_chain_meaning.specs.vlen.Vlen.{offset_bytes, offsets_in_chunk, slices, vlen_value_parts, vlen_chunk, offset_type}
 use Rattle.zarrs_chain_meaning.specs.Parts.{all_bytes, byte_type}
 use Rattle.zarrs_chain_meaning.specs.CodecMeaning.{codec_value, codec_chunk, chain_chunk, chain_value, codec_representation, chain_representation}
 use Rattle.zarrs_chain_meaning.specs.Meaning.{Decoder, part_chunk, around_chunk, Measure}
@@ -230,7 +230,7 @@ around_long f arrays measure content outer sizes type fill value chunk e =
 
 pub vlen_long : (wide at_end : Bool) (index content : Decoder) (count : ℕ) (value : List ℕ) (chunk : Chunk) → vlen_chunk wide at_end index content count value ≡ Ok chunk → length chunk ≡ count
 vlen_long wide at_end index content count value chunk e =
-    let parts = bind_ok (vlen_parts at_end value) _ chunk e in
+    let parts = bind_ok (vlen_value_parts at_end value) _ chunk e in
     let more = bind_ok (checked_u64 (count + 1)) _ chunk parts.2 in
     let rows = bind_ok (index ((count + 1) ∷ []) (offset_type wide) (offset_bytes wide 0) parts.0.0) _ chunk more.2 in
     let offsets = offsets_in_chunk wide rows.0 in

@@ -12,7 +12,7 @@ use Rattle.zarrs_bytes.specs.BytesCodec.{IsChunk}
 use Rattle.zarrs_packbits.specs.Laws.{HasBytes}
 use Rattle.zarrs_chain_meaning.specs.PlainChain.{PlainCodec, bytes_codec, packbits_codec, vlen_v2_codec, vlen_codec, optional_codec, PlainChain}
 use Rattle.zarrs_chain_meaning.specs.Meaning.{through}
-use Rattle.zarrs_chain_meaning.specs.CodecMeaning.{meaning, chain_meaning, HasMappings, normal_element, normal_form, codec_representation, chain_representation, codec_value, chain_value, codec_chunk, chain_chunk, CodecStands, ChainStands, CodecWritten, ChainWritten}
+use Rattle.zarrs_chain_meaning.specs.CodecMeaning.{meaning, chain_meaning, HasMappings, codec_normal_element, normal_form, codec_representation, chain_representation, codec_value, chain_value, codec_chunk, chain_chunk, CodecStands, ChainStands, CodecWritten, ChainWritten}
 use Rattle.zarrs_chain_meaning.specs.Laws.{IsChainOfMappings}
 use Rattle.zarrs_chain_meaning.proofs.ArraySteps.{ok_is}
 use Rattle.zarrs_chain_meaning.proofs.NestedNormal.{KeepsTypes, kept_elements, all_twice, kept_selected, kept_updated}
@@ -63,20 +63,20 @@ codec_fits f codec = (codec_laws codec).fits f
 pub chunk_count : {B : Type 0} (f : BytesCodecs B) (codec : PlainCodec B) (sizes : List ℕ) (type : ElementType) (fill value : List ℕ) (chunk : Chunk) → codec_chunk f codec sizes type fill value ≡ Ok chunk → length chunk ≡ product sizes
 chunk_count f codec = (codec_laws codec).long f
 
-pub kept_is : {B : Type 0} (codec : PlainCodec B) → KeepsTypes (normal_element codec)
+pub kept_is : {B : Type 0} (codec : PlainCodec B) → KeepsTypes (codec_normal_element codec)
 kept_is codec = (codec_laws codec).types
 
 pub normal_elements : {B : Type 0} (codec : PlainCodec B) (type : ElementType) (count : ℕ) (chunk : Chunk) → IsChunk type count chunk → IsChunk type count (normal_form codec type chunk)
-normal_elements codec type count chunk is = kept_elements (normal_element codec) (kept_is codec) type count chunk is
+normal_elements codec type count chunk is = kept_elements (codec_normal_element codec) (kept_is codec) type count chunk is
 
 pub normal_twice : {B : Type 0} (codec : PlainCodec B) (type : ElementType) (chunk : Chunk) → AreElements type chunk → normal_form codec type (normal_form codec type chunk) ≡ normal_form codec type chunk
-normal_twice codec type chunk h = all_twice (normal_element codec) (codec_laws codec).twice type chunk h
+normal_twice codec type chunk h = all_twice (codec_normal_element codec) (codec_laws codec).twice type chunk h
 
 pub normal_moved : {B : Type 0} (codec : PlainCodec B) (type : ElementType) (m : CoordinateMap) (chunk : Chunk) → normal_form codec type (moved_chunk m chunk) ≡ moved_chunk m (normal_form codec type chunk)
-normal_moved codec type m chunk = kept_selected (normal_element codec) (codec_laws codec).absents type chunk (origins m)
+normal_moved codec type m chunk = kept_selected (codec_normal_element codec) (codec_laws codec).absents type chunk (origins m)
 
 pub normal_updated : {B : Type 0} (codec : PlainCodec B) (type : ElementType) (chunk : Chunk) (places : List ℕ) (new : Chunk) → normal_form codec type (update chunk places new) ≡ update (normal_form codec type chunk) places (normal_form codec type new)
-normal_updated codec type chunk places new = kept_updated (normal_element codec) type chunk places new
+normal_updated codec type chunk places new = kept_updated (codec_normal_element codec) type chunk places new
 
 pub chain_one : {B : Type 0} (f : BytesCodecs B) (chain : PlainChain B) → IsChainOfMappings chain → StandsOnce (ChainStands f chain)
 chain_one f chain is = (chain_laws chain).stands_once f (is.mappings, is.inner_mappings)
@@ -84,7 +84,7 @@ chain_one f chain is = (chain_laws chain).stands_once f (is.mappings, is.inner_m
 pub chain_once : {B : Type 0} (f : BytesCodecs B) (chain : PlainChain B) → WritesOnce (ChainWritten f chain)
 chain_once f chain = (chain_laws chain).writes_once f
 
-pub normal_as_written : {B : Type 0} (f : BytesCodecs B) (chain : PlainChain B) → WrittenKept (ChainWritten f chain) (normal_element chain.array_to_bytes)
+pub normal_as_written : {B : Type 0} (f : BytesCodecs B) (chain : PlainChain B) → WrittenKept (ChainWritten f chain) (codec_normal_element chain.array_to_bytes)
 normal_as_written f chain = (chain_laws chain).kept f
 
 -- what is written for a chunk of the sizes and the type is what is written for its normal form
@@ -102,11 +102,11 @@ chain_keeps f chain sizes type fill value chunk r lawful is each positive w e =
     let measured = (chain_laws chain).measured f lawful (is.mappings, is.inner_mappings) sizes type fill value chunk positive each w in
     subst (λ (s : BytesRepresentation). KeepsTo s value) (ok_is measured.size r (sym measured.measured ∙ e)) measured.kept.keeps
 
-pub codec_stands : {B : Type 0} (f : BytesCodecs B) → IsLawful f → (codec : PlainCodec B) → HasMappings codec → StandsTaken (CodecWritten f codec) (CodecStands f codec) (codec_representation f codec) (normal_element codec)
+pub codec_stands : {B : Type 0} (f : BytesCodecs B) → IsLawful f → (codec : PlainCodec B) → HasMappings codec → StandsTaken (CodecWritten f codec) (CodecStands f codec) (codec_representation f codec) (codec_normal_element codec)
 codec_stands f lawful codec has = (codec_laws codec).stands f lawful has
 
 -- what is written for a chunk stands for its normal form
-pub chain_stands : {B : Type 0} (f : BytesCodecs B) (chain : PlainChain B) → IsLawful f → IsChainOfMappings chain → StandsKept (ChainWritten f chain) (ChainStands f chain) (normal_element chain.array_to_bytes)
+pub chain_stands : {B : Type 0} (f : BytesCodecs B) (chain : PlainChain B) → IsLawful f → IsChainOfMappings chain → StandsKept (ChainWritten f chain) (ChainStands f chain) (codec_normal_element chain.array_to_bytes)
 chain_stands f chain lawful is = (chain_laws chain).stands f lawful (is.mappings, is.inner_mappings)
 
 -- two chunks are written alike exactly if their normal forms are equal

@@ -14,7 +14,7 @@ use Rattle.zarrs_array_to_array.proofs.CoordinateMaps.{moved_back}
 use Rattle.zarrs_chunk.proofs.Inside.{lt_test}
 use Rattle.zarrs_chain_meaning.specs.Meaning.{Decoder, part_chunk, around_chunk, Measure, Standing, PartStands, StandsThrough}
 use Rattle.zarrs_chain_meaning.specs.Parts.{length_of, all_bytes, byte_type}
-use Rattle.zarrs_chain_meaning.specs.vlen.Vlen.{offsets_in_chunk, slices, vlen_parts, vlen_chunk, offset_bytes, offset_type, arranged, VlenStands}
+use Rattle.zarrs_chain_meaning.specs.vlen.Vlen.{offsets_in_chunk, slices, vlen_value_parts, vlen_chunk, offset_bytes, offset_type, arranged, VlenStands}
 use Rattle.zarrs_chain_meaning.specs.optional.Optional.{optional_parts, flags_in, count_set, under_flags, optional_chunk, flag_of, present_of, flag_type, blank_fill, OptionalStandsFor}
 use Rattle.zarrs_bytes.proofs.Coding.{ok}
 use Rattle.zarrs_chain_meaning.proofs.NestedStages.{arrays_are_map, row_positive}
@@ -31,7 +31,7 @@ part_only stand decode law type fill part (x ∷ chunk) s = law (length (x ∷ c
 
 -- ---- parts of values
 
-vlen_parts_of : (at_end : Bool) (head index items : List ℕ) → length head ≡ 8 → length_of head ≡ length index → vlen_parts at_end (arranged at_end head index items) ≡ Ok (index, items)
+vlen_parts_of : (at_end : Bool) (head index items : List ℕ) → length head ≡ 8 → length_of head ≡ length index → vlen_value_parts at_end (arranged at_end head index items) ≡ Ok (index, items)
 vlen_parts_of false head index items eight is =
     let v : List ℕ = head ++ (index ++ items) in
     let long : length v ≡ 8 + (length index + length items) = omega (arith, length-append head (index ++ items), length-append index items, eight) in
@@ -77,7 +77,7 @@ optional_parts_of head next mask items a8 b8 hm hd lt =
 
 -- ---- codecs with chains inside
 
-vlen_steps : (wide at_end : Bool) (index content : Decoder) (count : ℕ) (value i d : List ℕ) (rows items : Chunk) → vlen_parts at_end value ≡ Ok (i, d) → nat_lt (count + 1) (2 ^ 64) ≡ true
+vlen_steps : (wide at_end : Bool) (index content : Decoder) (count : ℕ) (value i d : List ℕ) (rows items : Chunk) → vlen_value_parts at_end value ≡ Ok (i, d) → nat_lt (count + 1) (2 ^ 64) ≡ true
     → index ((count + 1) ∷ []) (offset_type wide) (offset_bytes wide 0) i ≡ Ok rows → rises (offsets_in_chunk wide rows) ≡ true → part_chunk content byte_type (0 ∷ []) (last_of (offsets_in_chunk wide rows)) d ≡ Ok items
     → vlen_chunk wide at_end index content count value ≡ Ok (slices count (offsets_in_chunk wide rows) (all_bytes items))
 vlen_steps wide at_end index content count value i d rows items a b c e g = rw (a, b, c, e, g) refl
@@ -85,7 +85,7 @@ vlen_steps wide at_end index content count value i d rows items a b c e g = rw (
 pub vlen_only : (wide at_end : Bool) (is cs : Standing) (ie ce : Decoder) → Decodes is ie → Decodes cs ce → (count : ℕ) (value : List ℕ) (chunk : Chunk)
     → VlenStands wide at_end is cs count value chunk → vlen_chunk wide at_end ie ce count value ≡ Ok chunk
 vlen_only wide at_end is cs ie ce ilaw claw count value chunk s =
-    let parts : vlen_parts at_end value ≡ Ok (s.index_part, s.data_part) = ap (vlen_parts at_end) s.parts ∙ vlen_parts_of at_end s.head s.index_part s.data_part s.head_size s.head_is in
+    let parts : vlen_value_parts at_end value ≡ Ok (s.index_part, s.data_part) = ap (vlen_value_parts at_end) s.parts ∙ vlen_parts_of at_end s.head s.index_part s.data_part s.head_size s.head_is in
     let offsets = offsets_in_chunk wide s.offset_chunk in
     vlen_steps wide at_end ie ce count value s.index_part s.data_part s.offset_chunk s.byte_chunk parts (lt_test (count + 1) (2 ^ 64) s.countable)
     (ilaw ((count + 1) ∷ []) (offset_type wide) (offset_bytes wide 0) s.index_part s.offset_chunk (row_positive (count + 1) (omega arith)) s.index_stands) s.rising

@@ -10,7 +10,7 @@ use Rattle.zarrs_bytes.specs.ByteOrder.{bytes_of}
 use Rattle.zarrs_chain_meaning.specs.BytesStages.{in_memory, outer_value, OuterWritten}
 use Rattle.zarrs_chain_meaning.specs.Meaning.{Encoder, part_value, around_value, Measure, Standing, PartWritten, WrittenThrough, Keeping}
 use Rattle.zarrs_chain_meaning.specs.vlen.Vlen.{chunk_offsets, offset_bytes, offset_elements, offset_fits, is_same_bytes, vlen_value, offset_type, VlenWritten, arranged}
-use Rattle.zarrs_chain_meaning.specs.Parts.{byte_elements, all_bytes, byte_type, length_bytes}
+use Rattle.zarrs_chain_meaning.specs.Parts.{byte_elements, all_bytes, byte_type, part_length_bytes}
 use Rattle.zarrs_chain_meaning.specs.optional.Optional.{flag_of, present_of, optional_layout, optional_value, flag_type, blank_fill, OptionalWrittenFor}
 use Rattle.zarrs_bytes.proofs.Coding.{ok}
 use Rattle.zarrs_array_bytes.specs.SameBytesLaws.{numbers_same}
@@ -47,7 +47,7 @@ vlen_steps : (wide at_end : Bool) (keep : Keeping) (index content : Encoder) (ch
     → index (length (offset_elements wide (chunk_offsets chunk)) ∷ []) (offset_type wide) (offset_bytes wide 0) (offset_elements wide (chunk_offsets chunk)) ≡ Ok i
     → is_same_bytes (map (keep (offset_type wide)) (offset_elements wide (chunk_offsets chunk))) (offset_elements wide (chunk_offsets chunk)) ≡ true
     → part_value content byte_type (0 ∷ []) (byte_elements (all_bytes chunk)) ≡ Ok d
-    → vlen_value wide at_end keep index content chunk ≡ in_memory (arranged at_end (length_bytes i) i d)
+    → vlen_value wide at_end keep index content chunk ≡ in_memory (arranged at_end (part_length_bytes i) i d)
 vlen_steps wide at_end keep index content chunk i d a b c e g = rw (a, b, c, e, g) refl
 
 pub vlen_only : (wide at_end : Bool) (keep : Keeping) (iw cw : Standing) (ie ce : Encoder) → Encodes iw ie → Encodes cw ce → (value : List ℕ) (chunk : Chunk)
@@ -58,7 +58,7 @@ vlen_only wide at_end keep iw cw ie ce i d value chunk w =
     (i (length rows ∷ []) (offset_type wide) (offset_bytes wide 0) w.index_part rows w.index_written)
     (ap (λ (c : Chunk). is_same_bytes c rows) w.kept ∙ same_bytes rows)
     (part_only cw ce d byte_type (0 ∷ []) w.data_part (byte_elements (all_bytes chunk)) w.data_written)
-    ∙ memory_so (arranged at_end (length_bytes w.index_part) w.index_part w.data_part) (subst (λ (x : List ℕ). length x < 2 ^ 64) w.parts w.small) ∙ ap ok (sym w.parts)
+    ∙ memory_so (arranged at_end (part_length_bytes w.index_part) w.index_part w.data_part) (subst (λ (x : List ℕ). length x < 2 ^ 64) w.parts w.small) ∙ ap ok (sym w.parts)
 
 optional_steps : (mask content : Encoder) (sizes : List ℕ) (type : ElementType) (chunk : Chunk) (m d : List ℕ) → mask sizes flag_type (0 ∷ []) (map flag_of chunk) ≡ Ok m → part_value content type (blank_fill type) (present_of chunk) ≡ Ok d
     → optional_value mask content sizes (optional type) chunk ≡ in_memory (optional_layout m d)

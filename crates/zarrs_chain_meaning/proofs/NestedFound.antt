@@ -23,7 +23,7 @@ use Rattle.zarrs_chain_meaning.specs.ArrayStages.{arrays_map}
 use Rattle.zarrs_chain_meaning.specs.BytesStages.{in_memory, outer_value, OuterWritten}
 use Rattle.zarrs_chain_meaning.specs.Meaning.{Encoder, part_value, around_value, Measure, around_representation, Standing, PartWritten, WrittenThrough, Keeping}
 use Rattle.zarrs_chain_meaning.specs.vlen.Vlen.{chunk_offsets, offset_bytes, offset_elements, offset_fits, is_same_bytes, vlen_value, offset_type, VlenWritten, arranged}
-use Rattle.zarrs_chain_meaning.specs.Parts.{byte_elements, all_bytes, byte_type, length_bytes}
+use Rattle.zarrs_chain_meaning.specs.Parts.{byte_elements, all_bytes, byte_type, part_length_bytes}
 use Rattle.zarrs_chain_meaning.specs.optional.Optional.{flag_of, present_of, optional_layout, optional_value, flag_type, blank_fill, OptionalWritten}
 use Rattle.zarrs_chain_meaning.proofs.ArraySteps.{err, ok_is}
 use Rattle.zarrs_chain_meaning.proofs.NestedForNormal.{items_are, present_are, row_is}
@@ -112,7 +112,7 @@ vlen_found wide at_end keep iw cw ie ce k ilaw claw value chunk e =
     let same = is_same_bytes (map (keep (offset_type wide)) rows) rows in
     let c = bind_ok (demand same OffsetNotKept) _ value i.2 in
     let d = bind_ok (part_value ce byte_type (0 ∷ []) (byte_elements a.0)) _ value c.2 in
-    let whole = in_memory_so (arranged at_end (length_bytes i.0) i.0 d.0) value d.2 in
+    let whole = in_memory_so (arranged at_end (part_length_bytes i.0) i.0 d.0) value d.2 in
     let fits : offset_fits wide (length a.0) ≡ true = demand_ok (offset_fits wide (length a.0)) OffsetTooLarge b.0 b.1 in
     record {
       index_part = i.0;

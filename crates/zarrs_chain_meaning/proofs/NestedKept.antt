@@ -18,7 +18,7 @@ use Rattle.zarrs_bytes.specs.ByteOrder.{bytes_of}
 use Rattle.zarrs_packbits.specs.Laws.{HasBytes}
 use Rattle.zarrs_chain_meaning.specs.BytesStages.{outer_representation, OuterWritten}
 use Rattle.zarrs_chain_meaning.specs.vlen.Vlen.{chunk_offsets, offset_bytes, offset_elements, offset_type, VlenWritten, arranged}
-use Rattle.zarrs_chain_meaning.specs.Parts.{length_bytes, byte_elements, all_bytes, byte_type}
+use Rattle.zarrs_chain_meaning.specs.Parts.{part_length_bytes, byte_elements, all_bytes, byte_type}
 use Rattle.zarrs_chain_meaning.specs.optional.Optional.{flag_of, present_of, optional_layout, flag_type, blank_fill, bounded, both_representations, optional_representation, OptionalWrittenFor}
 use Rattle.zarrs_chain_meaning.specs.Meaning.{Measure, around_representation, Standing, PartWritten, WrittenThrough, Keeping}
 use Rattle.zarrs_chain_meaning.proofs.ArraySteps.{ok_is}
@@ -51,12 +51,12 @@ WritesMeasured write measure =
 
 -- ---- bytes of numbers
 
-length_are : (part : List ℕ) → AreBytes (length_bytes part)
-unfolding length_bytes
+length_are : (part : List ℕ) → AreBytes (part_length_bytes part)
+unfolding part_length_bytes
 length_are part = low_first_are_bytes 0 8 (length part)
 
-pub length_long : (part : List ℕ) → length (length_bytes part) ≡ 8
-unfolding length_bytes
+pub length_long : (part : List ℕ) → length (part_length_bytes part) ≡ 8
+unfolding part_length_bytes
 length_long part = refl
 
 offset_are : (wide : Bool) (offset : ℕ) → AreBytes (offset_bytes wide offset)
@@ -133,18 +133,18 @@ part_within write measure law grows type fill part (x ∷ chunk) sizes s positiv
 
 -- ---- layouts
 
-layout_are : (at_end : Bool) (index items : List ℕ) → AreBytes index → AreBytes items → AreBytes (arranged at_end (length_bytes index) index items)
-layout_are false index items i d = All-append is_byte (length_bytes index) (index ++ items) (length_are index) (All-append is_byte index items i d)
-layout_are true index items i d = All-append is_byte items (index ++ length_bytes index) d (All-append is_byte index (length_bytes index) i (length_are index))
+layout_are : (at_end : Bool) (index items : List ℕ) → AreBytes index → AreBytes items → AreBytes (arranged at_end (part_length_bytes index) index items)
+layout_are false index items i d = All-append is_byte (part_length_bytes index) (index ++ items) (length_are index) (All-append is_byte index items i d)
+layout_are true index items i d = All-append is_byte items (index ++ part_length_bytes index) d (All-append is_byte index (part_length_bytes index) i (length_are index))
 
 optional_are : (mask items : List ℕ) → AreBytes mask → AreBytes items → AreBytes (optional_layout mask items)
 optional_are mask items m d =
-    All-append is_byte (length_bytes mask) (length_bytes items ++ (mask ++ items)) (length_are mask)
-    (All-append is_byte (length_bytes items) (mask ++ items) (length_are items) (All-append is_byte mask items m d))
+    All-append is_byte (part_length_bytes mask) (part_length_bytes items ++ (mask ++ items)) (length_are mask)
+    (All-append is_byte (part_length_bytes items) (mask ++ items) (length_are items) (All-append is_byte mask items m d))
 
 optional_long : (mask items : List ℕ) → length (optional_layout mask items) ≡ 16 + length mask + length items
 optional_long mask items =
-    omega (arith, length-append (length_bytes mask) (length_bytes items ++ (mask ++ items)), length-append (length_bytes items) (mask ++ items), length-append mask items, length_long mask, length_long items)
+    omega (arith, length-append (part_length_bytes mask) (part_length_bytes items ++ (mask ++ items)), length-append (part_length_bytes items) (mask ++ items), length-append mask items, length_long mask, length_long items)
 
 tested_keeps : (test : Bool) (n : ℕ) (value : List ℕ) → length value ≤ n → KeepsTo (if test then BoundedSize n else UnboundedSize) value
 tested_keeps true n value h = h

@@ -10,7 +10,7 @@ use Rattle.zarrs_data_type.specs.Element.{Element, plain, absent, present, Chunk
 use Rattle.zarrs_bytes.proofs.Coding.{demand_ok, ok, bind_ok}
 use Rattle.zarrs_chunk.proofs.Inside.{from_lt_test, from_le_test}
 use Rattle.zarrs_chain_meaning.specs.Parts.{length_of}
-use Rattle.zarrs_chain_meaning.specs.vlen.Vlen.{vlen_parts, arranged}
+use Rattle.zarrs_chain_meaning.specs.vlen.Vlen.{vlen_value_parts, arranged}
 use Rattle.zarrs_chain_meaning.specs.optional.Optional.{optional_parts, flag_in, flags_in, count_set, under_flags, flag_of, present_of}
 use Rattle.zarrs_chain_meaning.proofs.ArraySteps.{ok_is}
 
@@ -64,7 +64,7 @@ pub record VlenCut (at_end : Bool) (value index items : List ℕ) : Type 0 where
 abbrev IsVlenCut : Bool → List ℕ → List ℕ × List ℕ → Type 0
 IsVlenCut at_end value parts = VlenCut at_end value parts.0 parts.1
 
-pub vlen_cut : (at_end : Bool) (value : List ℕ) (parts : List ℕ × List ℕ) → vlen_parts at_end value ≡ Ok parts → VlenCut at_end value parts.0 parts.1
+pub vlen_cut : (at_end : Bool) (value : List ℕ) (parts : List ℕ × List ℕ) → vlen_value_parts at_end value ≡ Ok parts → VlenCut at_end value parts.0 parts.1
 vlen_cut false value parts e =
     let size = length_of (take 8 value) in
     let a = bind_ok (demand (nat_le 8 (length value)) (InvalidBytesLength (length value) 8)) _ parts e in

@@ -21,7 +21,7 @@ use Rattle.zarrs_bytes.proofs.Coding.{demand_ok, checked_ok, bind_ok}
 use Rattle.zarrs_chain_meaning.specs.ArrayStages.{arrays_map}
 use Rattle.zarrs_chain_meaning.specs.BytesStages.{outer_bytes}
 use Rattle.zarrs_chain_meaning.specs.Meaning.{Decoder, part_chunk, around_chunk, Measure, Standing, PartStands, StandsThrough}
-use Rattle.zarrs_chain_meaning.specs.vlen.Vlen.{offsets_in_chunk, slices, vlen_parts, vlen_chunk, offset_bytes, offset_type, VlenStands}
+use Rattle.zarrs_chain_meaning.specs.vlen.Vlen.{offsets_in_chunk, slices, vlen_value_parts, vlen_chunk, offset_bytes, offset_type, VlenStands}
 use Rattle.zarrs_chain_meaning.specs.optional.Optional.{optional_parts, flags_in, count_set, under_flags, optional_chunk, flag_of, present_of, flag_type, blank_fill, OptionalStands}
 use Rattle.zarrs_chain_meaning.specs.Parts.{all_bytes, byte_type}
 use Rattle.zarrs_vlen_v2.proofs.Rows.{string_is}
@@ -73,7 +73,7 @@ slices_are type count offsets items v =
 pub vlen_read : (wide at_end : Bool) (is cs : Standing) (ie ce : Decoder) → Reads is ie → Reads cs ce → (count : ℕ) (type : ElementType) (value : List ℕ) (chunk : Chunk)
     → is_variable type ≡ true → vlen_chunk wide at_end ie ce count value ≡ Ok chunk → VlenStands wide at_end is cs count value chunk × IsChunk type count chunk
 vlen_read wide at_end is cs ie ce ilaw claw count type value chunk v e =
-    let a = bind_ok (vlen_parts at_end value) _ chunk e in
+    let a = bind_ok (vlen_value_parts at_end value) _ chunk e in
     let found = vlen_cut at_end value a.0 a.1 in
     let b = bind_ok (checked_u64 (count + 1)) _ chunk a.2 in
     let i = bind_ok (ie ((count + 1) ∷ []) (offset_type wide) (offset_bytes wide 0) a.0.0) _ chunk b.2 in

@@ -12,20 +12,20 @@ use Rattle.zarrs_array_bytes.proofs.ElementLemmas.{cut_at, length_ends}
 use Rattle.zarrs_array_bytes.proofs.OffsetLemmas.{ends_rise, offsets_end}
 use Rattle.zarrs_bytes.specs.ByteOrder.{bytes_of}
 use Rattle.zarrs_vlen_v2.proofs.Rows.{plain_is}
-use Rattle.zarrs_chain_meaning.specs.Parts.{length_of, length_bytes, byte_elements, all_bytes}
+use Rattle.zarrs_chain_meaning.specs.Parts.{length_of, part_length_bytes, byte_elements, all_bytes}
 use Rattle.zarrs_chain_meaning.specs.vlen.Vlen.{offset_of, offsets_in_chunk, slices, chunk_offsets, offset_bytes, offset_elements, offset_fits, arranged}
 use Rattle.zarrs_chunk.proofs.Inside.{from_lt_test, lt_test}
 
 -- ---- lengths
 
-pub length_again : (part : List ℕ) → length part < 2 ^ 64 → length_of (length_bytes part) ≡ length part
-unfolding length_of length_bytes
+pub length_again : (part : List ℕ) → length part < 2 ^ 64 → length_of (part_length_bytes part) ≡ length part
+unfolding length_of part_length_bytes
 length_again part lt = from_le_bytes-to_le_bytes_8 (length part) lt
 
 -- the index is no longer than the value
-pub index_small : (at_end : Bool) (index items : List ℕ) → length (arranged at_end (length_bytes index) index items) < 2 ^ 64 → length index < 2 ^ 64
-index_small false index items lt = omega (arith, lt, length-append (length_bytes index) (index ++ items), length-append index items)
-index_small true index items lt = omega (arith, lt, length-append items (index ++ length_bytes index), length-append index (length_bytes index))
+pub index_small : (at_end : Bool) (index items : List ℕ) → length (arranged at_end (part_length_bytes index) index items) < 2 ^ 64 → length index < 2 ^ 64
+index_small false index items lt = omega (arith, lt, length-append (part_length_bytes index) (index ++ items), length-append index items)
+index_small true index items lt = omega (arith, lt, length-append items (index ++ part_length_bytes index), length-append index (part_length_bytes index))
 
 -- ---- offsets
 

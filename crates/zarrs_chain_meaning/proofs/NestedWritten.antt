@@ -12,7 +12,7 @@ use Rattle.zarrs_packbits.specs.PackBitsSettings.{PackBitsSettings}
 use Rattle.zarrs_packbits.specs.PaddingByte.{value_with}
 use Rattle.zarrs_chain_meaning.specs.BytesStages.{OuterWritten}
 use Rattle.zarrs_chain_meaning.specs.vlen.Vlen.{chunk_offsets, offset_bytes, offset_elements, offset_type, VlenWritten, arranged}
-use Rattle.zarrs_chain_meaning.specs.Parts.{byte_elements, all_bytes, byte_type, length_bytes}
+use Rattle.zarrs_chain_meaning.specs.Parts.{byte_elements, all_bytes, byte_type, part_length_bytes}
 use Rattle.zarrs_chain_meaning.specs.optional.Optional.{flag_of, present_of, optional_layout, flag_type, blank_fill, OptionalWritten, OptionalWrittenFor}
 use Rattle.zarrs_chain_meaning.specs.Meaning.{Measure, Standing, PartWritten, WrittenThrough, Keeping}
 use Rattle.zarrs_chain_meaning.proofs.ArraySteps.{ok_is}
@@ -39,7 +39,7 @@ vlen_once wide at_end keep index content i d value other chunk a b =
     let offsets = offset_elements wide (chunk_offsets chunk) in
     let indices : a.index_part ≡ b.index_part = i (length offsets ∷ []) (offset_type wide) (offset_bytes wide 0) a.index_part b.index_part offsets a.index_written b.index_written in
     let items : a.data_part ≡ b.data_part = part_once content d byte_type (0 ∷ []) a.data_part b.data_part (byte_elements (all_bytes chunk)) a.data_written b.data_written in
-    a.parts ∙ (λ k. arranged at_end (length_bytes (indices k)) (indices k) (items k)) ∙ sym b.parts
+    a.parts ∙ (λ k. arranged at_end (part_length_bytes (indices k)) (indices k) (items k)) ∙ sym b.parts
 
 optional_once : (mask content : Standing) → WritesOnce mask → WritesOnce content → (sizes : List ℕ) (type : ElementType) (value other : List ℕ) (chunk : Chunk)
     → OptionalWritten mask content sizes type value chunk → OptionalWritten mask content sizes type other chunk → value ≡ other

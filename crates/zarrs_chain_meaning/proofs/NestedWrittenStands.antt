@@ -19,7 +19,7 @@ use Rattle.zarrs_bytes.proofs.Coding.{demand_ok}
 use Rattle.zarrs_packbits.specs.Laws.{HasBytes}
 use Rattle.zarrs_chunk.proofs.Inside.{from_lt_test}
 use Rattle.zarrs_chain_meaning.specs.vlen.Vlen.{offsets_in_chunk, slices, chunk_offsets, offset_bytes, offset_elements, vlen_normal, offset_type, vlen_representation, VlenStands, VlenWritten}
-use Rattle.zarrs_chain_meaning.specs.Parts.{length_bytes, byte_elements, all_bytes, byte_type}
+use Rattle.zarrs_chain_meaning.specs.Parts.{part_length_bytes, byte_elements, all_bytes, byte_type}
 use Rattle.zarrs_chain_meaning.specs.optional.Optional.{flag_of, present_of, optional_layout, optional_normal, flag_type, blank_fill, OptionalStandsFor, OptionalWrittenFor}
 use Rattle.zarrs_chain_meaning.specs.Meaning.{Measure, Standing, PartStands, StandsThrough, PartWritten, WrittenThrough, Keeping}
 use Rattle.zarrs_chain_meaning.proofs.NestedFlags.{KeepsFlags, flags_stay}
@@ -72,7 +72,7 @@ string_stands wide at_end own keep iw cw is cs string ilaw claw k s type count v
     let offs : chunk_offsets (map string chunk) ≡ offsets_in_chunk wide rows = offsets_kept keep string s chunk ∙ sym numbers in
     let alls : all_bytes (map string chunk) ≡ all_bytes kept_items = all_kept keep string s chunk ∙ sym (items_again (map (kept_byte keep) items)) in
     record {
-      head = length_bytes w.index_part;
+      head = part_length_bytes w.index_part;
       index_part = w.index_part;
       data_part = w.data_part;
       offset_chunk = rows;
@@ -105,7 +105,7 @@ vlen_stands wide at_end own keep iw cw is cs ilaw claw k t sizes (optional type)
 
 optional_parts : (mask items : List ℕ) → length (optional_layout mask items) ≡ 8 + (8 + (length mask + length items))
 optional_parts mask items =
-    omega (arith, length-append (length_bytes mask) (length_bytes items ++ (mask ++ items)), length-append (length_bytes items) (mask ++ items), length-append mask items, length_long mask, length_long items)
+    omega (arith, length-append (part_length_bytes mask) (part_length_bytes items ++ (mask ++ items)), length-append (part_length_bytes items) (mask ++ items), length-append mask items, length_long mask, length_long items)
 
 pub optional_stands : (keep mkeep : Keeping) (mw cw ms cs : Standing) → StandsKept mw ms mkeep → KeepsFlags mkeep → StandsKept cw cs keep → KeepsTypes (optional_normal keep)
     → (sizes : List ℕ) (type : ElementType) (value : List ℕ) (chunk : Chunk) → All (λ size. 0 < size) sizes → All HasBytes chunk → IsChunk type (product sizes) chunk
@@ -119,8 +119,8 @@ optional_stands keep mkeep mw cw ms cs mlaw flags claw t sizes (optional type) v
     let found : ms sizes flag_type (0 ∷ []) w.mask_part (map flag_of chunk) =
     subst (ms sizes flag_type (0 ∷ []) w.mask_part) (flags_stay mkeep flags chunk) (mlaw sizes flag_type (0 ∷ []) w.mask_part (map flag_of chunk) positive (flags_have chunk) w.mask_written) in
     record {
-      head = length_bytes w.mask_part;
-      next = length_bytes w.data_part;
+      head = part_length_bytes w.mask_part;
+      next = part_length_bytes w.data_part;
       mask_part = w.mask_part;
       data_part = w.data_part;
       parts = w.parts;

@@ -17,10 +17,10 @@ use Rattle.zarrs_packbits.specs.BitStream.{element_stream, chunk_stream}
 use Rattle.zarrs_packbits.specs.KeptBits.{component_bits, kept_component}
 use Rattle.zarrs_packbits.specs.NormalForm.{kept_element, normal_element, normal_chunk}
 use Rattle.zarrs_packbits.specs.PackBitsCodec.{PackBitsWritten}
-use Rattle.zarrs_packbits.specs.PackBitsSettings.{PackBitsSettings, first_of, last_of, has_bits, layout_for}
+use Rattle.zarrs_packbits.specs.PackBitsSettings.{PackBitsSettings, first_of, last_bit_of, has_bits, layout_for}
 use Rattle.zarrs_packbits.specs.PackedLayout.{spare_of}
 use Rattle.zarrs_packbits.specs.Packing.{packing}
-use Rattle.zarrs_packbits.specs.PaddingByte.{bytes_before, bytes_behind, value_with}
+use Rattle.zarrs_packbits.specs.PaddingByte.{padding_bytes_before, padding_bytes_behind, value_with}
 use Rattle.zarrs_packbits.proofs.BitLemmas.{AreBits, are_bits-append, are_bits-bits_of, are_bits-field, are_bits-flat_map, are_bits-widened, bits_of-full, bytes_of-small, length-bytes_of, length-pieces, piece_is}
 use Rattle.zarrs_packbits.proofs.LayoutLemmas.{spare_small}
 use Rattle.zarrs_packbits.proofs.LocalLemmas.{flat_range_same}
@@ -97,12 +97,12 @@ packed_again first count sign size group items s e =
 
 -- how many bits of a component are kept
 abbrev count_of : PackBitsSettings → ℕ → ℕ
-count_of settings width = last_of settings width + 1 - first_of settings
+count_of settings width = last_bit_of settings width + 1 - first_of settings
 
 has_field : (settings : PackBitsSettings) (width : ℕ) → has_bits settings width ≡ true → first_of settings + count_of settings width ≤ 8 * component_bytes width
 has_field settings width h =
     let first = first_of settings in
-    let last = last_of settings width in
+    let last = last_bit_of settings width in
     let ordered : first ≤ last = from_le_test first last (first_true (nat_le first last) (nat_lt last width) h) in
     let within : last < width = from_lt_test last width (second_true (nat_le first last) (nat_lt last width) h) in
     omega arith
@@ -159,20 +159,20 @@ stream_bits settings n width components sign (element ∷ chunk) =
 one_byte : (byte : ℕ) → byte < 8 → AreBytes (byte ∷ [])
 one_byte byte h = All-cons is_byte byte [] (omega arith) (All-nil is_byte)
 
-before_bytes : (padding : PackBitsPaddingEncoding) (spare : ℕ) → spare < 8 → AreBytes (bytes_before padding spare)
+before_bytes : (padding : PackBitsPaddingEncoding) (spare : ℕ) → spare < 8 → AreBytes (padding_bytes_before padding spare)
 before_bytes None spare h = All-nil is_byte
 before_bytes FirstByte spare h = one_byte spare h
 before_bytes LastByte spare h = All-nil is_byte
 
-behind_bytes : (padding : PackBitsPaddingEncoding) (spare : ℕ) → spare < 8 → AreBytes (bytes_behind padding spare)
+behind_bytes : (padding : PackBitsPaddingEncoding) (spare : ℕ) → spare < 8 → AreBytes (padding_bytes_behind padding spare)
 behind_bytes None spare h = All-nil is_byte
 behind_bytes FirstByte spare h = All-nil is_byte
 behind_bytes LastByte spare h = one_byte spare h
 
-value_bytes : (padding : PackBitsPaddingEncoding) (spare : ℕ) (bits : List ℕ) → spare < 8 → AreBits bits → AreBytes (bytes_before padding spare ++ (packing bits ++ bytes_behind padding spare))
+value_bytes : (padding : PackBitsPaddingEncoding) (spare : ℕ) (bits : List ℕ) → spare < 8 → AreBits bits → AreBytes (padding_bytes_before padding spare ++ (packing bits ++ padding_bytes_behind padding spare))
 value_bytes padding spare bits h are =
     let packed = small_bytes (packing bits) (bytes_of-small ((length bits + 7) / 8) bits are) in
-    All-append is_byte (bytes_before padding spare) (packing bits ++ bytes_behind padding spare) (before_bytes padding spare h) (All-append is_byte (packing bits) (bytes_behind padding spare) packed (behind_bytes padding spare h))
+    All-append is_byte (padding_bytes_before padding spare) (packing bits ++ padding_bytes_behind padding spare) (before_bytes padding spare h) (All-append is_byte (packing bits) (padding_bytes_behind padding spare) packed (behind_bytes padding spare h))
 
 -- what is written for a chunk is bytes
 pub packed_bytes : (settings : PackBitsSettings) (sizes : List ℕ) (type : ElementType) (fill value : List ℕ) (chunk : Chunk) → PackBitsWritten settings (form_of sizes type fill) value chunk → AreBytes value

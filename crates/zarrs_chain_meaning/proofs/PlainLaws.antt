@@ -12,7 +12,7 @@ use Rattle.zarrs_bytes.proofs.CodecLaws as bytes_law
 use Rattle.zarrs_bytes.proofs.Exact.{decoded_only, decoded_found, stands_length}
 use Rattle.zarrs_packbits.proofs.Exact as packed_exact
 use Rattle.zarrs_packbits.specs.BitStream.{chunk_stream}
-use Rattle.zarrs_packbits.specs.PackBitsSettings.{PackBitsSettings, packed_layout, packbits_length, first_of, last_of, has_bits}
+use Rattle.zarrs_packbits.specs.PackBitsSettings.{PackBitsSettings, packed_layout, packbits_length, first_of, last_bit_of, has_bits}
 use Rattle.zarrs_packbits.specs.PaddingByte.{value_with, value_len}
 use Rattle.zarrs_packbits.proofs.CodecLaws as packbits
 use Rattle.zarrs_chain_meaning.specs.CodecMeaning.{bytes_meaning, packbits_meaning}
@@ -107,8 +107,8 @@ packbits_laws settings = record {
   twice = λ type element h. element_again settings type element h;
   absents = λ type. packbits.normal_absent settings type;
   flags = record {
-    zero_kept = flag_by (has_bits settings 1) (first_of settings) (last_of settings 1) 0 refl refl;
-    one_kept = flag_by (has_bits settings 1) (first_of settings) (last_of settings 1) 1 refl refl;
+    zero_kept = flag_by (has_bits settings 1) (first_of settings) (last_bit_of settings 1) 0 refl refl;
+    one_kept = flag_by (has_bits settings 1) (first_of settings) (last_bit_of settings 1) 1 refl refl;
   };
   stands_once = λ f has sizes type fill value chunk other positive a b. packbits.stands_for_one settings sizes type fill value chunk other a b;
   writes_once = λ f sizes type fill value other chunk a b. writing.packed_once settings sizes type fill value other chunk a b;

@@ -62,12 +62,12 @@ abbrev pub HasMappings : {B : Type 0} → PlainCodec B → Type 0
 HasMappings codec = (meaning codec).Mapped
 
 -- an element as the codec keeps it; of a type that the codec doesn't take, the element itself
-abbrev pub normal_element : {B : Type 0} → PlainCodec B → Keeping
-normal_element codec = (meaning codec).normal
+abbrev pub codec_normal_element : {B : Type 0} → PlainCodec B → Keeping
+codec_normal_element codec = (meaning codec).normal
 
 -- The normal form of a chunk: each element as the codec keeps it.
 abbrev pub normal_form : {B : Type 0} → PlainCodec B → ElementType → Chunk → Chunk
-normal_form codec type chunk = map (normal_element codec type) chunk
+normal_form codec type chunk = map (codec_normal_element codec type) chunk
 
 -- how many bytes the value of such a chunk has, or the first cause why the codec, or the chain, doesn't take such chunks
 abbrev pub codec_representation : {B : Type 0} → BytesCodecs B → PlainCodec B → Measure

@@ -18,15 +18,15 @@ pub record IsChainOfMappings {B : Type 0} (chain : PlainChain B) : Type 0 where
   pub inner_mappings : HasMappings chain.array_to_bytes
 
 -- What is written for a chunk stands for its normal form.
-abbrev pub WrittenStands : {B : Type 0} → BytesCodecs B → Type 0
-WrittenStands {B} f =
+abbrev pub ChainWrittenStands : {B : Type 0} → BytesCodecs B → Type 0
+ChainWrittenStands {B} f =
     (chain : PlainChain B) (sizes : List ℕ) (type : ElementType) (fill value : List ℕ) (chunk : Chunk)
     → IsLawful f → IsChainOfMappings chain → All HasBytes chunk → All (λ size. 0 < size) sizes
     → ChainWritten f chain sizes type fill value chunk → ChainStands f chain sizes type fill value (normal_form chain.array_to_bytes type chunk)
 
 -- A value stands for at most one chunk.
-abbrev pub StandsForOne : {B : Type 0} → BytesCodecs B → Type 0
-StandsForOne {B} f =
+abbrev pub ChainStandsForOne : {B : Type 0} → BytesCodecs B → Type 0
+ChainStandsForOne {B} f =
     (chain : PlainChain B) (sizes : List ℕ) (type : ElementType) (fill value : List ℕ) (chunk other : Chunk)
     → IsChainOfMappings chain → All (λ size. 0 < size) sizes
     → ChainStands f chain sizes type fill value chunk → ChainStands f chain sizes type fill value other → chunk ≡ other
@@ -46,8 +46,8 @@ AnsweredStands {B} f =
     → chain_chunk f chain sizes type fill value ≡ Ok chunk → ChainStands f chain sizes type fill value chunk
 
 -- For a chunk at most one value is written.
-abbrev pub WrittenOnce : {B : Type 0} → BytesCodecs B → Type 0
-WrittenOnce {B} f =
+abbrev pub ChainWrittenOnce : {B : Type 0} → BytesCodecs B → Type 0
+ChainWrittenOnce {B} f =
     (chain : PlainChain B) (sizes : List ℕ) (type : ElementType) (fill value other : List ℕ) (chunk : Chunk)
     → ChainWritten f chain sizes type fill value chunk → ChainWritten f chain sizes type fill other chunk → value ≡ other
 
@@ -59,8 +59,8 @@ ValueIsWritten {B} f =
     → (chain_value f chain sizes type fill chunk ≡ Ok value) ↔ ChainWritten f chain sizes type fill value chunk
 
 -- The normal form of an updated chunk is the normal form updated with that of the new elements.
-abbrev pub NormalUpdated : Type 0 → Type 0
-NormalUpdated B =
+abbrev pub NormalFormUpdated : Type 0 → Type 0
+NormalFormUpdated B =
     (codec : PlainCodec B) (type : ElementType) (chunk : Chunk) (places : List ℕ) (new : Chunk)
     → normal_form codec type (update chunk places new) ≡ update (normal_form codec type chunk) places (normal_form codec type new)
 
@@ -71,8 +71,8 @@ WrittenForNormal {B} f =
     → IsChunk type (product sizes) chunk → ChainWritten f chain sizes type fill value chunk ↔ ChainWritten f chain sizes type fill value (normal_form chain.array_to_bytes type chunk)
 
 -- Two chunks are written alike exactly if their normal forms are equal.
-abbrev pub WrittenAlike : {B : Type 0} → BytesCodecs B → Type 0
-WrittenAlike {B} f =
+abbrev pub ChainWrittenAlike : {B : Type 0} → BytesCodecs B → Type 0
+ChainWrittenAlike {B} f =
     (chain : PlainChain B) (sizes : List ℕ) (type : ElementType) (fill value other_value : List ℕ) (chunk other : Chunk)
     → IsLawful f → IsChainOfMappings chain → All HasBytes chunk → All HasBytes other → All (λ size. 0 < size) sizes
     → ChainWritten f chain sizes type fill value chunk → ChainWritten f chain sizes type fill other_value other

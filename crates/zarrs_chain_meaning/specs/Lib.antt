@@ -8,6 +8,7 @@ pub mod MetadataFacts
 pub mod ChunkForm
 pub mod ArrayStages
 pub mod BytesStages
+pub mod KeptBytes
 pub mod Meaning
 pub mod Parts
 pub mod CodecMeaning

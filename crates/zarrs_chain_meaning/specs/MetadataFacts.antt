@@ -51,8 +51,8 @@ facts_through arrays inner outer = record {
 -- ---- codecs
 
 -- those of `bytes`
-abbrev pub bytes_metadata : {B : Type 0} → Option Endianness → MetadataFacts B
-bytes_metadata order = record {
+abbrev pub bytes_metadata_facts : {B : Type 0} → Option Endianness → MetadataFacts B
+bytes_metadata_facts order = record {
   name = bytes_name;
   configuration = λ described. write_bytes order;
   Ranges = Unit {0};
@@ -60,8 +60,8 @@ bytes_metadata order = record {
 }
 
 -- those of `packbits`
-abbrev pub packbits_metadata : {B : Type 0} → PackBitsSettings → MetadataFacts B
-packbits_metadata settings = record {
+abbrev pub packbits_metadata_facts : {B : Type 0} → PackBitsSettings → MetadataFacts B
+packbits_metadata_facts settings = record {
   name = packbits_name;
   configuration = λ described. write_settings settings;
   Ranges = is_reversed settings.first_bit settings.last_bit ≡ false;
@@ -69,8 +69,8 @@ packbits_metadata settings = record {
 }
 
 -- those of `vlen-utf8` or `vlen-bytes`
-abbrev pub vlen_v2_metadata : {B : Type 0} → VlenV2Codec → MetadataFacts B
-vlen_v2_metadata codec = record {
+abbrev pub vlen_v2_metadata_facts : {B : Type 0} → VlenV2Codec → MetadataFacts B
+vlen_v2_metadata_facts codec = record {
   name = vlen_v2_name codec;
   configuration = λ described. write_vlen_v2;
   Ranges = Unit {0};
@@ -78,8 +78,8 @@ vlen_v2_metadata codec = record {
 }
 
 -- those of `vlen`: its configuration has the place of the index
-abbrev pub vlen_metadata : {B : Type 0} → Bool → Bool → ChainFacts B → ChainFacts B → MetadataFacts B
-vlen_metadata wide at_end index content = record {
+abbrev pub vlen_metadata_facts : {B : Type 0} → Bool → Bool → ChainFacts B → ChainFacts B → MetadataFacts B
+vlen_metadata_facts wide at_end index content = record {
   name = vlen_name;
   configuration = λ described. write_vlen (record {
     index_codecs = index.metadatas described;
@@ -92,8 +92,8 @@ vlen_metadata wide at_end index content = record {
 }
 
 -- those of `optional`
-abbrev pub optional_metadata : {B : Type 0} → ChainFacts B → ChainFacts B → MetadataFacts B
-optional_metadata mask content = record {
+abbrev pub optional_metadata_facts : {B : Type 0} → ChainFacts B → ChainFacts B → MetadataFacts B
+optional_metadata_facts mask content = record {
   name = optional_name;
   configuration = λ described. write_optional (record {
     mask_codecs = mask.metadatas described;
@@ -105,8 +105,8 @@ optional_metadata mask content = record {
 
 -- those of an array-to-bytes codec: the one definition that goes by all of them
 abbrev pub metadata_facts : {B : Type 0} → PlainCodec B → MetadataFacts B
-metadata_facts (bytes_codec order) = bytes_metadata order
-metadata_facts (packbits_codec settings) = packbits_metadata settings
-metadata_facts (vlen_v2_codec codec) = vlen_v2_metadata codec
-metadata_facts (vlen_codec ia ix ib da dx db wide at_end) = vlen_metadata wide at_end (facts_through ia (metadata_facts ix) ib) (facts_through da (metadata_facts dx) db)
-metadata_facts (optional_codec ma mx mb da dx db) = optional_metadata (facts_through ma (metadata_facts mx) mb) (facts_through da (metadata_facts dx) db)
+metadata_facts (bytes_codec order) = bytes_metadata_facts order
+metadata_facts (packbits_codec settings) = packbits_metadata_facts settings
+metadata_facts (vlen_v2_codec codec) = vlen_v2_metadata_facts codec
+metadata_facts (vlen_codec ia ix ib da dx db wide at_end) = vlen_metadata_facts wide at_end (facts_through ia (metadata_facts ix) ib) (facts_through da (metadata_facts dx) db)
+metadata_facts (optional_codec ma mx mb da dx db) = optional_metadata_facts (facts_through ma (metadata_facts mx) mb) (facts_through da (metadata_facts dx) db)

@@ -24,8 +24,8 @@ abbrev pub all_bytes : Chunk → List ℕ
 all_bytes chunk = flat_map bytes_of chunk
 
 -- a length's bytes, the lowest first; shut likewise
-unfoldable pub length_bytes : List ℕ → List ℕ
-length_bytes part = to_le_bytes w64 (length part)
+unfoldable pub part_length_bytes : List ℕ → List ℕ
+part_length_bytes part = to_le_bytes w64 (length part)
 
 -- the number that 8 bytes spell, the lowest first; shut, since it computes to a long sum
 unfoldable pub length_of : List ℕ → ℕ

@@ -7,6 +7,7 @@ ghost use Rattle.zarrs_codec.specs.MappedChunk.{GivesSizes, EncodesMoved, Decode
 ghost use Rattle.zarrs_array_to_array.specs.ArrayToArrayCodec.{coordinates};
 ghost use Rattle.zarrs_array_to_array.specs.Mapping.{mapping_of};
 ghost use Rattle.zarrs_chain_meaning.specs.ArrayStages.{codec_map, map_through, IsMapThrough};
+ghost use Rattle.zarrs_chain_meaning.specs.KeptBytes.{HandsOn};
 
 use std::alloc::Global;
 use zarrs_array_bytes::ArrayBytes;
@@ -61,9 +62,9 @@ pub fn encode_arrays<'a>(
     data_type: &DataType,
     fill_value: &FillValue,
 ) -> Result<ArrayBytes<'a>, CodecError>
-    // Wide: the codecs, the type, the shape and the container.
     ensures moved { EncodesMoved (λ _. Ok tt) (map_through data_type.now codecs.now)
         data_type.now shape.now chunk.entry result }
+    ensures kept { HandsOn codecs.now chunk.entry result }
     ensures map { IfOk result (λ _. IsMapThrough data_type.now codecs.now shape.now) }
     ensures no_fault { is_fault result ≡ false }
 {
@@ -88,9 +89,9 @@ pub fn decode_arrays<'a>(
     data_type: &DataType,
     fill_value: &FillValue,
 ) -> Result<ArrayBytes<'a>, CodecError>
-    // Wide: the codecs, the type, the shape and the container.
     ensures moved { DecodesMoved (λ _. Ok tt) (map_through data_type.now codecs.now)
         data_type.now shape.now chunk.entry result }
+    ensures kept { HandsOn codecs.now chunk.entry result }
     ensures tight { KeepsTight data_type.now chunk.entry result }
     ensures map { IfOk result (λ _. IsMapThrough data_type.now codecs.now shape.now) }
     ensures no_fault { is_fault result ≡ false }

@@ -1,7 +1,7 @@
 //! The bytes-to-bytes codecs of a chain, one after another.
-ghost use Rattle.std.specs.Prelude.{◌≡◌};
-ghost use Rattle.zarrs_chunk.specs.Answer.{Gives};
-ghost use Rattle.zarrs_array_bytes.specs.Held.{items_of};
+ghost use Rattle.std.specs.Prelude.{◌≡◌, Ok, []};
+ghost use Rattle.zarrs_chunk.specs.Answer.{Gives, seen};
+ghost use Rattle.zarrs_array_bytes.specs.Held.{items_of, raw_of};
 ghost use Rattle.zarrs_chain_meaning.specs.BytesStages.{outer_value, outer_bytes, outer_representation as outer_representation_of};
 
 use std::alloc::Global;
@@ -32,6 +32,7 @@ pub fn encode_bytes<'a, B: BytesToBytesCodecTraits>(
 ) -> Result<ArrayBytesRaw<'a>, CodecError>
     ensures answer { Gives items_of result
         (outer_value B.functions codecs.now (items_of bytes.entry)) }
+    ensures kept { codecs.now ≡ [] → seen raw_of result ≡ Ok (raw_of bytes.entry) }
 {
     match codecs {
         [] => Ok(bytes),
@@ -47,9 +48,9 @@ pub fn decode_bytes<'a, B: BytesToBytesCodecTraits>(
     representation: &BytesRepresentation,
     value: ArrayBytesRaw<'a>,
 ) -> Result<ArrayBytesRaw<'a>, CodecError>
-    // Wide: the codecs, the representation and the value.
     ensures answer { Gives items_of result
         (outer_bytes B.functions codecs.now representation.now (items_of value.entry)) }
+    ensures kept { codecs.now ≡ [] → seen raw_of result ≡ Ok (raw_of value.entry) }
 {
     match codecs {
         [] => Ok(value),

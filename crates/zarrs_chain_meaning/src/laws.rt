@@ -14,16 +14,16 @@ ghost use Rattle.zarrs_chain_meaning.specs.MadeChain.{chain_made, chain_made_by}
 ghost use Rattle.zarrs_chain_meaning.specs.PlainChain.{PlainCodec};
 ghost use Rattle.zarrs_chain_meaning.specs.vlen.PlainForm.{PlainForm};
 ghost use Rattle.zarrs_chain_meaning.specs.vlen.PlainVlen.{plain_form_of, plain_codec_of};
-ghost use Rattle.zarrs_chain_meaning.specs.Laws.{WrittenStands, StandsForOne, StandsIsAnswered, AnsweredStands, WrittenOnce, ValueIsWritten, NormalUpdated, WrittenForNormal, WrittenAlike, WrittenKeeps, SizesGoByCount, SizesGrow};
+ghost use Rattle.zarrs_chain_meaning.specs.Laws.{ChainWrittenStands, ChainStandsForOne, StandsIsAnswered, AnsweredStands, ChainWrittenOnce, ValueIsWritten, NormalFormUpdated, WrittenForNormal, ChainWrittenAlike, WrittenKeeps, SizesGoByCount, SizesGrow};
 
 /// What is written for a chunk stands for its normal form.
 pub fn written_stands<B>()
-    ensures law { (f : BytesCodecs B) → WrittenStands f }
+    ensures law { (f : BytesCodecs B) → ChainWrittenStands f }
 {}
 
 /// A value stands for at most one chunk.
 pub fn stands_for_one<B>()
-    ensures law { (f : BytesCodecs B) → StandsForOne f }
+    ensures law { (f : BytesCodecs B) → ChainStandsForOne f }
 {}
 
 /// The chunk that a value stands for is what a chain answers.
@@ -38,7 +38,7 @@ pub fn answered_stands<B>()
 
 /// For a chunk at most one value is written.
 pub fn written_once<B>()
-    ensures law { (f : BytesCodecs B) → WrittenOnce f }
+    ensures law { (f : BytesCodecs B) → ChainWrittenOnce f }
 {}
 
 /// A chain answers a value for a chunk exactly where the value is written for it.
@@ -48,7 +48,6 @@ pub fn value_is_written<B>()
 
 /// The normal form of a normal form is the same, and the same value is written for it.
 pub fn normal_twice<B>()
-    // Wide: the law's variables.
     ensures law { (codec : PlainCodec B) (t : ElementType) (chunk : Chunk) → AreElements t chunk
         → normal_form codec t (normal_form codec t chunk) ≡ normal_form codec t chunk }
     ensures written { (f : BytesCodecs B) → WrittenForNormal f }
@@ -56,19 +55,18 @@ pub fn normal_twice<B>()
 
 /// The normal form of a chunk that array-to-array codecs move is the normal form moved.
 pub fn normal_moved<B>()
-    // Wide: the law's variables.
     ensures law { (codec : PlainCodec B) (t : ElementType) (m : CoordinateMap) (chunk : Chunk)
         → normal_form codec t (moved_chunk m chunk) ≡ moved_chunk m (normal_form codec t chunk) }
 {}
 
 /// The normal form of an updated chunk is the normal form updated with that of the new elements.
 pub fn normal_updated<B>()
-    ensures law { NormalUpdated B }
+    ensures law { NormalFormUpdated B }
 {}
 
 /// Two chunks are written alike exactly if their normal forms are equal.
 pub fn written_alike<B>()
-    ensures law { (f : BytesCodecs B) → WrittenAlike f }
+    ensures law { (f : BytesCodecs B) → ChainWrittenAlike f }
 {}
 
 /// A written value is as many bytes as the representation says.
@@ -85,14 +83,12 @@ pub fn sizes_go_by_count<B>()
 
 /// A codec that has a plain form is the plain `vlen` of this form, over some data chain.
 pub fn plain_is_plain<B>()
-    // Wide: the law's variables.
     ensures law { (codec : PlainCodec B) (form : PlainForm) → plain_form_of codec ≡ Some form
         → (content : Option Endianness) × (codec ≡ plain_codec_of form content) }
 {}
 
 /// The chains inside a chain are made of their metadata as the chain itself is.
 pub fn chains_are_made_alike<B>()
-    // Wide: the law's variables.
     ensures law { (makes : Metadata → Result (Option B) PluginCreateError) (list : List Metadata)
         → chain_made makes list ≡ chain_made_by (chain_made makes) makes list }
 {}

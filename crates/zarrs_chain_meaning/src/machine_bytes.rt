@@ -29,7 +29,6 @@ fn fixed_are_bytes(elements: &ArrayBytes<'_>)
 
 /// Those of elements of any length.
 fn variable_are_bytes(elements: &ArrayBytes<'_>)
-    // Wide: such a container has two parts.
     ensures variable { (raw : Raw) (offsets : List ℕ)
         → elements.now ≡ vlen raw offsets → AreBytes raw.items }
 {

@@ -13,7 +13,7 @@ use Rattle.zarrs_chain_meaning.specs.Chain.{codec_reads}
 use Rattle.zarrs_chain_meaning.specs.CodecFacts.{reads_all_if}
 use Rattle.zarrs_codec_chain.specs.ChunkRead.{asks_in_part}
 use Rattle.zarrs_codec_chain.specs.CacheTight.{CacheIsTight}
-use Rattle.zarrs_codec_chain.specs.ChunkSource.{IsSizeOf, bytes_left, bytes_stage, cache_fits, cache_stage, held_by, is_kept, source_of, stage_at, stage_by, stage_fits}
+use Rattle.zarrs_codec_chain.specs.ChunkSource.{IsSizeOf, undecoded_codecs, bytes_stage, cache_fits, cache_stage, held_by, is_cache, source_of, stage_at, stage_by, stage_fits}
 use Rattle.zarrs_chain_meaning.specs.PlainChain.{PlainCodec, PlainChain}
 use Rattle.zarrs_codec_chain.proofs.LawfulPart.{part_laws}
 use Rattle.zarrs_codec_chain.specs.declared.partial_decoder.cache.Cache.{Cache}
@@ -103,10 +103,10 @@ step false r n undecoded unread left a b e = ap some (let z : suc n - 0 ≡ suc 
 step true false n undecoded unread left a b e = ap some (let z : suc n - 1 ≡ n = omega arith in z) ∙ sym (next_top n undecoded a)
 step true true n undecoded unread left a b e = one_less n left ∙ e
 
-bytes_place : (codecs : List PartialDecoderCapability) → place_of (length codecs) (bytes_stage (bytes_left codecs)) ≡ cache_place codecs
+bytes_place : (codecs : List PartialDecoderCapability) → place_of (length codecs) (bytes_stage (undecoded_codecs codecs)) ≡ cache_place codecs
 bytes_place [] = refl
 bytes_place (codec ∷ codecs) =
-    step codec.partial_decode codec.partial_read (length codecs) (last_without decodes codecs) (last_without reads codecs) (bytes_left codecs) (place_below decodes codecs) (place_below reads codecs) (bytes_place codecs)
+    step codec.partial_decode codec.partial_read (length codecs) (last_without decodes codecs) (last_without reads codecs) (undecoded_codecs codecs) (place_below decodes codecs) (place_below reads codecs) (bytes_place codecs)
 
 -- ---- the array-to-bytes codec
 
@@ -116,9 +116,9 @@ placed false r n undecoded unread left a b e = sym (top n (if r then unread else
 placed true false n undecoded unread left a b e = ap some (let z : n - 0 ≡ n = omega arith in z) ∙ sym (next_top n undecoded a)
 placed true true n undecoded unread left a b e = e
 
-codec_placed : (codec : PartialDecoderCapability) (codecs : List PartialDecoderCapability) → place_of (length codecs) (stage_by codec (bytes_left codecs)) ≡ cache_place (codec ∷ codecs)
+codec_placed : (codec : PartialDecoderCapability) (codecs : List PartialDecoderCapability) → place_of (length codecs) (stage_by codec (undecoded_codecs codecs)) ≡ cache_place (codec ∷ codecs)
 codec_placed codec codecs =
-    placed codec.partial_decode codec.partial_read (length codecs) (last_without decodes codecs) (last_without reads codecs) (bytes_left codecs) (place_below decodes codecs) (place_below reads codecs) (bytes_place codecs)
+    placed codec.partial_decode codec.partial_read (length codecs) (last_without decodes codecs) (last_without reads codecs) (undecoded_codecs codecs) (place_below decodes codecs) (place_below reads codecs) (bytes_place codecs)
 
 abbrev IsAtMost : ℕ → Option ℕ → Type 0
 IsAtMost n None = Unit {0}
@@ -130,9 +130,9 @@ left_more true false n left h = omega arith
 left_more true true n None h = tt
 left_more true true n (Some m) h = omega (arith, h)
 
-left_within : (codecs : List PartialDecoderCapability) → IsAtMost (length codecs) (bytes_left codecs)
+left_within : (codecs : List PartialDecoderCapability) → IsAtMost (length codecs) (undecoded_codecs codecs)
 left_within [] = tt
-left_within (codec ∷ codecs) = left_more codec.partial_decode codec.partial_read (length codecs) (bytes_left codecs) (left_within codecs)
+left_within (codec ∷ codecs) = left_more codec.partial_decode codec.partial_read (length codecs) (undecoded_codecs codecs) (left_within codecs)
 
 stage_left : (n : ℕ) (left : Option ℕ) → IsAtMost n left → IsWithin n (bytes_stage left)
 stage_left n None h = tt
@@ -144,12 +144,12 @@ stage_within true false n left h = omega arith
 stage_within true true n left h = stage_left n left h
 
 -- The stage that the code finds is where the cache stands.
-pub stage_is : {B : Type 0} (reads_of : B → PartialDecoderCapability) (chain : PlainChain B) → stage_by (codec_reads chain.array_to_bytes) (bytes_left (map reads_of chain.bytes_to_bytes)) ≡ cache_stage reads_of chain
+pub stage_is : {B : Type 0} (reads_of : B → PartialDecoderCapability) (chain : PlainChain B) → stage_by (codec_reads chain.array_to_bytes) (undecoded_codecs (map reads_of chain.bytes_to_bytes)) ≡ cache_stage reads_of chain
 stage_is reads_of chain =
     let codec = codec_reads chain.array_to_bytes in
     let codecs = map reads_of chain.bytes_to_bytes in
     let count : length codecs ≡ length chain.bytes_to_bytes = length-map chain.bytes_to_bytes reads_of in
-    sym (stage_again (length codecs) (stage_by codec (bytes_left codecs)) (stage_within codec.partial_decode codec.partial_read (length codecs) (bytes_left codecs) (left_within codecs)))
+    sym (stage_again (length codecs) (stage_by codec (undecoded_codecs codecs)) (stage_within codec.partial_decode codec.partial_read (length codecs) (undecoded_codecs codecs) (left_within codecs)))
     ∙ ap (stage_at (length codecs)) (codec_placed codec codecs ∙ sym (arrays_pass chain.array_to_array (codec ∷ codecs)))
     ∙ ap (λ n. stage_at n (cache_place (codecs_read reads_of chain))) count
 
@@ -163,8 +163,8 @@ fits_by codec true false n left e h = rw (e, le_test 0 n (omega arith)) refl
 fits_by codec true true n left e h = fits_left codec n left e h
 
 -- and it is one of the chain
-pub stage_by_fits : (codec : PartialDecoderCapability) (codecs : List PartialDecoderCapability) → stage_fits codec (length codecs) (stage_by codec (bytes_left codecs)) ≡ true
-stage_by_fits codec codecs = fits_by codec codec.partial_decode codec.partial_read (length codecs) (bytes_left codecs) refl (left_within codecs)
+pub stage_by_fits : (codec : PartialDecoderCapability) (codecs : List PartialDecoderCapability) → stage_fits codec (length codecs) (stage_by codec (undecoded_codecs codecs)) ≡ true
+stage_by_fits codec codecs = fits_by codec codec.partial_decode codec.partial_read (length codecs) (undecoded_codecs codecs) refl (left_within codecs)
 
 -- ---- whether there is a cache
 
@@ -186,7 +186,7 @@ valid_so (Ok u) e = refl
 valid_so (Err x) e = absurd cc
 
 -- a cache keeps as many bytes as what answers rest on has
-pub size_kept : (reads : PartialDecoderCapability) (type : ElementType) (count codecs handle : ℕ) (stored : Option (List ℕ)) (cache : Cache) → cache_fits reads type count codecs cache ≡ true → CacheIsTight type cache → is_kept cache ≡ true
+pub size_kept : (reads : PartialDecoderCapability) (type : ElementType) (count codecs handle : ℕ) (stored : Option (List ℕ)) (cache : Cache) → cache_fits reads type count codecs cache ≡ true → CacheIsTight type cache → is_cache cache ≡ true
     → IsSizeOf type (source_of type count codecs stored cache) (held_by handle cache)
 size_kept reads type count codecs handle stored kept.Handle fits tight e = absurd cc
 size_kept reads type count codecs handle stored (kept.Bytes below None) fits tight e = refl

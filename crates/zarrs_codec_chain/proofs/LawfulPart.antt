@@ -26,7 +26,7 @@ use Rattle.zarrs_codec.specs.ByteRanges.{range_indices, SameByte}
 use Rattle.zarrs_codec.specs.ByteSpan.{ByteSpan}
 use Rattle.zarrs_codec.specs.declared.capabilities.PartialDecoderCapability.{PartialDecoderCapability}
 use Rattle.zarrs_bytes.proofs.Alike as bytes_reads
-use Rattle.zarrs_packbits.specs.ReadPlan.{IsPlan, SameNumbers}
+use Rattle.zarrs_packbits.specs.ReadPlan.{IsPackBitsPlan, SameNumbers}
 use Rattle.zarrs_chain_meaning.specs.Meaning.{Decoder, Meaning}
 use Rattle.zarrs_chain_meaning.specs.CodecMeaning.{codec_chunk, codec_representation, meaning, bytes_meaning, packbits_meaning}
 use Rattle.zarrs_chain_meaning.specs.PlainChain.{PlainCodec, bytes_codec, packbits_codec, vlen_v2_codec, vlen_codec, optional_codec}
@@ -45,8 +45,8 @@ use Rattle.zarrs_array_regions.specs.PlaceReaders.{ReadsInAnyOrder}
 use Rattle.zarrs_array_regions.proofs.PlaceReads.{mapped_read, tested_read, then_read, bytes_read, packbits_read}
 use Rattle.zarrs_plain_vlen.specs.PlainRead.{plain_read}
 use Rattle.zarrs_plain_vlen.specs.VlenLayout.{VlenLayout, layout_of, span_bytes}
-use Rattle.zarrs_plain_vlen.specs.VlenRead.{is_there, element_numbers, elements_read, numbers_in, offsets_read, stored_rests_on, vlen_read}
-use Rattle.zarrs_chain_meaning.specs.vlen.Vlen.{vlen_parts}
+use Rattle.zarrs_plain_vlen.specs.VlenRead.{element_is_there, element_numbers, elements_read, numbers_or_none, offsets_read, stored_rests_on, vlen_read}
+use Rattle.zarrs_chain_meaning.specs.vlen.Vlen.{vlen_value_parts}
 use Rattle.zarrs_data_type.specs.declared.endianness.Endianness.{Endianness}
 use Rattle.zarrs_packbits.proofs.CodecLaws as packbits_laws
 use Rattle.zarrs_packbits.proofs.Exact as packbits
@@ -132,13 +132,13 @@ if_sure : (sure : Option (ℕ → Bool)) (P : Type 0) (xs ys : List ℕ) → are
 if_sure sure P xs ys e h = λ s. h (sym e ∙ s)
 
 module _ (sure : Option (ℕ → Bool)) (ps qs : List ℕ) (alike : SureAlike sure ps qs) where
-  by_offsets : (start : ℕ) (o : Result (List ℕ) CodecError) → are_sure sure (numbers_in (o >>= λ offsets. ok (element_numbers start offsets ps))) ≡ are_sure sure (numbers_in (o >>= λ offsets. ok (element_numbers start offsets qs)))
+  by_offsets : (start : ℕ) (o : Result (List ℕ) CodecError) → are_sure sure (numbers_or_none (o >>= λ offsets. ok (element_numbers start offsets ps))) ≡ are_sure sure (numbers_or_none (o >>= λ offsets. ok (element_numbers start offsets qs)))
   by_offsets start (Ok offsets) = alike (λ place. range_with_len (start + slice_index offsets place) (slice_index offsets (place + 1) - slice_index offsets place))
   by_offsets start (Err e) = refl
 
   by_layout : (form : PlainForm) (count : ℕ) (value : List ℕ) (l : Result VlenLayout CodecError)
-      → are_sure sure (numbers_in (l >>= λ layout. offsets_read form count (span_bytes value layout.index) >>= λ offsets. ok (element_numbers layout.content.start offsets ps)))
-      ≡ are_sure sure (numbers_in (l >>= λ layout. offsets_read form count (span_bytes value layout.index) >>= λ offsets. ok (element_numbers layout.content.start offsets qs)))
+      → are_sure sure (numbers_or_none (l >>= λ layout. offsets_read form count (span_bytes value layout.index) >>= λ offsets. ok (element_numbers layout.content.start offsets ps)))
+      ≡ are_sure sure (numbers_or_none (l >>= λ layout. offsets_read form count (span_bytes value layout.index) >>= λ offsets. ok (element_numbers layout.content.start offsets qs)))
   by_layout form count value (Ok layout) = by_offsets layout.content.start (offsets_read form count (span_bytes value layout.index))
   by_layout form count value (Err e) = refl
 
@@ -213,7 +213,7 @@ packbits_part_laws settings = record {
   rests_alike = λ sizes type fill stored places e. refl;
   alike = λ f value other. packed_alike settings f value other (All (SameByte value other)) (λ sizes type fill l places. packbits_laws.reads_alike settings sizes type fill l value other places);
   sized_alike = λ f value other long. packed_alike settings f value other (Agree value other) (λ sizes type fill l places. packed_sized settings sizes type fill l value other places long);
-  planned_bytes = λ sizes type fill places ranges plan. packed_bytes ranges (λ l. packed_places_bytes l places) (λ l. IsPlan l places ranges) (λ l p. p.bytes) (packed_layout settings (form_of sizes type fill)) plan;
+  planned_bytes = λ sizes type fill places ranges plan. packed_bytes ranges (λ l. packed_places_bytes l places) (λ l. IsPackBitsPlan l places ranges) (λ l p. p.bytes) (packed_layout settings (form_of sizes type fill)) plan;
   plans_ask = λ plans. refl;
   reads_all = refl;
   wholly = λ f sizes type fill stored places e. absurd cc;
@@ -239,9 +239,9 @@ form_selects {B} f codec (Some form) sizes type fill value chunk places p e h =
 
 vlen_any : (form : PlainForm) (count : ℕ) (value : List ℕ) → ReadsInAnyOrder (vlen_read form count value)
 vlen_any form count value =
-    then_read (vlen_parts form.at_end value) (λ parts places. offsets_read form count parts.0 >>= λ offsets. elements_read offsets parts.1 places)
+    then_read (vlen_value_parts form.at_end value) (λ parts places. offsets_read form count parts.0 >>= λ offsets. elements_read offsets parts.1 places)
     (λ parts. then_read (offsets_read form count parts.0) (λ offsets places. elements_read offsets parts.1 places)
-    (λ offsets. tested_read (is_there offsets (length parts.1)) InvalidByteRange (λ place. plain (cut offsets parts.1 place))))
+    (λ offsets. tested_read (element_is_there offsets (length parts.1)) InvalidByteRange (λ place. plain (cut offsets parts.1 place))))
 
 plain_any : (form : PlainForm) (count : ℕ) (type : ElementType) (fill : List ℕ) (stored : Option (List ℕ)) → ReadsInAnyOrder (plain_read form count type fill stored)
 plain_any form count type fill None = mapped_read (λ _. fill_element type fill)

@@ -30,7 +30,7 @@ use Rattle.zarrs_bytes.specs.PartialRead.{place_bytes, place_size}
 use Rattle.zarrs_bytes.specs.PlannedRanges.{IsPlan as IsElementPlan}
 use Rattle.zarrs_packbits.specs.PackBitsSettings.{PackBitsSettings, packed_layout, packbits_length}
 use Rattle.zarrs_packbits.specs.PaddingByte.{value_len}
-use Rattle.zarrs_packbits.specs.ReadPlan.{IsPlan, IsPlanOfRuns}
+use Rattle.zarrs_packbits.specs.ReadPlan.{IsPackBitsPlan, IsPlanOfRuns}
 use Rattle.zarrs_packbits.proofs.PartReads.{plan_of_runs}
 use Rattle.zarrs_chain_meaning.specs.ArrayStages.{arrays_map, IsMapWhere}
 use Rattle.zarrs_chain_meaning.specs.Chain.{taken_form}
@@ -133,7 +133,7 @@ pub packed_planned : (B : Type 0) {A : Type 0} (view : A → List ByteSpan) (r :
 unfolding plain_codec
 packed_planned B view (Ok x) codec settings sizes type fill runs is filled apart taken h =
     subst (λ k. IsCodecPlan {B = B} (plain_codec k) sizes type fill (joined_runs runs) (view x)) (sym is)
-    (plan_from (λ l. IsPlanOfRuns l runs (view x)) (λ l. IsPlan l (joined_runs runs) (view x)) (λ l p. plan_of_runs l runs (view x) (joined_runs runs) filled apart refl p) (packed_layout settings (form_of sizes type fill)) h)
+    (plan_from (λ l. IsPlanOfRuns l runs (view x)) (λ l. IsPackBitsPlan l (joined_runs runs) (view x)) (λ l p. plan_of_runs l runs (view x) (joined_runs runs) filled apart refl p) (packed_layout settings (form_of sizes type fill)) h)
 packed_planned B view (Err e) codec settings sizes type fill runs is filled apart taken h = λ ne.
     let l = from_ok (packed_layout settings (form_of sizes type fill)) taken in
     let never : ⊥ = cc (sym l.1 ∙ h ne) in

@@ -24,7 +24,7 @@ use Rattle.zarrs_chain_meaning.specs.Chain.{taken_form}
 use Rattle.zarrs_codec_chain.specs.ChunkRead.{encoded_places, outer_stored, stored_read}
 use Rattle.zarrs_chain_meaning.specs.ChunkForm.{ChunkForm}
 use Rattle.zarrs_codec_chain.specs.CodecPart.{codec_read}
-use Rattle.zarrs_codec_chain.specs.ChunkSource.{Source, is_there, opened_chunk, source_at, source_made_at, source_places, source_read}
+use Rattle.zarrs_codec_chain.specs.ChunkSource.{Source, is_source_stored, opened_chunk, source_at, source_made_at, source_places, source_read}
 use Rattle.zarrs_chain_meaning.specs.CodecMeaning.{codec_chunk, chain_chunk, codec_representation}
 use Rattle.zarrs_chain_meaning.specs.PlainChain.{PlainChain}
 use Rattle.zarrs_codec_chain.specs.declared.partial_decoder.cache.CacheStage.{CacheStage}
@@ -148,19 +148,19 @@ source_is_stored f s form encoded r stored source selection mappings positive e 
     (λ places inside. unchanged f form.chain encoded form.type form.fill r h.measured s stored source places (made_at f s form stored source encoded r e made) inside)
     ∙ sym (form_read f form encoded r stored selection e)
 
-there_at : {B : Type 0} (f : BytesCodecs B) (chain : PlainChain B) (encoded : List ℕ) (type : ElementType) (fill : List ℕ) (r : BytesRepresentation) (s : CacheStage) (stored : Option (List ℕ)) (source : Source) → source_at f chain encoded type fill r s stored ≡ Ok source → is_there source ≡ is_some stored
-there_at f chain encoded type fill r stage.Nowhere stored source e = ap is_there (same_source _ _ e)
-there_at f chain encoded type fill r (stage.Bytes below) None source e = ap is_there (same_source _ _ e)
+there_at : {B : Type 0} (f : BytesCodecs B) (chain : PlainChain B) (encoded : List ℕ) (type : ElementType) (fill : List ℕ) (r : BytesRepresentation) (s : CacheStage) (stored : Option (List ℕ)) (source : Source) → source_at f chain encoded type fill r s stored ≡ Ok source → is_source_stored source ≡ is_some stored
+there_at f chain encoded type fill r stage.Nowhere stored source e = ap is_source_stored (same_source _ _ e)
+there_at f chain encoded type fill r (stage.Bytes below) None source e = ap is_source_stored (same_source _ _ e)
 there_at f chain encoded type fill r (stage.Bytes below) (Some value) source e =
     let a = bind_ok (outer_bytes f (drop below chain.bytes_to_bytes) (outer_representation f (take below chain.bytes_to_bytes) r) value) _ source e in
-    ap is_there (same_source _ _ a.2)
-there_at f chain encoded type fill r stage.Chunk None source e = ap is_there (same_source _ _ e)
+    ap is_source_stored (same_source _ _ a.2)
+there_at f chain encoded type fill r stage.Chunk None source e = ap is_source_stored (same_source _ _ e)
 there_at f chain encoded type fill r stage.Chunk (Some value) source e =
     let a = bind_ok (opened_chunk f chain encoded type fill r value) _ source e in
-    ap is_there (same_source _ _ a.2)
+    ap is_source_stored (same_source _ _ a.2)
 
 -- something is there just where something is stored
-pub source_there : {B : Type 0} (f : BytesCodecs B) (s : CacheStage) (form : ChunkForm B) (stored : Option (List ℕ)) (source : Source) → source_made_at f form s stored ≡ Ok source → is_there source ≡ is_some stored
+pub source_there : {B : Type 0} (f : BytesCodecs B) (s : CacheStage) (form : ChunkForm B) (stored : Option (List ℕ)) (source : Source) → source_made_at f form s stored ≡ Ok source → is_source_stored source ≡ is_some stored
 source_there f s form stored source made =
     let t = bind_ok (taken_form f form.chain form.sizes form.type form.fill) _ source made in
     there_at f form.chain t.0.0 form.type form.fill t.0.1 s stored source t.2

@@ -30,7 +30,7 @@ use Rattle.zarrs_chain_meaning.specs.ArrayStages.{arrays_map}
 use Rattle.zarrs_bytes.proofs.Coding.{ok, bind_ok}
 use Rattle.zarrs_chain_meaning.proofs.ArraySteps.{ok_is}
 use Rattle.zarrs_chain_meaning.proofs.NestedStages.{chained_of}
-use Rattle.zarrs_codec_chain.specs.ChunkRead.{encoded_places, ordered_places, places_in_order, planned_region, form_in_place, standing_places}
+use Rattle.zarrs_codec_chain.specs.ChunkRead.{encoded_places, planned_order, places_in_order, planned_region, form_in_place, standing_places}
 use Rattle.zarrs_chain_meaning.specs.ChunkForm.{ChunkForm}
 use Rattle.zarrs_codec_chain.specs.ReadLaws.{PlannedPlacesAreMeant}
 
@@ -123,7 +123,7 @@ planned_are_meant B form selection meant ordered mappings positive e is =
 
 -- the places where a region that is kept stands are its places in order
 pub standing_is : {B : Type 0} (form : ChunkForm B) (selection : Selection) (region : Region) (meant : List ℕ) → planned_region form selection ≡ Some region → encoded_places form.type form.chain.array_to_array form.sizes selection ≡ Ok meant
-    → ordered_places form selection ≡ Ok (standing_places form.chain.array_to_array form.sizes region)
+    → planned_order form selection ≡ Ok (standing_places form.chain.array_to_array form.sizes region)
 standing_is form selection region meant p e =
     ap (λ (r : Option Region). seen (places_in_order form.chain.array_to_array form.sizes r) (encoded_places form.type form.chain.array_to_array form.sizes selection)) p
     ∙ ap (seen (places_in_order form.chain.array_to_array form.sizes (Some region))) e
@@ -133,7 +133,7 @@ own_order arrays sizes (Ok places) = refl
 own_order arrays sizes (Err e) = refl
 
 -- and all others come in their own
-pub others_are : {B : Type 0} (form : ChunkForm B) (selection : Selection) → planned_region form selection ≡ None → ordered_places form selection ≡ encoded_places form.type form.chain.array_to_array form.sizes selection
+pub others_are : {B : Type 0} (form : ChunkForm B) (selection : Selection) → planned_region form selection ≡ None → planned_order form selection ≡ encoded_places form.type form.chain.array_to_array form.sizes selection
 others_are form selection p =
     ap (λ (r : Option Region). seen (places_in_order form.chain.array_to_array form.sizes r) (encoded_places form.type form.chain.array_to_array form.sizes selection)) p
     ∙ own_order form.chain.array_to_array form.sizes (encoded_places form.type form.chain.array_to_array form.sizes selection)

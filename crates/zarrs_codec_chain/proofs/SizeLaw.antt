@@ -1,4 +1,5 @@
 -- How many bytes a cache has of what answers rest on.
+use Rattle.zarrs_data_type.specs.ElementType.{ElementType}
 use Rattle.std.proofs.Common.{◌≡◌, ℕ, ◌+◌, ◌-◌, ◌*◌, ◌^◌, min, true, Some, None, length, ap, sym, ◌∙◌}
 use Rattle.std.proofs.lemmas.Bool.{false≢true}
 use Rattle.zarrs_array_bytes.specs.Held.{Held, flen, vlen, masked, byte_count}
@@ -6,8 +7,8 @@ use Rattle.zarrs_array_bytes.specs.SameBytes.{is_same_held}
 use Rattle.zarrs_array_bytes.specs.SameBytesLaws.{both_true, same_numbers}
 use Rattle.zarrs_array_bytes.proofs.CountLaw.{containers_are_counted}
 use Rattle.zarrs_array_bytes.proofs.TightLaw.{tight_are_same}
-use Rattle.zarrs_codec_chain.specs.ChunkSource.{bytes_above, chunk_below}
-use Rattle.zarrs_codec_chain.specs.SizeLaws.{ChunkSizesAreExact, SizesAreExact}
+use Rattle.zarrs_codec_chain.specs.ChunkSource.{Source, bytes_above, chunk_below, IsSizeOf}
+use Rattle.zarrs_codec_chain.specs.SizeLaws.{ChunkSizesAreExact}
 
 pub chunk_sizes_are_exact : ChunkSizesAreExact
 chunk_sizes_are_exact type each size chunk e (held, holds, tight, is) =
@@ -29,7 +30,7 @@ same_count (masked h m) (masked g k) e =
     ap (λ count. count + length m.items) (same_count h g (both_true _ _ e).0)
     ∙ ap (λ mask. byte_count g + length mask) (same_numbers m.items k.items (both_true _ _ e).1)
 
-pub sizes_are_exact : SizesAreExact
+pub sizes_are_exact : (type : ElementType) (size other : ℕ) (source : Source) → IsSizeOf type source size → IsSizeOf type source other → size ≡ other
 sizes_are_exact type size other (bytes_above below None) first second = first ∙ sym second
 sizes_are_exact type size other (bytes_above below (Some value)) first second = first ∙ sym second
 sizes_are_exact type size other (chunk_below None) first second = first ∙ sym second

@@ -17,7 +17,7 @@ use Rattle.zarrs_chain_meaning.specs.Chain.{codec_reads, taken_form}
 use Rattle.zarrs_codec_chain.specs.ChunkRead.{outer_stored}
 use Rattle.zarrs_chain_meaning.specs.ChunkForm.{ChunkForm}
 use Rattle.zarrs_codec_chain.specs.CodecPart.{codec_read}
-use Rattle.zarrs_codec_chain.specs.ChunkSource.{Source, bytes_above, is_kept, kept_stage, opened_chunk, source_at, source_made_at, source_of, source_places}
+use Rattle.zarrs_codec_chain.specs.ChunkSource.{Source, bytes_above, is_cache, kept_stage, opened_chunk, source_at, source_made_at, source_of, source_places}
 use Rattle.zarrs_chain_meaning.specs.CodecMeaning.{codec_chunk}
 use Rattle.zarrs_chain_meaning.specs.PlainChain.{PlainCodec, PlainChain}
 use Rattle.zarrs_codec_chain.specs.declared.partial_decoder.cache.Cache.{Cache}
@@ -42,7 +42,7 @@ pub filled_from : {B : Type 0} (f : BytesCodecs B) (form : ChunkForm B) (encoded
 filled_from f form encoded r s kept_at stored source t k e = rw (t, k) e
 
 -- without a cache there is nothing to fill
-pub uncached_filled : {B : Type 0} (f : BytesCodecs B) (form : ChunkForm B) (encoded : List ℕ) (r : BytesRepresentation) (cache : Cache) (stored : Option (List ℕ)) → taken_form f form.chain form.sizes form.type form.fill ≡ Ok (encoded, r) → is_kept cache ≡ false
+pub uncached_filled : {B : Type 0} (f : BytesCodecs B) (form : ChunkForm B) (encoded : List ℕ) (r : BytesRepresentation) (cache : Cache) (stored : Option (List ℕ)) → taken_form f form.chain form.sizes form.type form.fill ≡ Ok (encoded, r) → is_cache cache ≡ false
     → source_made_at f form (kept_stage cache) stored ≡ Ok (source_of form.type (product encoded) (length form.chain.bytes_to_bytes) stored cache)
 uncached_filled f form encoded r kept.Handle stored e u = rw e refl
 uncached_filled f form encoded r (kept.Bytes below value) stored e u = absurd cc

@@ -7,7 +7,7 @@ use Rattle.zarrs_codec.specs.Calls.{Calls, MakesReads, MakesWrite}
 use Rattle.zarrs_codec.specs.StorageState.{StorageState, value_indices}
 use Rattle.zarrs_bytes.specs.PartialRead.{place_bytes, place_size}
 use Rattle.zarrs_chain_meaning.specs.PlainChain.{PlainChain}
-use Rattle.zarrs_codec_chain.specs.ChunkRead.{asks_in_part, ordered_places}
+use Rattle.zarrs_codec_chain.specs.ChunkRead.{asks_in_part, form_in_place, planned_order}
 use Rattle.zarrs_chain_meaning.specs.ChunkForm.{ChunkForm}
 
 -- the numbers of the bytes that an accepted write in place replaces: those of these places, in order; all of the new value, where none was stored
@@ -23,14 +23,19 @@ ReplacesPlaces calls state type places before after result =
 -- the same of the places that a selection selects, in the order in which they stand or, where they don't stand as a region, in their own
 abbrev pub ReplacesSelected : {H E T B : Type 0} → (H → Option Calls) → (H → StorageState) → ChunkForm B → Selection → (before after : H) → Result T E → Type 0
 ReplacesSelected calls state form selection before after result =
-    IfOk (ordered_places form selection) (λ places. ReplacesPlaces calls state form.type places before after result)
+    IfOk (planned_order form selection) (λ places. ReplacesPlaces calls state form.type places before after result)
 
 -- An accepted edit makes one reading call and one writing call. Where the chain writes in place, with this byte order, the reading call asks whether a value is stored, and the writing call replaces the bytes of the selected places and no others, or all of a first value. Through any other chain the value is read, and all of it replaced.
-abbrev pub CountsEdit : {H E T B : Type 0} → (H → Option Calls) → (H → StorageState) → ChunkForm B → Option (Option Endianness) → Selection → (before after : H) → Result T E → Type 0
-CountsEdit calls state form None selection before after result =
+abbrev pub CountsChunkEdit : {H E T B : Type 0} → (H → Option Calls) → (H → StorageState) → ChunkForm B → Option (Option Endianness) → Selection → (before after : H) → Result T E → Type 0
+CountsChunkEdit calls state form None selection before after result =
     MakesWrite calls 1 (value_indices (state after).value) before after result
-CountsEdit calls state form (Some order) selection before after result =
+CountsChunkEdit calls state form (Some order) selection before after result =
     ReplacesSelected calls state form selection before after result
+
+-- the same of a chain that writes in place where its codecs do
+abbrev pub CountsEditThrough : {H E T B : Type 0} → (H → Option Calls) → (H → StorageState) → ChunkForm B → Selection → (before after : H) → Result T E → Type 0
+CountsEditThrough calls state form selection before after result =
+    CountsChunkEdit calls state form (form_in_place form) selection before after result
 
 -- where a read through the chain asks for the whole value, an accepted one asks once
 abbrev pub WholeOnce : {H E T B : Type 0} → (H → Option Calls) → PlainChain B → (before after : H) → Result T E → Type 0

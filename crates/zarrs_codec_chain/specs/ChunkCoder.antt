@@ -6,19 +6,17 @@ use Rattle.zarrs_chunk.specs.Indexer.{selection_of}
 use Rattle.zarrs_chunk.specs.Region.{Region}
 use Rattle.zarrs_chunk.specs.declared.indexer.Indexer.{Indexer}
 use Rattle.zarrs_chain.specs.ChainView.{plain_chain}
-use Rattle.zarrs_chain.specs.declared.codec_chain.CodecChain.{CodecChain}
 use Rattle.zarrs_codec.specs.BytesToBytesCodec.{BytesCodecs}
-use Rattle.zarrs_codec_chain.specs.ChunkRead.{WhereSure, asks_in_part, chunk_of, form_in_place, form_places, standing_places}
+use Rattle.zarrs_codec_chain.specs.ChunkRead.{WhereSure, asks_in_part, form_in_place, form_places, standing_places}
 use Rattle.zarrs_chain_meaning.specs.ChunkForm.{ChunkForm}
 use Rattle.zarrs_codec_chain.specs.CodecPart.{codec_rests_on}
-use Rattle.zarrs_codec_chain.specs.ChunkSource.{Source, is_kept, kept_stage, source_made_at, source_of, bytes_above, opened_chunk, source_made, source_places, source_read}
+use Rattle.zarrs_codec_chain.specs.ChunkSource.{Source, is_cache, kept_stage, source_made_at, source_of, bytes_above, opened_chunk, source_places, source_read}
 use Rattle.zarrs_codec_chain.specs.declared.chunk_coder.ChunkCoder.{ChunkCoder}
-use Rattle.zarrs_chunk.specs.Answer.{Answers, AnswersBy, GivesBy, memory, memory_or_fault, seen, is_fault}
+use Rattle.zarrs_chunk.specs.Answer.{AnswersBy, GivesBy, memory, memory_or_fault, seen, is_fault}
 use Rattle.zarrs_chunk.specs.Runs.{EndWithin, joined_runs}
 use Rattle.zarrs_chunk.specs.Selection.{Selection, bounds_of}
 use Rattle.zarrs_chunk.specs.declared.codec_error.CodecError.{CodecError}
 use Rattle.zarrs_data_type.specs.Element.{Chunk}
-use Rattle.zarrs_data_type.specs.ElementType.{ElementType}
 use Rattle.zarrs_data_type.specs.declared.endianness.Endianness.{Endianness}
 use Rattle.zarrs_array_bytes.specs.Elements.{select}
 use Rattle.zarrs_array_bytes.specs.Held.{Held}
@@ -40,7 +38,7 @@ reader_source coder stored =
 
 -- it has a cache
 abbrev pub coder_is_cached : {B : Type 0} {b : _} → ChunkCoder B b → Bool
-coder_is_cached coder = is_kept coder.cache
+coder_is_cached coder = is_cache coder.cache
 
 -- its cache, if it has one, was filled from this value or from none
 abbrev pub IsFilledFrom : {B : Type 0} {b : _} → BytesCodecs B → ChunkCoder B b → Option (List ℕ) → Type 0
@@ -58,13 +56,6 @@ AreInside coder runs = EndWithin (product coder.encoded) runs
 -- it writes in place, with this byte order
 abbrev pub IsInPlace : {B : Type 0} {b : _} → ChunkCoder B b → Option Endianness → Type 0
 IsInPlace coder order = form_in_place (coder_form coder) ≡ Some order
-
--- ---- how it is made
-
--- a coder of such a chunk, its cache filled from what is stored; or the first error
-abbrev pub MakesCoder : {B : Type 0} {b : _} → CodecChain B → List ℕ → ElementType → List ℕ → StorageState → Result (ChunkCoder B b) CodecError → Type 0
-MakesCoder {b = b} chain sizes type fill before result =
-    Answers memory_or_fault (λ coder. reader_source coder before.value) result (source_made b.functions b.reads_in_part (chunk_of chain sizes type fill) before.value)
 
 -- ---- what its calls give, of runs of places of the moved chunk
 
@@ -109,8 +100,8 @@ abbrev pub LeavesAlone : {H B : Type 0} {b : _} → ChunkCoder B b → (before a
 LeavesAlone coder before after = coder_is_cached coder ≡ true → after ≡ before
 
 -- a read without a cache that asks for the whole value asks once (`calls` says what the record of a handle is)
-abbrev pub AsksOnce : {H T B : Type 0} {b : _} → (H → Option Calls) → ChunkCoder B b → (before after : H) → Result T CodecError → Type 0
-AsksOnce calls coder before after result =
+abbrev pub CoderAsksOnce : {H T B : Type 0} {b : _} → (H → Option Calls) → ChunkCoder B b → (before after : H) → Result T CodecError → Type 0
+CoderAsksOnce calls coder before after result =
     coder_is_cached coder ≡ false → WholeOnce calls (plain_chain coder.chain.now) before after result
 
 -- ---- what its calls give, of a selection

@@ -79,14 +79,14 @@ places_in_order arrays sizes None places = places
 places_in_order arrays sizes (Some region) places = standing_places arrays sizes region
 
 -- where the places that a selection selects go, in the order in which their bytes are planned, or the first error
-abbrev pub ordered_places : {B : Type 0} → ChunkForm B → Selection → Result (List ℕ) CodecError
-ordered_places form selection =
+abbrev pub planned_order : {B : Type 0} → ChunkForm B → Selection → Result (List ℕ) CodecError
+planned_order form selection =
     seen (places_in_order form.chain.array_to_array form.sizes (planned_region form selection)) (encoded_places form.type form.chain.array_to_array form.sizes selection)
 
 -- the places whose bytes a read asks for, of the chunk that the array-to-bytes codec gets, in the order in which they are planned, where it asks for these alone; or the first error
 abbrev pub planned_places : {B : Type 0} → ChunkForm B → Selection → Result (Option (List ℕ)) CodecError
 planned_places form selection =
-    seen (λ places. if reads_places form.chain.bytes_to_bytes form.chain.array_to_bytes then Some places else None) (ordered_places form selection)
+    seen (λ places. if reads_places form.chain.bytes_to_bytes form.chain.array_to_bytes then Some places else None) (planned_order form selection)
 
 -- what a plan is of a read of these places: ranges where it asks for the places' bytes alone, and else none
 abbrev pub IsReadPlan : {B : Type 0} → BytesCodecs B → ChunkForm B → Option (List ByteSpan) → Option (List ℕ) → Type 0
@@ -94,6 +94,10 @@ IsReadPlan f form None None = Unit {0}
 IsReadPlan f form (Some ranges) (Some places) =
     IsOkAnd (taken_form f form.chain form.sizes form.type form.fill) (λ taken. IsCodecPlan form.chain.array_to_bytes taken.0 form.type form.fill places ranges)
 IsReadPlan f form _ _ = ⊥
+
+-- the same of ranges as a call gives them
+abbrev pub IsPlanSeen : {B : Type 0} → BytesCodecs B → ChunkForm B → Option (Vec ByteSpan Global) → Option (List ℕ) → Type 0
+IsPlanSeen f form ranges places = IsReadPlan f form (option_map (λ v. v.items) ranges) places
 
 -- ---- what a read rests on
 
@@ -128,7 +132,7 @@ reads_surely cached f form stored sure selection = cached || are_asked_sure sure
 -- ---- what a read gives
 
 -- The answer is a container of the elements at the selected places, of the chunk that the stored value stands for, or of fill elements where nothing is stored; or the first error. Only a lack of memory or a failure of the handle may come in its place, a failure behind the errors of the selection, and never where the read asks for a part of the value alone and the bytes that it rests on are sure.
-pub record ReadsChunk {B : Type 0} (f : BytesCodecs B) (form : ChunkForm B) (before : StorageState) (selection : Selection) (result : Result Held CodecError) : Type 0 where
+pub record ReadsStoredChunk {B : Type 0} (f : BytesCodecs B) (form : ChunkForm B) (before : StorageState) (selection : Selection) (result : Result Held CodecError) : Type 0 where
   pub selected : (value : List ℕ) (chunk : Chunk) → before.value ≡ Some value → ChainStands f form.chain form.sizes form.type form.fill value chunk
       → AnswersBy memory_or_fault (Holds form.type) result (seen (select chunk) (places_of selection form.sizes))
   pub unstored : before.value ≡ None
@@ -148,16 +152,16 @@ abbrev pub chunk_of : {B : Type 0} → CodecChain B → List ℕ → ElementType
 chunk_of chain sizes type fill = chunk_form (plain_chain chain) (form_of sizes type fill)
 
 -- what is made has the form of the chunk of these sizes, this type and this fill value, through the chain
-abbrev pub HasForm : {T E B : Type 0} → (T → ChunkForm B) → CodecChain B → List ℕ → ElementType → List ℕ → Result T E → Type 0
-HasForm view chain sizes type fill result = IfOk result (λ it. view it ≡ chunk_of chain sizes type fill)
+abbrev pub HasChunkForm : {T E B : Type 0} → (T → ChunkForm B) → CodecChain B → List ℕ → ElementType → List ℕ → Result T E → Type 0
+HasChunkForm view chain sizes type fill result = IfOk result (λ it. view it ≡ chunk_of chain sizes type fill)
 
 -- the codec takes such chunks
 abbrev pub TakenBy : {B : Type 0} → BytesCodecs B → PlainCodec B → Form → Type 0
 TakenBy f codec form = is_ok (codec_representation f codec form.sizes form.type form.fill) ≡ true
 
 -- the same of what a handle keeps, which may fail
-abbrev pub ReadsRuns : {B : Type 0} → BytesCodecs B → PlainCodec B → Form → StorageState → List (ℕ × ℕ) → Result Held CodecError → Type 0
-ReadsRuns f codec form before runs result =
+abbrev pub ChunkReadsRuns : {B : Type 0} → BytesCodecs B → PlainCodec B → Form → StorageState → List (ℕ × ℕ) → Result Held CodecError → Type 0
+ChunkReadsRuns f codec form before runs result =
     AnswersBy memory_or_fault (Holds form.type) result (codec_read f codec form.sizes form.type form.fill before.value (joined_runs runs))
 
 -- no failure of the handle comes where the bytes are sure that a read of these runs rests on
@@ -168,7 +172,7 @@ SureRuns codec form before runs result =
 -- the plan of a read of the selected places, or the first error
 abbrev pub PlansRead : {B : Type 0} → BytesCodecs B → ChunkForm B → Selection → Result (Option (Vec ByteSpan Global)) CodecError → Type 0
 PlansRead f form selection result =
-    GivesBy (λ ranges places. IsReadPlan f form (option_map (λ v. v.items) ranges) places) result (planned_places form selection)
+    GivesBy (IsPlanSeen f form) result (planned_places form selection)
 
 -- the places that a selection selects, as they go through the array-to-array codecs
 abbrev pub form_places : {B : Type 0} → ChunkForm B → Selection → Result (List ℕ) CodecError

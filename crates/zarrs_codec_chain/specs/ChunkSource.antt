@@ -61,10 +61,10 @@ abbrev pub cache_stage : {B : Type 0} → (B → PartialDecoderCapability) → P
 cache_stage reads chain = stage_at (length chain.bytes_to_bytes) (cache_place (codecs_read reads chain))
 
 -- of what bytes-to-bytes codecs read in part, in encode order: how many of the first ones a cache leaves undecoded; none where no codec wants a cache
-abbrev pub bytes_left : List PartialDecoderCapability → Option ℕ
-bytes_left [] = None
-bytes_left (codec ∷ codecs) =
-    if not codec.partial_decode then Some 0 else (if not codec.partial_read then Some 1 else option_map suc (bytes_left codecs))
+abbrev pub undecoded_codecs : List PartialDecoderCapability → Option ℕ
+undecoded_codecs [] = None
+undecoded_codecs (codec ∷ codecs) =
+    if not codec.partial_decode then Some 0 else (if not codec.partial_read then Some 1 else option_map suc (undecoded_codecs codecs))
 
 -- a cache that leaves so many bytes-to-bytes codecs; none
 abbrev pub bytes_stage : Option ℕ → CacheStage
@@ -117,6 +117,10 @@ source_made_at f form cache stored = do
 abbrev pub source_made : {B : Type 0} → BytesCodecs B → (B → PartialDecoderCapability) → ChunkForm B → Option (List ℕ) → Result Source CodecError
 source_made f reads form stored = source_made_at f form (cache_stage reads form.chain) stored
 
+-- What is made answers by this, as `view` sees it where this value or none is stored; or the first error.
+abbrev pub MakesSource : {T B : Type 0} → (T → Option (List ℕ) → Source) → BytesCodecs B → (B → PartialDecoderCapability) → ChunkForm B → Option (List ℕ) → Result T CodecError → Type 0
+MakesSource view f reads form stored result = Answers memory_or_fault (λ made. view made stored) result (source_made f reads form stored)
+
 -- ---- what is kept
 
 -- what answers rest on by a cache, where the handle has this value
@@ -139,15 +143,15 @@ kept_stage (kept.Bytes below value) = stage.Bytes below
 kept_stage (kept.Chunk held) = stage.Chunk
 
 -- something is stored
-abbrev pub is_there : Source → Bool
-is_there (bytes_above below value) = is_some value
-is_there (chunk_below chunk) = is_some chunk
+abbrev pub is_source_stored : Source → Bool
+is_source_stored (bytes_above below value) = is_some value
+is_source_stored (chunk_below chunk) = is_some chunk
 
 -- the handle is left alone
-abbrev pub is_kept : Cache → Bool
-is_kept kept.Handle = false
-is_kept (kept.Bytes below value) = true
-is_kept (kept.Chunk held) = true
+abbrev pub is_cache : Cache → Bool
+is_cache kept.Handle = false
+is_cache (kept.Bytes below value) = true
+is_cache (kept.Chunk held) = true
 
 -- how many bytes are kept in memory: the cache's alone, or else the handle's
 abbrev pub held_by : ℕ → Cache → ℕ

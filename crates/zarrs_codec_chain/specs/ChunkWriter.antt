@@ -4,18 +4,15 @@ use Rattle.std.proofs.Common.{Global}
 use Rattle.std.specs.declared.borrow.CowSlice.{CowSlice}
 use Rattle.zarrs_chunk.specs.Answer.{Answers, Gives, memory_or_fault, seen}
 use Rattle.zarrs_chunk.specs.ChunkShape.{product}
-use Rattle.zarrs_chunk.specs.Indexer.{selection_of}
 use Rattle.zarrs_chunk.specs.Runs.{joined_runs}
 use Rattle.zarrs_chunk.specs.Selection.{Selection}
 use Rattle.zarrs_chunk.specs.declared.codec_error.CodecError.{CodecError}
-use Rattle.zarrs_chunk.specs.declared.indexer.Indexer.{Indexer}
 use Rattle.zarrs_data_type.specs.declared.endianness.Endianness.{Endianness}
 use Rattle.zarrs_array_bytes.specs.Elements.{elements}
 use Rattle.zarrs_array_bytes.specs.Held.{Held, items_of}
 use Rattle.zarrs_codec.specs.BytesToBytesCodec.{BytesCodecs}
 use Rattle.zarrs_codec.specs.Calls.{Calls, MakesWrite}
 use Rattle.zarrs_codec.specs.StorageState.{StorageState, value_indices}
-use Rattle.zarrs_codec_chain.specs.ChunkRead.{form_in_place}
 use Rattle.zarrs_codec_chain.specs.ChunkCoder.{coder_form}
 use Rattle.zarrs_codec_chain.specs.ChunkWrite.{WritesChunk, edited_value, form_checked, value_left}
 use Rattle.zarrs_codec_chain.specs.declared.chunk_coder.ChunkCoder.{ChunkCoder}
@@ -38,21 +35,16 @@ GivesEdited coder chunk runs new result =
     Gives items_of result (edited_value (reader_functions coder) (coder_form coder) (elements (coder_form coder).type (product (coder_form coder).sizes) chunk) (joined_runs runs) new)
 
 -- this value is stored afterwards
-abbrev pub WritesRuns : {H B : Type 0} {b : _} → (H → StorageState) → ChunkCoder B b → (before after : H) → List (ℕ × ℕ) → Held → Result (Unit {0}) CodecError → Type 0
-WritesRuns state coder before after runs new result =
+abbrev pub CoderWritesRuns : {H B : Type 0} {b : _} → (H → StorageState) → ChunkCoder B b → (before after : H) → List (ℕ × ℕ) → Held → Result (Unit {0}) CodecError → Type 0
+CoderWritesRuns state coder before after runs new result =
     Answers memory_or_fault (λ _. (state after).value) result (seen Some (value_left (reader_functions coder) (coder_form coder) None (state before).value (joined_runs runs) new))
 
 -- ---- writes, as `WritesChunk` says
 
--- of a selection, in place with this byte order
-abbrev pub WritesInPlace : {H B : Type 0} {b : _} → (H → StorageState) → ChunkCoder B b → Option Endianness → (before after : H) → Selection → Held → Result (Unit {0}) CodecError → Type 0
-WritesInPlace state coder order before after selection new result =
-    WritesChunk (reader_functions coder) (coder_form coder) (Some order) (state before) (state after) selection new result
-
--- the same, in place where the chain writes in place
-abbrev pub Writes : {H B : Type 0} {b : _} → (H → StorageState) → ChunkCoder B b → (before after : H) → Indexer → Held → Result (Unit {0}) CodecError → Type 0
-Writes state coder before after indexer new result =
-    WritesChunk (reader_functions coder) (coder_form coder) (form_in_place (coder_form coder)) (state before) (state after) (selection_of indexer) new result
+-- of a selection, in place with this byte order, or else by the whole value
+abbrev pub CoderWrites : {H B : Type 0} {b : _} → (H → StorageState) → ChunkCoder B b → Option (Option Endianness) → (before after : H) → Selection → Held → Result (Unit {0}) CodecError → Type 0
+CoderWrites state coder order before after selection new result =
+    WritesChunk (reader_functions coder) (coder_form coder) order (state before) (state after) selection new result
 
 -- by the whole value: it is read once, and all of it is replaced
 abbrev pub CountsRenewal : {H T : Type 0} → (H → Option Calls) → (H → StorageState) → (before after : H) → Result T CodecError → Type 0

@@ -19,7 +19,7 @@ use Rattle.zarrs_data_type.specs.declared.endianness.Endianness.{Endianness}
 use Rattle.zarrs_packbits.specs.CountLaws.{read_count_of}
 use Rattle.zarrs_packbits.specs.PackBitsSettings.{packed_layout, PackBitsSettings}
 use Rattle.zarrs_packbits.specs.PartialRead.{bytes_of_places, read_places_of}
-use Rattle.zarrs_packbits.specs.ReadPlan.{IsPlan}
+use Rattle.zarrs_packbits.specs.ReadPlan.{IsPackBitsPlan}
 use Rattle.zarrs_plain_vlen.specs.VlenRead.{stored_rests_on}
 
 -- The bytes that are there may be none: nothing is stored. A read answers an element for each place. What is asked of a plan, and of what a read rests on, is asked of places of the chunk that the codec gets.
@@ -64,7 +64,7 @@ packbits_part settings = record {
   counted = λ f sizes type fill. read_count_of settings (form_of sizes type fill);
   rests_on = λ sizes type fill stored places. bytes_of_places settings (form_of sizes type fill) places;
   plans = true;
-  IsPlanned = λ sizes type fill places ranges. IsOkAnd (packed_layout settings (form_of sizes type fill)) (λ layout. IsPlan layout places ranges);
+  IsPlanned = λ sizes type fill places ranges. IsOkAnd (packed_layout settings (form_of sizes type fill)) (λ layout. IsPackBitsPlan layout places ranges);
   in_place = None;
 }
 

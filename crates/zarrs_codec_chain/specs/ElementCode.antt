@@ -9,10 +9,10 @@ use mathlib.Core.List.{is_set as List-set}
 abbrev ElementParts : Type 0
 ElementParts = ℕ × (Bool × List ℕ)
 
-abbrev pub parts_of : Element → ElementParts
-parts_of (plain bytes) = (0, (true, bytes))
-parts_of absent = (0, (false, []))
-parts_of (present element) = (suc (parts_of element).0, (parts_of element).1)
+abbrev pub element_parts : Element → ElementParts
+element_parts (plain bytes) = (0, (true, bytes))
+element_parts absent = (0, (false, []))
+element_parts (present element) = (suc (element_parts element).0, (element_parts element).1)
 
 abbrev present_times : ℕ → Element → Element
 present_times zero element = element
@@ -21,7 +21,7 @@ present_times (suc levels) element = present (present_times levels element)
 abbrev pub element_of_parts : ElementParts → Element
 element_of_parts p = present_times p.0 (cond p.1.0 (plain p.1.1) absent)
 
-pub element_of_parts-parts_of : (element : Element) → element_of_parts (parts_of element) ≡ element
+pub element_of_parts-parts_of : (element : Element) → element_of_parts (element_parts element) ≡ element
 element_of_parts-parts_of (plain bytes) = refl
 element_of_parts-parts_of absent = refl
 element_of_parts-parts_of (present element) = ap present (element_of_parts-parts_of element)
@@ -31,7 +31,7 @@ retract_set to from back set = collapsible→set (λ x y p. sym (back x) ∙ ap 
     (λ x y p q. ap (λ z. sym (back x) ∙ ap from z ∙ back y) (set (to x) (to y) (ap to p) (ap to q)))
 
 pub Element-set : IsSet Element
-Element-set = retract_set parts_of element_of_parts element_of_parts-parts_of (hlevel (props, List-set))
+Element-set = retract_set element_parts element_of_parts element_of_parts-parts_of (hlevel (props, List-set))
 
 pub Chunk-set : IsSet (List Element)
 Chunk-set = List-set Element-set

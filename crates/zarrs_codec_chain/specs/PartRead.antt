@@ -6,7 +6,7 @@ use Rattle.std.proofs.lemmas.List.{length-map}
 use Rattle.zarrs_array_bytes.specs.Elements.{cut, select}
 use Rattle.zarrs_chain_meaning.specs.Meaning.{Decoder}
 use Rattle.zarrs_chain_meaning.specs.vlen.PlainForm.{PlainForm}
-use Rattle.zarrs_chain_meaning.specs.vlen.Vlen.{vlen_parts}
+use Rattle.zarrs_chain_meaning.specs.vlen.Vlen.{vlen_value_parts}
 use Rattle.zarrs_chunk.specs.Answer.{◌>>=◌, demand}
 use Rattle.zarrs_chunk.specs.ChunkShape.{product}
 use Rattle.zarrs_chunk.specs.declared.codec_error.CodecError.{CodecError}
@@ -15,7 +15,7 @@ use Rattle.zarrs_codec.specs.CountLaws.{passed, same_value}
 use Rattle.zarrs_data_type.specs.Element.{Element, plain, absent, Chunk, fill_element}
 use Rattle.zarrs_data_type.specs.ElementType.{ElementType}
 use Rattle.zarrs_plain_vlen.specs.PlainRead.{plain_read}
-use Rattle.zarrs_plain_vlen.specs.VlenRead.{is_there, offsets_read, elements_read}
+use Rattle.zarrs_plain_vlen.specs.VlenRead.{element_is_there, offsets_read, elements_read}
 
 -- what answers the elements at places of a chunk of these sizes, this type and this fill value, by the bytes that are there, or by none
 abbrev pub PlaceReader : Type 0
@@ -55,9 +55,9 @@ whole_count decode sizes type fill (Some value) places chunk e =
 plain_count : (form : PlainForm) (count : ℕ) (type : ElementType) (fill : List ℕ) (stored : Option (List ℕ)) (places : List ℕ) (chunk : Chunk) → plain_read form count type fill stored places ≡ Ok chunk → length chunk ≡ length places
 plain_count form count type fill None places chunk e = each_count (λ _. fill_element type fill) places chunk e
 plain_count form count type fill (Some value) places chunk e =
-    let parts = passed (vlen_parts form.at_end value) (λ parts. offsets_read form count parts.0 >>= λ offsets. elements_read offsets parts.1 places) chunk e in
+    let parts = passed (vlen_value_parts form.at_end value) (λ parts. offsets_read form count parts.0 >>= λ offsets. elements_read offsets parts.1 places) chunk e in
     let offsets = passed (offsets_read form count parts.given.0) (λ offsets. elements_read offsets parts.given.1 places) chunk parts.second_is in
-    let read = passed (demand (list_all (is_there offsets.given (length parts.given.1)) places) InvalidByteRange) (λ _. Ok (map (λ place. plain (cut offsets.given parts.given.1 place)) places)) chunk offsets.second_is in
+    let read = passed (demand (list_all (element_is_there offsets.given (length parts.given.1)) places) InvalidByteRange) (λ _. Ok (map (λ place. plain (cut offsets.given parts.given.1 place)) places)) chunk offsets.second_is in
     each_count (λ place. plain (cut offsets.given parts.given.1 place)) places chunk read.second_is
 
 -- and of a `vlen`

@@ -8,7 +8,7 @@ use Rattle.zarrs_codec.specs.declared.refused.Refused.{Refused}
 use Rattle.zarrs_codec_chain.specs.ChunkCoder.{coder_form, reader_source}
 use Rattle.zarrs_codec_chain.specs.ChunkRead.{reads_surely, stored_read}
 use Rattle.zarrs_chain_meaning.specs.ChunkForm.{ChunkForm}
-use Rattle.zarrs_codec_chain.specs.ChunkSource.{Source, held_by, is_kept, IsSizeOf, source_made}
+use Rattle.zarrs_codec_chain.specs.ChunkSource.{Source, held_by, is_cache, IsSizeOf, source_made}
 use Rattle.zarrs_codec_chain.specs.declared.partial_decoder.array_partial_decoder.ArrayPartialDecoder.{ArrayPartialDecoder}
 use Rattle.zarrs_codec.specs.declared.capabilities.PartialDecoderCapability.{PartialDecoderCapability}
 
@@ -17,8 +17,8 @@ abbrev pub handle_of : {H B : Type 0} {h : _} {b : _} → ArrayPartialDecoder H 
 handle_of decoder = decoder.handle
 
 -- the chunk that it reads
-abbrev pub form_of : {H B : Type 0} {h : _} {b : _} → ArrayPartialDecoder H B h b → ChunkForm B
-form_of decoder = coder_form decoder.coder
+abbrev pub decoder_form : {H B : Type 0} {h : _} {b : _} → ArrayPartialDecoder H B h b → ChunkForm B
+decoder_form decoder = coder_form decoder.coder
 
 -- what its answers rest on, where the handle has this value
 abbrev pub decoder_source : {H B : Type 0} {h : _} {b : _} → ArrayPartialDecoder H B h b → Option (List ℕ) → Source
@@ -26,7 +26,7 @@ decoder_source decoder stored = reader_source decoder.coder stored
 
 -- it has a cache, so that its calls leave the handle alone
 abbrev pub is_cached : {H B : Type 0} {h : _} {b : _} → ArrayPartialDecoder H B h b → Bool
-is_cached decoder = is_kept decoder.coder.cache
+is_cached decoder = is_cache decoder.coder.cache
 
 -- how many bytes are kept in memory, where the handle keeps so many: the cache's alone, or else the handle's
 abbrev pub decoder_held : {H B : Type 0} {h : _} {b : _} → ArrayPartialDecoder H B h b → ℕ → ℕ
@@ -52,7 +52,7 @@ chunk_reader f form cached sure stored in_part = record {
 pub record DecoderLeaves {H B T L : Type 0} {h : _} {b : _} (state : H → StorageState) (lent : H → L) (before after : ArrayPartialDecoder H B h b) (result : Result T CodecError) : Type 0 where
   pub left : state (handle_of after) ≡ after_reading result (state (handle_of before))
   pub same_reference : lent (handle_of after) ≡ lent (handle_of before)
-  pub form_kept : form_of after ≡ form_of before
+  pub form_kept : decoder_form after ≡ decoder_form before
   pub cache_kept : is_cached after ≡ is_cached before
 
 -- with a cache the handle is left alone: it is the one that it was
@@ -64,4 +64,4 @@ DecoderLeavesAlone before after = is_cached before ≡ true → handle_of after 
 -- how many bytes the cache keeps, where there is one
 abbrev pub KeepsCache : {H B : Type 0} {h : _} {b : _} → (H → StorageState) → BytesCodecs B → (B → PartialDecoderCapability) → ArrayPartialDecoder H B h b → ℕ → Type 0
 KeepsCache state f reads decoder size =
-    is_cached decoder ≡ true → IsOkAnd (source_made f reads (form_of decoder) (state (handle_of decoder)).value) (λ source. IsSizeOf (form_of decoder).type source size)
+    is_cached decoder ≡ true → IsOkAnd (source_made f reads (decoder_form decoder) (state (handle_of decoder)).value) (λ source. IsSizeOf (decoder_form decoder).type source size)

@@ -1,13 +1,10 @@
 -- What a partial encoder of a chain is made of, and what its calls leave.
-use Rattle.std.specs.Prelude.{◌≡◌, Bool, true, Option, OnErr, Result}
+use Rattle.std.specs.Prelude.{◌≡◌, Bool, true, OnErr, Result}
 use Rattle.zarrs_chunk.specs.Answer.{Answers}
 use Rattle.zarrs_chunk.specs.declared.codec_error.CodecError.{CodecError}
 use Rattle.zarrs_codec.specs.CodersOverHandles.{OnlyReads, OnlyWrites}
-use Rattle.zarrs_codec.specs.Calls.{Calls}
 use Rattle.zarrs_codec.specs.StorageState.{StorageState, after_writing, apart_from_value}
-use Rattle.zarrs_codec_chain.specs.ChunkCalls.{CountsEdit}
 use Rattle.zarrs_codec_chain.specs.ChunkCoder.{coder_form}
-use Rattle.zarrs_codec_chain.specs.ChunkRead.{form_in_place}
 use Rattle.zarrs_chain_meaning.specs.ChunkForm.{ChunkForm}
 use Rattle.zarrs_codec_chain.specs.Edits.{edit_excuse, edited_store}
 use Rattle.zarrs_codec_chain.specs.declared.partial_encoder.array_partial_encoder.ArrayPartialEncoder.{ArrayPartialEncoder}
@@ -15,7 +12,7 @@ use Rattle.zarrs_codec_chain.specs.declared.partial_encoder.edits.Edit.{Edit}
 use Rattle.zarrs_chunk.specs.Indexer.{selection_of}
 use Rattle.zarrs_chunk.specs.declared.indexer.Indexer.{Indexer}
 use Rattle.zarrs_array_bytes.specs.Held.{Held}
-use Rattle.zarrs_codec_chain.specs.ChunkWrite.{EditsChunk}
+use Rattle.zarrs_codec_chain.specs.ChunkWrite.{EditsStored}
 
 -- the handle that an encoder reads and writes
 abbrev pub encoder_handle : {H B : Type 0} {h : _} {w : _} {b : _} → ArrayPartialEncoder H B h w b → H
@@ -55,9 +52,4 @@ EncoderEdits {b = b} state before after edit result =
 -- what a write of an encoder leaves
 abbrev pub EncoderLeaves : {H B : Type 0} {h : _} {w : _} {b : _} → (H → StorageState) → (before after : ArrayPartialEncoder H B h w b) → Indexer → Held → Result (Unit {0}) CodecError → Type 0
 EncoderLeaves {b = b} state before after indexer new result =
-    EditsChunk b.functions (encoder_form before) (state (encoder_handle before)) (state (encoder_handle after)) (selection_of indexer) new result
-
--- how often an accepted write of an encoder asks the handle, and which bytes it replaces (`calls` says what the record of a handle is)
-abbrev pub EncoderCounts : {H B T : Type 0} {h : _} {w : _} {b : _} → (H → Option Calls) → (H → StorageState) → (before after : ArrayPartialEncoder H B h w b) → Indexer → Result T CodecError → Type 0
-EncoderCounts calls state before after indexer result =
-    CountsEdit calls state (encoder_form before) (form_in_place (encoder_form before)) (selection_of indexer) (encoder_handle before) (encoder_handle after) result
+    EditsStored b.functions (encoder_form before) (state (encoder_handle before)) (state (encoder_handle after)) (selection_of indexer) new result

@@ -14,7 +14,7 @@ use Rattle.zarrs_chain_meaning.specs.Laws.{IsChainOfMappings}
 use Rattle.zarrs_chain_meaning.specs.CodecMeaning.{ChainStands}
 use Rattle.zarrs_chain_meaning.specs.vlen.PlainVlen.{plain_form_of}
 use Rattle.zarrs_chain_meaning.specs.vlen.PlainForm.{PlainForm}
-use Rattle.zarrs_codec_chain.specs.ChunkRead.{encoded_places, ordered_places, planned_region, stored_read}
+use Rattle.zarrs_codec_chain.specs.ChunkRead.{encoded_places, planned_order, planned_region, stored_read}
 use Rattle.zarrs_chain_meaning.specs.ChunkForm.{ChunkForm}
 use Rattle.zarrs_codec_chain.specs.CodecPart.{codec_rests_on}
 
@@ -54,5 +54,5 @@ pub record IsInOrder {B : Type 0} (form : ChunkForm B) (selection : Selection) (
 abbrev pub PlannedPlacesAreMeant : Type 0 → Type 0
 PlannedPlacesAreMeant B =
     (form : ChunkForm B) (selection : Selection) (meant ordered : List ℕ)
-    → IsChainOfMappings form.chain → All (λ size. 0 < size) form.sizes → encoded_places form.type form.chain.array_to_array form.sizes selection ≡ Ok meant → ordered_places form selection ≡ Ok ordered
+    → IsChainOfMappings form.chain → All (λ size. 0 < size) form.sizes → encoded_places form.type form.chain.array_to_array form.sizes selection ≡ Ok meant → planned_order form selection ≡ Ok ordered
     → IsInOrder form selection meant ordered

@@ -3,13 +3,9 @@ use Rattle.std.specs.Prelude.{◌≡◌, ℕ, ◌-◌, ◌*◌, ◌^◌, min, So
 use Rattle.zarrs_data_type.specs.Element.{Chunk}
 use Rattle.zarrs_data_type.specs.ElementType.{ElementType}
 use Rattle.zarrs_array_bytes.specs.Laws.{bytes_each}
-use Rattle.zarrs_codec_chain.specs.ChunkSource.{Source, chunk_below, IsSizeOf}
+use Rattle.zarrs_codec_chain.specs.ChunkSource.{chunk_below, IsSizeOf}
 
 -- A cache of a chunk whose elements all take as many bytes has these bytes and no others, as far as they are counted.
 abbrev pub ChunkSizesAreExact : Type 0
 ChunkSizesAreExact =
     (type : ElementType) (each size : ℕ) (chunk : Chunk) → bytes_each type ≡ Some each → IsSizeOf type (chunk_below (Some chunk)) size → size ≡ min (length chunk * each) (2 ^ 64 - 1)
-
--- What answers rest on has one size, whatever a cache keeps of it.
-abbrev pub SizesAreExact : Type 0
-SizesAreExact = (type : ElementType) (size other : ℕ) (source : Source) → IsSizeOf type source size → IsSizeOf type source other → size ≡ other

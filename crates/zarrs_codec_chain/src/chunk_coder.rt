@@ -6,8 +6,8 @@ ghost use Rattle.zarrs_codec.specs.StorageState.{after_reading};
 ghost use Rattle.zarrs_chain_meaning.specs.Chain.{codec_reads as codec_reads_of, taken_form as taken_form_of};
 ghost use Rattle.zarrs_chain.specs.ChainView.{plain_chain};
 ghost use Rattle.zarrs_codec_chain.specs.CachePlace.{SureWithoutCache, has_cache_place};
-ghost use Rattle.zarrs_codec_chain.specs.ChunkRead.{HasForm};
-ghost use Rattle.zarrs_codec_chain.specs.ChunkSource.{FilledOnce, cache_fits, is_kept};
+ghost use Rattle.zarrs_codec_chain.specs.ChunkRead.{HasChunkForm, chunk_of};
+ghost use Rattle.zarrs_codec_chain.specs.ChunkSource.{FilledOnce, MakesSource, cache_fits, is_cache};
 ghost use Rattle.zarrs_codec_chain.specs.CacheTight.{CacheIsTight, CacheIsTight-prop};
 ghost use Rattle.zarrs_chain_meaning.specs.Laws.{IsChainOfMappings};
 ghost use Rattle.zarrs_chain_meaning.specs.CodecMeaning.{codec_representation};
@@ -44,7 +44,7 @@ pub(crate) struct ChunkCoder<'a, B: BytesToBytesCodecTraits> {
 }
 
 impl<'a, B: BytesToBytesCodecTraits> ChunkCoder<'a, B> {
-    ghost use Rattle.zarrs_codec_chain.specs.ChunkCoder.{coder_form, coder_is_cached, IsFilledFrom, MakesCoder};
+    ghost use Rattle.zarrs_codec_chain.specs.ChunkCoder.{coder_form, coder_is_cached, reader_source, IsFilledFrom};
 
     /// A coder of such a chunk without a cache. Errors: those of the chain's representation.
     pub(crate) fn uncached(
@@ -54,10 +54,9 @@ impl<'a, B: BytesToBytesCodecTraits> ChunkCoder<'a, B> {
         data_type: &DataType,
         fill_value: &FillValue,
     ) -> Result<ChunkCoder<'a, B>, CodecError>
-        // Wide: no other clause says this, so it is written out.
         ensures answer { Gives (λ it. (it.encoded, it.representation)) result (taken_form_of
             B.functions (plain_chain chain.now) shape.now data_type.now fill_value.now) }
-        ensures form { HasForm coder_form chain.now shape.now data_type.now fill_value.now result }
+        ensures form { HasChunkForm coder_form chain.now shape.now data_type.now fill_value.now result }
         ensures uncached { IfOk result (λ coder. coder_is_cached coder ≡ false) }
     {
         let shape = shape.clone()?;
@@ -86,20 +85,18 @@ impl<'a, B: BytesToBytesCodecTraits> ChunkCoder<'a, B> {
         data_type: &DataType,
         fill: &FillValue,
     ) -> Result<ChunkCoder<'a, B>, CodecError>
-        // Wide: three parameters of a form, beside the handle that the cache is filled from.
-        ensures answer { MakesCoder chain.now shape.now data_type.now fill.now
-            (H.state handle.old) result }
-        ensures form { HasForm coder_form chain.now shape.now data_type.now fill.now result }
+        ensures answer { MakesSource reader_source B.functions B.reads_in_part (chunk_of chain.now
+            shape.now data_type.now fill.now) (H.state handle.old).value result }
+        ensures form { HasChunkForm coder_form chain.now shape.now data_type.now fill.now result }
         ensures cached { IfOk result
-            (λ it. is_kept it.cache ≡ has_cache_place B.reads_in_part chain.now) }
+            (λ it. is_cache it.cache ≡ has_cache_place B.reads_in_part chain.now) }
         ensures no_fault_if_uncached { SureWithoutCache B.reads_in_part chain.now result }
-        // Wide: no other clause says this, so it is written out.
         ensures measured_first { RefusedFirst (taken_form_of B.functions
             (plain_chain chain.now) shape.now data_type.now fill.now) result }
         ensures cache_filled { IfOk result
             (λ it. IsFilledFrom B.functions it (H.state handle.old).value) }
         ensures counted { IfOk result
-            (λ it. FilledOnce H.calls (is_kept it.cache) handle.old handle.new) }
+            (λ it. FilledOnce H.calls (is_cache it.cache) handle.old handle.new) }
         ensures left { H.state handle.new ≡ after_reading result (H.state handle.old) }
         ensures same_reference { H.lent handle.new ≡ H.lent handle.old }
     {

@@ -1,10 +1,10 @@
 //! The coders of a chunk in part that a chain makes.
 ghost use Rattle.std.specs.Prelude.{◌≡◌, IfOk, IfErr, true, false};
 ghost use Rattle.zarrs_codec_chain.specs.CachePlace.{SureWithoutCache, has_cache_place};
-ghost use Rattle.zarrs_codec_chain.specs.ChunkRead.{HasForm, asks_in_part};
-ghost use Rattle.zarrs_codec_chain.specs.ChunkSource.{FilledOnce};
-ghost use Rattle.zarrs_codec_chain.specs.CodersMade.{DecoderMade, MadeOver};
-ghost use Rattle.zarrs_codec_chain.specs.PartialDecoder.{form_of, handle_of, is_cached, made};
+ghost use Rattle.zarrs_codec_chain.specs.ChunkRead.{HasChunkForm, asks_in_part, chunk_of};
+ghost use Rattle.zarrs_codec_chain.specs.ChunkSource.{FilledOnce, MakesSource};
+ghost use Rattle.zarrs_codec_chain.specs.CodersMade.{MadeOver};
+ghost use Rattle.zarrs_codec_chain.specs.PartialDecoder.{decoder_form, decoder_source, handle_of, is_cached, made};
 ghost use Rattle.zarrs_codec_chain.specs.PartialEncoder.{encoder_form, encoder_handle};
 ghost use Rattle.zarrs_chain.specs.ChainView.{plain_chain};
 ghost use Rattle.zarrs_chunk.specs.Answer.{is_fault, GivesValue, seen};
@@ -73,23 +73,21 @@ impl<B: BytesToBytesCodecTraits> CodecChainPartialTraits<B> for CodecChain<B> {
         data_type: &DataType,
         fill_value: &FillValue,
     ) -> Result<ArrayPartialDecoder<'a, H, B>, Refused<H>>
-        ensures answer { DecoderMade self.now shape.now data_type.now fill_value.now handle result }
-        ensures form { HasForm form_of self.now shape.now data_type.now fill_value.now result }
+        ensures answer { MakesSource decoder_source B.functions B.reads_in_part (chunk_of self.now
+            shape.now data_type.now fill_value.now) (H.state handle).value (made result) }
+        ensures form { HasChunkForm decoder_form self.now shape.now data_type.now fill_value.now result }
         ensures cached { IfOk result
             (λ it. is_cached it ≡ has_cache_place B.reads_in_part self.now) }
         ensures over_state { MadeOver H.state handle result }
         ensures counted { IfOk result
             (λ it. FilledOnce H.calls (is_cached it) handle (handle_of it)) }
         ensures over_reference { MadeOver H.lent handle result }
-        // Wide: no other clause says this, so it is written out.
         ensures handed_left { IfErr result
             (λ refused. H.state refused.handle ≡ after_reading (made result) (H.state handle)) }
         ensures handed_reference { IfErr result (λ refused. H.lent refused.handle ≡ H.lent handle) }
         ensures no_fault_if_uncached { SureWithoutCache B.reads_in_part self.now (made result) }
-        // Wide: no other clause says this, so it is written out.
         ensures measured_first { RefusedFirst (chain_representation B.functions
             (plain_chain self.now) shape.now data_type.now fill_value.now) (made result) }
-        // Wide: no other clause says this, so it is written out.
         ensures no_fault_if_in_part { asks_in_part (plain_chain self.now).bytes_to_bytes
             (plain_chain self.now).array_to_bytes ≡ true → is_fault (made result) ≡ false }
     {
@@ -110,10 +108,9 @@ impl<B: BytesToBytesCodecTraits> CodecChainPartialTraits<B> for CodecChain<B> {
         data_type: &DataType,
         fill_value: &FillValue,
     ) -> Result<ArrayPartialEncoder<'a, H, B>, Refused<H>>
-        // Wide: no other clause says this, so it is written out.
         ensures answer { GivesValue (outcome result) (seen (λ _. tt) (chain_representation
             B.functions (plain_chain self.now) shape.now data_type.now fill_value.now)) }
-        ensures form { HasForm encoder_form self.now shape.now data_type.now fill_value.now result }
+        ensures form { HasChunkForm encoder_form self.now shape.now data_type.now fill_value.now result }
         ensures over { IfOk result (λ encoder. encoder_handle encoder ≡ handle) }
         ensures handed_back { IfErr result (λ refused. refused.handle ≡ handle) }
     {

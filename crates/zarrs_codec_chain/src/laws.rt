@@ -1,14 +1,18 @@
 //! Laws over the definitions alone. The functions do nothing; their contracts are the laws.
+ghost use Rattle.std.specs.Prelude.{◌≡◌, ℕ};
+ghost use Rattle.zarrs_data_type.specs.ElementType.{ElementType};
 ghost use Rattle.zarrs_codec.specs.BytesToBytesCodec.{BytesCodecs};
+ghost use Rattle.zarrs_codec_chain.specs.ChunkSource.{IsSizeOf, Source};
 ghost use Rattle.zarrs_codec_chain.specs.PlannedReads.{PlannedIsAsked, PlannedReadsAlike, SizedReadsAlike};
 ghost use Rattle.zarrs_codec_chain.specs.ReadLaws.{PlannedPlacesAreMeant, StoredReadsAlike, StoredSelects};
-ghost use Rattle.zarrs_codec_chain.specs.SizeLaws.{ChunkSizesAreExact, SizesAreExact};
+ghost use Rattle.zarrs_codec_chain.specs.SizeLaws.{ChunkSizesAreExact};
 
 /// What answers rest on has one size, whatever a cache keeps of it: tight containers of one chunk are the
 /// same bytes. Where elements all take as many bytes, with their mask bytes, it is these and no others.
 pub fn sizes_are_exact()
     ensures chunk { ChunkSizesAreExact }
-    ensures law { SizesAreExact }
+    ensures law { (t : ElementType) (size other : ℕ) (source : Source)
+        → IsSizeOf t source size → IsSizeOf t source other → size ≡ other }
 {}
 
 /// Of a stored value that stands for a chunk, a read in part answers the chunk's elements that the

@@ -13,7 +13,7 @@ use Rattle.zarrs_array_bytes.specs.Pieces.{bytes_with_offsets, variable_of}
 use Rattle.zarrs_array_bytes.specs.Present.{mask_of, presence}
 use Rattle.zarrs_array_bytes.proofs.OffsetLemmas.{offsets_rise, offsets_end}
 use Rattle.zarrs_json.specs.Containers.{bytes_or_zeros, variable_answer}
-use Rattle.zarrs_json.specs.Refusal.{codec_answer, wants_memory}
+use Rattle.zarrs_json.specs.Refusal.{codec_answer, refusal_memory}
 use Rattle.zarrs_json.specs.declared.refusal.Refusal.{Refusal}
 
 passed : {A : Type 0} (b : Bool) (e : CodecError) (x : Result A CodecError) → b ≡ true → (demand b e >>= λ _. x) ≡ x
@@ -47,10 +47,10 @@ mask_made inner chunk =
     passed (list_all (λ byte. nat_lt byte 2) (mask_of chunk)) MaskValue (Ok (masked inner (owned_bytes (mask_of chunk)))) (mask_bytes chunk)
 
 -- what is put under a mask of elements
-pub mask_answers : (r : Result Held Refusal) (inner want : Held) (mask : List ℕ) (chunk : Chunk) → Answers wants_memory (λ held. held) r (codec_answer (with_mask inner (owned_bytes mask))) → inner ≡ want → mask ≡ mask_of chunk
-    → Answers wants_memory (λ held. held) r (Ok (masked want (owned_bytes (mask_of chunk))))
+pub mask_answers : (r : Result Held Refusal) (inner want : Held) (mask : List ℕ) (chunk : Chunk) → Answers refusal_memory (λ held. held) r (codec_answer (with_mask inner (owned_bytes mask))) → inner ≡ want → mask ≡ mask_of chunk
+    → Answers refusal_memory (λ held. held) r (Ok (masked want (owned_bytes (mask_of chunk))))
 mask_answers r inner want mask chunk h same masks =
-    subst (λ (x : Result Held Refusal). Answers wants_memory (λ held. held) r x)
+    subst (λ (x : Result Held Refusal). Answers refusal_memory (λ held. held) r x)
     (ap (λ m. codec_answer (with_mask inner (owned_bytes m))) masks ∙ ap codec_answer (mask_made inner chunk) ∙ ap (λ i. Ok (masked i (owned_bytes (mask_of chunk)))) same) h
 
 -- an optional type, by the type inside

@@ -4,17 +4,16 @@ use Rattle.std.specs.List.{flat_map}
 use Rattle.std.proofs.lemmas.List.{get_or-map, length-map, length-replicate}
 use Rattle.std.proofs.lemmas.List.FromFn.{fill_by_all}
 use Rattle.zarrs_chunk.specs.declared.codec_error.CodecError.TheVariants.{InvalidBytesLength}
-use Rattle.zarrs_data_type.specs.Element.{Element, plain, absent, present, Chunk, IsElement}
+use Rattle.zarrs_data_type.specs.Element.{Element, plain, absent, present, Chunk, IsElement, AreElements}
 use Rattle.zarrs_data_type.specs.ElementType.{ElementType, fixed, text, bytes, optional, element_size}
 use Rattle.zarrs_array_bytes.specs.Elements.{cut, under_flag, element_at}
 use Rattle.zarrs_array_bytes.specs.Pieces.{bytes_with_offsets}
 use Rattle.zarrs_array_bytes.specs.Present.{presence}
-use Rattle.zarrs_array_bytes.specs.Validity.{LengthRefusal, levels_fit}
+use Rattle.zarrs_array_bytes.specs.Validity.{LengthRefusal, levels_fit, sizes_fit, Holds}
 use Rattle.zarrs_array_bytes.proofs.ElementLemmas.{piece_at, cut_at, length_ends, length-flat_map_sized}
 use Rattle.zarrs_array_bytes.proofs.RunLemmas.{piece_is}
 use Rattle.zarrs_array_bytes.proofs.ValidLemmas.{length_due, then_ok}
 use Rattle.zarrs_json.specs.Containers.{bytes_or_zeros, under_mask, container_of}
-use Rattle.zarrs_json.specs.Laws.{ContainersHoldElements}
 
 -- ---- what may stand at a place
 
@@ -111,7 +110,7 @@ made_at (optional type) chunk place each l h =
 
 -- ---- the law
 
-pub containers_hold : ContainersHoldElements
+pub containers_hold : (type : ElementType) (chunk : Chunk) → AreElements type chunk → sizes_fit type (length chunk) ≡ Ok tt → Holds type (container_of type chunk) chunk
 containers_hold type chunk are sizes =
     let each : MayStandThere type chunk = λ k l. stands_as_element type (get_or chunk k absent) (are k absent l) in
     record {

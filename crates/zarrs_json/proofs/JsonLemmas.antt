@@ -10,13 +10,13 @@ use Rattle.serde_json.specs.Written.{has_float}
 use Rattle.serde_json.specs.View.{members_view}
 use Rattle.serde_json.specs.declared.value.Value.{Value}
 use Rattle.zarrs_json.specs.declared.refusal.Refusal.TheVariants.{Syntax}
-use Rattle.zarrs_json.specs.Json.{tree_of, without_floats, only_member, member_count}
+use Rattle.zarrs_json.specs.Json.{tree_of, tree_without_floats, only_member, member_count}
 
 -- a text that reads, without floats
 pub tree_of-read : (text : List ℕ) (tree : Data) → IsUtf8 text → read text ≡ Some tree → has_float tree ≡ false → tree_of text ≡ Ok tree
 tree_of-read text tree utf8 at clean = rw (is_utf8-from_IsUtf8 text utf8, at, clean) refl
 
-unread_by : (text : List ℕ) (b : Bool) → is_utf8 text ≡ b → (IsUtf8 text → read text ≡ None) → ok_or (cond b (option_and_then without_floats (read text)) None) Syntax ≡ Err Syntax
+unread_by : (text : List ℕ) (b : Bool) → is_utf8 text ≡ b → (IsUtf8 text → read text ≡ None) → ok_or (cond b (option_and_then tree_without_floats (read text)) None) Syntax ≡ Err Syntax
 unread_by text false is h = refl
 unread_by text true is h = rw (h (IsUtf8-from_is_utf8 text is)) refl
 

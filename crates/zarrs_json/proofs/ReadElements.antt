@@ -9,9 +9,8 @@ use Rattle.zarrs_data_type.specs.Element.{Element, plain, absent, present, Chunk
 use Rattle.zarrs_data_type.specs.ElementType.{ElementType, fixed, text, bytes, optional, element_size}
 use Rattle.zarrs_json.specs.declared.refusal.Refusal.{Refusal}
 use Rattle.zarrs_json.specs.declared.refusal.Refusal.TheVariants.{Syntax, Codec}
-use Rattle.zarrs_json.specs.Elements.{bytes_in, plain_in, present_in, element_in, elements_in}
+use Rattle.zarrs_json.specs.Elements.{bytes_shown, plain_in, present_in, element_shown, elements_shown, elements_of}
 use Rattle.zarrs_json.specs.Json.{lone_item}
-use Rattle.zarrs_json.specs.Laws.{ReadAreElements}
 
 -- ---- steps that were answered
 
@@ -33,7 +32,7 @@ sized_bytes : (width count : ℕ) (sign : Bool) (tree : Data) (element : Element
 sized_bytes width count sign tree element h =
     let size : ℕ = element_size width count in
     let tested : List ℕ → Result (Unit {0}) Refusal = λ found. demand (length found == size) (Codec (InvalidBytesLength (length found) size)) in
-    let read = step_ok (bytes_in tree) (λ found. tested found >>= λ _. Ok (plain found)) element h in
+    let read = step_ok (bytes_shown tree) (λ found. tested found >>= λ _. Ok (plain found)) element h in
     let passed = step_ok (tested read.0) (λ _. Ok (plain read.0)) element read.2 in
     let fits : length read.0 ≡ size = eqb-true _ _ (demand_ok _ _ passed.1) in
     let is : plain read.0 ≡ element = let same = passed.2 in cc in
@@ -41,7 +40,7 @@ sized_bytes width count sign tree element h =
 
 any_bytes : (tree : Data) (element : Element) → plain_in None tree ≡ Ok element → IsElement text element
 any_bytes tree element h =
-    let read = seen_ok plain (bytes_in tree) element h in
+    let read = seen_ok plain (bytes_shown tree) element h in
     subst (IsElement text) read.2 tt
 
 -- an element of a type of any length is of the other one
@@ -50,28 +49,28 @@ bytes_as_text (plain items) h = tt
 bytes_as_text absent h = h
 bytes_as_text (present element) h = h
 
-nothing : (type : ElementType) (element : Element) → element_in (optional type) null ≡ Ok element → IsElement (optional type) element
+nothing : (type : ElementType) (element : Element) → element_shown (optional type) null ≡ Ok element → IsElement (optional type) element
 nothing type element h =
     let is : absent ≡ element = cc in
     subst (IsElement (optional type)) is tt
 
-something : (type : ElementType) (found : Option Data) (element : Element) → ((tree : Data) (inner : Element) → element_in type tree ≡ Ok inner → IsElement type inner) → present_in (element_in type) found ≡ Ok element
+something : (type : ElementType) (found : Option Data) (element : Element) → ((tree : Data) (inner : Element) → element_shown type tree ≡ Ok inner → IsElement type inner) → present_in (element_shown type) found ≡ Ok element
     → IsElement (optional type) element
 something type None element each h = absurd (cc)
 something type (Some tree) element each h =
-    let inner = seen_ok present (element_in type tree) element h in
+    let inner = seen_ok present (element_shown type tree) element h in
     subst (IsElement (optional type)) inner.2 (each tree inner.0 inner.1)
 
-IsElement-element_in : (type : ElementType) (tree : Data) (element : Element) → element_in type tree ≡ Ok element → IsElement type element
-IsElement-element_in (fixed width count sign) tree element h = sized_bytes width count sign tree element h
-IsElement-element_in text tree element h = any_bytes tree element h
-IsElement-element_in bytes tree element h = bytes_as_text element (any_bytes tree element h)
-IsElement-element_in (optional type) null element h = nothing type element h
-IsElement-element_in (optional type) (boolean truth) element h = absurd (cc)
-IsElement-element_in (optional type) (number value) element h = absurd (cc)
-IsElement-element_in (optional type) (string hex) element h = absurd (cc)
-IsElement-element_in (optional type) (array items) element h = something type (lone_item items) element (IsElement-element_in type) h
-IsElement-element_in (optional type) (object entries) element h = absurd (cc)
+IsElement-element_shown : (type : ElementType) (tree : Data) (element : Element) → element_shown type tree ≡ Ok element → IsElement type element
+IsElement-element_shown (fixed width count sign) tree element h = sized_bytes width count sign tree element h
+IsElement-element_shown text tree element h = any_bytes tree element h
+IsElement-element_shown bytes tree element h = bytes_as_text element (any_bytes tree element h)
+IsElement-element_shown (optional type) null element h = nothing type element h
+IsElement-element_shown (optional type) (boolean truth) element h = absurd (cc)
+IsElement-element_shown (optional type) (number value) element h = absurd (cc)
+IsElement-element_shown (optional type) (string hex) element h = absurd (cc)
+IsElement-element_shown (optional type) (array items) element h = something type (lone_item items) element (IsElement-element_shown type) h
+IsElement-element_shown (optional type) (object entries) element h = absurd (cc)
 
 -- ---- a list of them
 
@@ -79,17 +78,17 @@ one_more : (type : ElementType) (first : Element) (rest : Chunk) → IsElement t
 one_more type first rest h more zero d l = h
 one_more type first rest h more (suc k) d l = more k d (omega arith)
 
-AreElements-elements_in : (type : ElementType) (items : Items) (chunk : Chunk) → elements_in type items ≡ Ok chunk → AreElements type chunk
-AreElements-elements_in type no_items chunk h =
+AreElements-elements_shown : (type : ElementType) (items : Items) (chunk : Chunk) → elements_shown type items ≡ Ok chunk → AreElements type chunk
+AreElements-elements_shown type no_items chunk h =
     let is : [] ≡ chunk = cc in
     subst (AreElements type) is (λ k d l. absurd (omega arith))
-AreElements-elements_in type (item tree items) chunk h =
-    let first = step_ok (element_in type tree) (λ element. elements_in type items >>= λ elements. Ok (element ∷ elements)) chunk h in
-    let rest = step_ok (elements_in type items) (λ elements. Ok (first.0 ∷ elements)) chunk first.2 in
+AreElements-elements_shown type (item tree items) chunk h =
+    let first = step_ok (element_shown type tree) (λ element. elements_shown type items >>= λ elements. Ok (element ∷ elements)) chunk h in
+    let rest = step_ok (elements_shown type items) (λ elements. Ok (first.0 ∷ elements)) chunk first.2 in
     let is : first.0 ∷ rest.0 ≡ chunk = let same = rest.2 in cc in
-    subst (AreElements type) is (one_more type first.0 rest.0 (IsElement-element_in type tree first.0 first.1) (AreElements-elements_in type items rest.0 rest.1))
+    subst (AreElements type) is (one_more type first.0 rest.0 (IsElement-element_shown type tree first.0 first.1) (AreElements-elements_shown type items rest.0 rest.1))
 
-pub read_are_elements : ReadAreElements
+pub read_are_elements : (type : ElementType) (tree : Data) (chunk : Chunk) → elements_of type tree ≡ Ok chunk → AreElements type chunk
 read_are_elements type tree chunk h =
-    let listed = step_ok (ok_or (as_array tree) Syntax) (elements_in type) chunk h in
-    AreElements-elements_in type listed.0 chunk listed.2
+    let listed = step_ok (ok_or (as_array tree) Syntax) (elements_shown type) chunk h in
+    AreElements-elements_shown type listed.0 chunk listed.2

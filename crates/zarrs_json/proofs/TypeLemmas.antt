@@ -10,7 +10,7 @@ use Rattle.serde_json.specs.Find.{as_object}
 use Rattle.zarrs_chunk.specs.Answer.{seen, ◌>>=◌}
 use Rattle.zarrs_data_type.specs.ElementType.{optional}
 use Rattle.zarrs_json.specs.declared.refusal.Refusal.TheVariants.{Syntax}
-use Rattle.zarrs_json.specs.DataType.{type_in, components_in, components_at, components_among}
+use Rattle.zarrs_json.specs.DataType.{type_in, components_shown, components_at, components_among}
 use Rattle.zarrs_json.specs.Json.{only_member}
 
 found_at : (o : Ordering) (tree : Data) → match_ordering o None (Some tree) None ≡ cond (is_eq o) (Some tree) None
@@ -23,7 +23,7 @@ lone_key : (key name : List ℕ) (tree : Data) → only_member key (member name 
 lone_key key name tree =
     found_at (slice_cmp nat_cmp key name) tree ∙ ap (λ b. cond b (Some tree) None) (is_eq-slice_cmp key name)
 
-at_components : (b : Bool) (tree : Data) → cond b (components_at tree) (Err Syntax) ≡ (ok_or (option_and_then as_object (cond b (Some tree) None)) Syntax >>= components_in)
+at_components : (b : Bool) (tree : Data) → cond b (components_at tree) (Err Syntax) ≡ (ok_or (option_and_then as_object (cond b (Some tree) None)) Syntax >>= components_shown)
 at_components true tree = refl
 at_components false tree = refl
 
@@ -51,7 +51,7 @@ type_in-components (member key first no_members) h =
     let missing = is_missing (bytes_eq (codes "optional") key) first (sym (lone_key (codes "optional") key first) ∙ h) in
     ap (λ b. cond b (seen optional (type_in first)) (cond (bytes_eq (codes "components") key) (components_at first) (Err Syntax))) missing
     ∙ at_components (bytes_eq (codes "components") key) first
-    ∙ ap (λ o. ok_or (option_and_then as_object o) Syntax >>= components_in) (sym (lone_key (codes "components") key first))
+    ∙ ap (λ o. ok_or (option_and_then as_object o) Syntax >>= components_shown) (sym (lone_key (codes "components") key first))
 type_in-components (member key first (member other more rest)) h = refl
 
 -- the type inside is less deep

@@ -11,15 +11,15 @@ use Rattle.zarrs_json.specs.KnownMaker.{known_made}
 use Rattle.zarrs_json.specs.declared.known_maker.KnownMaker.{KnownMaker}
 
 -- the metadata that a list's items are
-abbrev pub metadata_in : Items → Result (List Metadata) PluginCreateError
-metadata_in no_items = Ok []
-metadata_in (item tree items) = do
+abbrev pub metadatas_shown : Items → Result (List Metadata) PluginCreateError
+metadatas_shown no_items = Ok []
+metadatas_shown (item tree items) = do
   metadata ← read_metadata tree
-  metadatas ← metadata_in items
+  metadatas ← metadatas_shown items
   Ok (metadata ∷ metadatas)
 
 -- the chain of a list of metadata, each of which is read before a codec is made
-abbrev pub chain_in : KnownMaker → Items → Result (PlainChain KnownBytesCodec) PluginCreateError
-chain_in maker items = do
-  metadatas ← metadata_in items
+abbrev pub chain_shown : KnownMaker → Items → Result (PlainChain KnownBytesCodec) PluginCreateError
+chain_shown maker items = do
+  metadatas ← metadatas_shown items
   chain_made (known_made maker) metadatas

@@ -39,8 +39,8 @@ abbrev pub truth_at : List ℕ → Members → Option Bool
 truth_at key members = option_and_then as_bool (get_member key members)
 
 -- the bits of a component, the components of an element, and whether they have a sign: these keys and no other
-abbrev pub components_in : Members → Result ElementType Refusal
-components_in members = do
+abbrev pub components_shown : Members → Result ElementType Refusal
+components_shown members = do
   _ ← demand (member_count members == 3) Syntax
   bits ← ok_or (number_at (codes "bits") members) Syntax
   count ← ok_or (number_at (codes "count") members) Syntax
@@ -51,7 +51,7 @@ components_in members = do
 abbrev pub components_at : Data → Result ElementType Refusal
 components_at tree = do
   members ← ok_or (as_object tree) Syntax
-  components_in members
+  components_shown members
 
 -- the members of the object that stands alone under its key
 abbrev pub components_alone : Members → Result Members Refusal
@@ -61,7 +61,7 @@ components_alone members = ok_or (option_and_then as_object (only_member (codes 
 abbrev pub components_among : Members → Result ElementType Refusal
 components_among members = do
   inner ← components_alone members
-  components_in inner
+  components_shown inner
 
 -- The type that a tree names: a text; {"optional":T}, with the type of the elements that are present; or {"components":..}.
 abbrev pub type_in : Data → Result ElementType Refusal

@@ -14,7 +14,7 @@ use Rattle.zarrs_json.specs.Refusal.{ReadsAs}
 use Rattle.zarrs_json.specs.Json.{needed_member, member_count}
 use Rattle.zarrs_json.specs.Elements.{elements_of}
 use Rattle.zarrs_json.specs.Containers.{container_of}
-use Rattle.zarrs_json.specs.Indexer.{selection_in}
+use Rattle.zarrs_json.specs.Indexer.{selection_shown}
 
 -- new elements in a container, and the places where they go
 pub record PlainEdit : Type 0 where
@@ -36,7 +36,7 @@ container_in type tree = seen (container_of type) (elements_of type tree)
 -- of the trees of its two parts; the first one is read before the second
 abbrev pub edit_at : ElementType → Data → Data → Result PlainEdit Refusal
 edit_at type at elements = do
-  selection ← selection_in at
+  selection ← selection_shown at
   new ← container_in type elements
   Ok (record { selection = selection; new = new })
 

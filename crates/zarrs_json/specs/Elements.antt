@@ -18,19 +18,19 @@ use Rattle.zarrs_json.specs.Json.{hex_tree, lone_item}
 -- ---- read
 
 -- the bytes of a hex text, where an element's bytes are due; null and a list are elements of other types
-abbrev pub bytes_in : Data → Result (List ℕ) Refusal
-bytes_in null = Err (Codec ArrayBytesKind)
-bytes_in (boolean truth) = Err Syntax
-bytes_in (number value) = Err Syntax
-bytes_in (string hex) = ok_or (result_ok (decode_of hex)) Syntax
-bytes_in (array items) = Err (Codec ArrayBytesKind)
-bytes_in (object entries) = Err Syntax
+abbrev pub bytes_shown : Data → Result (List ℕ) Refusal
+bytes_shown null = Err (Codec ArrayBytesKind)
+bytes_shown (boolean truth) = Err Syntax
+bytes_shown (number value) = Err Syntax
+bytes_shown (string hex) = ok_or (result_ok (decode_of hex)) Syntax
+bytes_shown (array items) = Err (Codec ArrayBytesKind)
+bytes_shown (object entries) = Err Syntax
 
 -- an element that is bytes: so many of them, or any number
 abbrev pub plain_in : Option ℕ → Data → Result Element Refusal
-plain_in None tree = seen plain (bytes_in tree)
+plain_in None tree = seen plain (bytes_shown tree)
 plain_in (Some size) tree = do
-  found ← bytes_in tree
+  found ← bytes_shown tree
   _ ← demand (length found == size) (Codec (InvalidBytesLength (length found) size))
   Ok (plain found)
 
@@ -49,25 +49,25 @@ optional_in inner (array items) = present_in inner (lone_item items)
 optional_in inner (object entries) = Err Syntax
 
 -- the element of a type that a tree shows
-abbrev pub element_in : ElementType → Data → Result Element Refusal
-element_in (fixed width count sign) tree = plain_in (fixed_size_of (fixed width count sign)) tree
-element_in text tree = plain_in None tree
-element_in bytes tree = plain_in None tree
-element_in (optional type) tree = optional_in (element_in type) tree
+abbrev pub element_shown : ElementType → Data → Result Element Refusal
+element_shown (fixed width count sign) tree = plain_in (fixed_size_of (fixed width count sign)) tree
+element_shown text tree = plain_in None tree
+element_shown bytes tree = plain_in None tree
+element_shown (optional type) tree = optional_in (element_shown type) tree
 
 -- the elements in list order, or the error of the first that is rejected
-abbrev pub elements_in : ElementType → Items → Result Chunk Refusal
-elements_in type no_items = Ok []
-elements_in type (item tree items) = do
-  element ← element_in type tree
-  elements ← elements_in type items
+abbrev pub elements_shown : ElementType → Items → Result Chunk Refusal
+elements_shown type no_items = Ok []
+elements_shown type (item tree items) = do
+  element ← element_shown type tree
+  elements ← elements_shown type items
   Ok (element ∷ elements)
 
 -- the elements of a type that a list shows
 abbrev pub elements_of : ElementType → Data → Result Chunk Refusal
 elements_of type tree = do
   items ← ok_or (as_array tree) Syntax
-  elements_in type items
+  elements_shown type items
 
 -- ---- shown
 

@@ -13,9 +13,9 @@ use Rattle.zarrs_chain_meaning.specs.CodecMeaning.{chain_representation}
 use Rattle.zarrs_json.specs.declared.refusal.Refusal.{Refusal}
 use Rattle.zarrs_json.specs.declared.refusal.Refusal.TheVariants.{Syntax}
 use Rattle.zarrs_json.specs.Refusal.{codec_answer, making_answer}
-use Rattle.zarrs_json.specs.Json.{tree_of, number_list, hex_of}
+use Rattle.zarrs_json.specs.Json.{tree_of, number_list_shown, hex_of}
 use Rattle.zarrs_json.specs.DataType.{type_in}
-use Rattle.zarrs_json.specs.Codecs.{chain_in}
+use Rattle.zarrs_json.specs.Codecs.{chain_shown}
 use Rattle.zarrs_json.specs.declared.known_maker.KnownMaker.{KnownMaker}
 
 -- a chunk's shape, type and fill value, and the chain that it is encoded by
@@ -26,11 +26,11 @@ pub record Header : Type 0 where
   pub chain : PlainChain KnownBytesCodec
 
 -- the chunk that a header is of, and any such chunk
-abbrev pub Form : Type 0
-Form = ChunkForm KnownBytesCodec
+abbrev pub HeaderForm : Type 0
+HeaderForm = ChunkForm KnownBytesCodec
 
-abbrev pub form_of : Header → Form
-form_of header =
+abbrev pub header_form : Header → HeaderForm
+header_form header =
     record { chain = header.chain; sizes = header.sizes; type = header.data_type; fill = header.fill }
 
 -- ---- its keys
@@ -39,7 +39,7 @@ form_of header =
 abbrev pub shape_at : Option Data → Result (List ℕ) Refusal
 shape_at None = Err Syntax
 shape_at (Some tree) = do
-  sizes ← number_list tree
+  sizes ← number_list_shown tree
   ok_or (shape_of sizes) Syntax
 
 -- the type of the elements
@@ -55,7 +55,7 @@ fill_value_at tree = ok_or (option_and_then hex_of tree) Syntax
 abbrev pub codecs_at : KnownMaker → Option Data → Result (PlainChain KnownBytesCodec) Refusal
 codecs_at maker tree = do
   codecs ← ok_or (option_and_then as_array tree) Syntax
-  making_answer (chain_in maker codecs)
+  making_answer (chain_shown maker codecs)
 
 -- ---- the header
 

@@ -9,7 +9,7 @@ use Rattle.zarrs_chunk.specs.Selection.{Selection, subset, indices}
 use Rattle.zarrs_json.specs.declared.refusal.Refusal.{Refusal}
 use Rattle.zarrs_json.specs.declared.refusal.Refusal.TheVariants.{Syntax}
 use Rattle.zarrs_json.specs.Refusal.{codec_answer}
-use Rattle.zarrs_json.specs.Json.{number_list, only_member}
+use Rattle.zarrs_json.specs.Json.{number_list_shown, only_member}
 
 -- a start and an end
 abbrev pub range_between : List ℕ → Option (Range ℕ)
@@ -21,7 +21,7 @@ range_between (start ∷ end ∷ more ∷ numbers) = None
 -- a range, as a list of its start and its end
 abbrev pub range_in : Data → Result (Range ℕ) Refusal
 range_in tree = do
-  ends ← number_list tree
+  ends ← number_list_shown tree
   ok_or (range_between ends) Syntax
 
 -- the ranges of a list's items
@@ -33,11 +33,11 @@ ranges_in (item tree items) = do
   Ok (range ∷ ranges)
 
 -- the index tuples of a list's items
-abbrev pub tuples_in : Items → Result (List (List ℕ)) Refusal
-tuples_in no_items = Ok []
-tuples_in (item tree items) = do
-  tuple ← number_list tree
-  tuples ← tuples_in items
+abbrev pub tuples_shown : Items → Result (List (List ℕ)) Refusal
+tuples_shown no_items = Ok []
+tuples_shown (item tree items) = do
+  tuple ← number_list_shown tree
+  tuples ← tuples_shown items
   Ok (tuple ∷ tuples)
 
 -- the box of a list of ranges; all of them are read before one is found that ends before it starts
@@ -52,7 +52,7 @@ ranges_selection tree = do
 abbrev pub indices_selection : Data → Result Selection Refusal
 indices_selection tree = do
   items ← ok_or (as_array tree) Syntax
-  tuples ← tuples_in items
+  tuples ← tuples_shown items
   Ok (indices tuples)
 
 -- by which of the two keys there is
@@ -62,7 +62,7 @@ selection_at None (Some tuples) = indices_selection tuples
 selection_at None None = Err Syntax
 
 -- what an indexer selects; it has one key alone
-abbrev pub selection_in : Data → Result Selection Refusal
-selection_in tree = do
+abbrev pub selection_shown : Data → Result Selection Refusal
+selection_shown tree = do
   members ← ok_or (as_object tree) Syntax
   selection_at (only_member (codes "ranges") members) (only_member (codes "indices") members)

@@ -25,26 +25,26 @@ abbrev pub lent_object : Bor (BTreeMap (String Global) Value Global) → Members
 lent_object members = members_seen members.now
 
 -- a tree with a float at any depth doesn't count
-abbrev pub without_floats : Data → Option Data
-without_floats tree = if has_float tree then None else Some tree
+abbrev pub tree_without_floats : Data → Option Data
+tree_without_floats tree = if has_float tree then None else Some tree
 
 -- the tree of a text, which is UTF-8 and one JSON value
 abbrev pub tree_of : List ℕ → Result Data Refusal
-tree_of text = ok_or (if is_utf8 text then option_and_then without_floats (read text) else None) Syntax
+tree_of text = ok_or (if is_utf8 text then option_and_then tree_without_floats (read text) else None) Syntax
 
 -- the whole numbers of a list's items, among which nothing else may stand
-abbrev pub numbers_in : Items → Result (List ℕ) Refusal
-numbers_in no_items = Ok []
-numbers_in (item tree items) = do
+abbrev pub numbers_shown : Items → Result (List ℕ) Refusal
+numbers_shown no_items = Ok []
+numbers_shown (item tree items) = do
   number ← ok_or (option_and_then as_u64 (as_number tree)) Syntax
-  numbers ← numbers_in items
+  numbers ← numbers_shown items
   Ok (number ∷ numbers)
 
 -- a list of whole numbers
-abbrev pub number_list : Data → Result (List ℕ) Refusal
-number_list tree = do
+abbrev pub number_list_shown : Data → Result (List ℕ) Refusal
+number_list_shown tree = do
   items ← ok_or (as_array tree) Syntax
-  numbers_in items
+  numbers_shown items
 
 -- the bytes of a hex text, of upper or lower case
 abbrev pub hex_of : Data → Option (List ℕ)

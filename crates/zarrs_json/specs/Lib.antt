@@ -7,7 +7,6 @@ pub mod Shown
 pub mod Indexer
 pub mod Edit
 pub mod DataType
-pub mod Laws
 pub mod Codecs
 pub mod Header
 pub mod HeaderRead

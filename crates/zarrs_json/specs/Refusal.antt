@@ -10,18 +10,18 @@ use Rattle.zarrs_json.specs.declared.refusal.Refusal.{Refusal}
 use Rattle.zarrs_json.specs.declared.refusal.Refusal.TheVariants.{Syntax, Making, Codec}
 
 -- out of memory
-abbrev pub wants_memory : Refusal → Bool
-wants_memory Syntax = false
-wants_memory (Making error) = plugin_memory error
-wants_memory (Codec error) = memory error
+abbrev pub refusal_memory : Refusal → Bool
+refusal_memory Syntax = false
+refusal_memory (Making error) = plugin_memory error
+refusal_memory (Codec error) = memory error
 
 -- The answer of a reading is the expected one, its value or its first error; only lack of memory may come in its place.
-abbrev pub Reads : {T : Type 0} → Result T Refusal → Result T Refusal → Type 0
-Reads result expected = Answers wants_memory (λ value. value) result expected
+abbrev pub ReadsJson : {T : Type 0} → Result T Refusal → Result T Refusal → Type 0
+ReadsJson result expected = Answers refusal_memory (λ value. value) result expected
 
 -- the same, of a value that is seen by `view`
 abbrev pub ReadsAs : {T V : Type 0} → (T → V) → Result T Refusal → Result V Refusal → Type 0
-ReadsAs view result expected = Answers wants_memory view result expected
+ReadsAs view result expected = Answers refusal_memory view result expected
 
 -- the same of a vector, which is read by its items
 abbrev pub ReadsItems : {A : Type 0} → Result (Vec A Global) Refusal → Result (List A) Refusal → Type 0

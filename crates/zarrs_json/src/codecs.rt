@@ -3,7 +3,7 @@ ghost use Rattle.serde_json.specs.View.{items_view};
 ghost use Rattle.zarrs_metadata.specs.MetadataV3.{metadatas_in};
 ghost use Rattle.zarrs_metadata.specs.PluginCreateError.{Makes};
 ghost use Rattle.zarrs_chain.specs.ChainView.{plain_chain};
-ghost use Rattle.zarrs_json.specs.Codecs.{metadata_in as metadata_among, chain_in};
+ghost use Rattle.zarrs_json.specs.Codecs.{metadatas_shown, chain_shown};
 
 use crate::known_bytes_codec::KnownBytesCodec;
 use crate::known_maker::KnownMaker;
@@ -13,7 +13,7 @@ use zarrs_chain::CodecChain;
 use zarrs_metadata::{MetadataV3, PluginCreateError};
 
 fn metadata_in(alloc: Global, items: &Vec<Value>) -> Result<Vec<MetadataV3>, PluginCreateError>
-    ensures answer { Makes metadatas_in result (metadata_among (items_view items.now.items)) }
+    ensures answer { Makes metadatas_in result (metadatas_shown (items_view items.now.items)) }
 {
     let mut list = Vec::with_capacity(alloc, items.len())?;
     for item in items {
@@ -30,7 +30,7 @@ pub fn chain(
     maker: &KnownMaker,
     items: &Vec<Value>,
 ) -> Result<CodecChain<KnownBytesCodec>, PluginCreateError>
-    ensures answer { Makes plain_chain result (chain_in maker.now (items_view items.now.items)) }
+    ensures answer { Makes plain_chain result (chain_shown maker.now (items_view items.now.items)) }
 {
     let list = metadata_in(alloc, items)?;
     CodecChain::from_metadata(alloc, list.as_slice(), maker)

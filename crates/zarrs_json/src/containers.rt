@@ -7,7 +7,7 @@ ghost use Rattle.zarrs_array_bytes.specs.Parts.{with_mask};
 ghost use Rattle.zarrs_array_bytes.specs.Present.{mask_of, presence};
 ghost use Rattle.zarrs_json.specs.Containers.{plain_bytes as plain_bytes_of, bytes_or_zeros, chunk_bytes, chunk_cuts, under_mask, container_of, variable_answer};
 ghost use Rattle.zarrs_json.specs.Element.{slot_seen, slots_seen};
-ghost use Rattle.zarrs_json.specs.Refusal.{codec_answer, Reads};
+ghost use Rattle.zarrs_json.specs.Refusal.{codec_answer, ReadsJson};
 
 use crate::element::Element;
 use crate::refusal::Refusal;
@@ -118,7 +118,7 @@ fn of_parts(bytes: Vec<u8>, offsets: Vec<usize>) -> Result<ArrayBytes<'static>, 
 }
 
 fn variable(alloc: Global, slots: &[Slot<'_>]) -> Result<ArrayBytes<'static>, Refusal>
-    ensures answer { Reads result (Ok (container_of text (slots_seen slots.now))) }
+    ensures answer { ReadsJson result (Ok (container_of text (slots_seen slots.now))) }
 {
     let (bytes, offsets) = variable_parts(alloc, slots)?;
     match of_parts(bytes, offsets) {
@@ -132,7 +132,7 @@ fn under(
     inner: ArrayBytes<'static>,
     mask: Vec<u8>,
 ) -> Result<ArrayBytes<'static>, Refusal>
-    ensures answer { Reads result (codec_answer (with_mask inner.entry (owned_bytes mask.items))) }
+    ensures answer { ReadsJson result (codec_answer (with_mask inner.entry (owned_bytes mask.items))) }
 {
     Ok(inner.with_optional_mask(alloc, CowSlice::Owned(mask))?)
 }
@@ -144,7 +144,7 @@ pub fn container(
     data_type: &DataType,
     slots: Vec<Slot<'_>>,
 ) -> Result<ArrayBytes<'static>, Refusal>
-    ensures made { Reads result (Ok (container_of data_type.now (slots_seen slots.entry.items))) }
+    ensures made { ReadsJson result (Ok (container_of data_type.now (slots_seen slots.entry.items))) }
 {
     if let Some(inner_type) = data_type.as_optional() {
         let mask = mask(alloc, &slots)?;

@@ -4,8 +4,8 @@ ghost use Rattle.serde_json.specs.View.{view};
 ghost use Rattle.zarrs_chunk.specs.Answer.{seen};
 ghost use Rattle.zarrs_data_type.specs.ElementType.{optional};
 ghost use Rattle.zarrs_json.specs.Json.{members_seen, lent_object};
-ghost use Rattle.zarrs_json.specs.Refusal.{Reads};
-ghost use Rattle.zarrs_json.specs.DataType.{type_named, number_at, truth_at, components_in, components_alone, components_among, type_in};
+ghost use Rattle.zarrs_json.specs.Refusal.{ReadsJson};
+ghost use Rattle.zarrs_json.specs.DataType.{type_named, number_at, truth_at, components_shown, components_alone, components_among, type_in};
 
 use crate::json::{Members, member, only_member};
 use crate::refusal::Refusal;
@@ -56,7 +56,7 @@ fn truth(members: &Members, key: &str) -> Result<bool, Refusal>
 
 #[tactic(auto, using(crate::proofs::JsonLemmas::member_count_of_view))]
 fn components(members: &Members) -> Result<DataType, Refusal>
-    ensures answer { result ≡ components_in (members_seen members.now) }
+    ensures answer { result ≡ components_shown (members_seen members.now) }
 {
     if members.len() != 3 {
         return Err(Refusal::Syntax);
@@ -78,14 +78,15 @@ fn components_of(members: &Members) -> Result<&Members, Refusal>
 }
 
 fn several(members: &Members) -> Result<DataType, Refusal>
-    ensures answer { Reads result (components_among (members_seen members.now)) }
+    ensures answer { ReadsJson result (components_among (members_seen members.now)) }
 {
     components(components_of(members)?)
 }
 
 /// The type of elements that may be absent, by what was read of the type inside.
 fn optional(alloc: Global, inner: Result<DataType, Refusal>) -> Result<DataType, Refusal>
-    ensures answer { (expected : _) → Reads inner expected → Reads result (seen optional expected) }
+    ensures answer { (expected : _) → ReadsJson inner expected
+        → ReadsJson result (seen optional expected) }
 {
     match inner {
         Ok(inner) => Ok(DataType::optional(alloc, inner)?),
@@ -96,7 +97,7 @@ fn optional(alloc: Global, inner: Result<DataType, Refusal>) -> Result<DataType,
 /// The type that a tree names. Errors: `Syntax` where the tree names none; `BitRange` or `Overflow`
 /// of components that are none; `OutOfMemory`.
 pub fn data_type(alloc: Global, tree: &Value) -> Result<DataType, Refusal>
-    ensures answer { Reads result (type_in (view tree.now)) }
+    ensures answer { ReadsJson result (type_in (view tree.now)) }
 {
     match tree {
         Value::String(name) => type_by_name(name.as_str()).ok_or(Refusal::Syntax),

@@ -3,7 +3,7 @@ ghost use Rattle.std.specs.Prelude.{◌≡◌, option_map};
 ghost use Rattle.serde_json.specs.View.{view, items_view};
 ghost use Rattle.zarrs_data_type.specs.Element.{plain};
 ghost use Rattle.zarrs_json.specs.Refusal.{ReadsAs};
-ghost use Rattle.zarrs_json.specs.Elements.{bytes_in, plain_in, element_in};
+ghost use Rattle.zarrs_json.specs.Elements.{bytes_shown, plain_in, element_shown};
 ghost use Rattle.zarrs_json.specs.Element.{element_seen};
 
 use crate::json::{hex_bytes, lone};
@@ -25,7 +25,7 @@ pub enum Element {
 }
 
 fn bytes(alloc: Global, tree: &Value) -> Result<Vec<u8>, Refusal>
-    ensures answer { ReadsAs (λ v. v.items) result (bytes_in (view tree.now)) }
+    ensures answer { ReadsAs (λ v. v.items) result (bytes_shown (view tree.now)) }
 {
     match tree {
         Value::String(_) => hex_bytes(alloc, tree),
@@ -53,7 +53,7 @@ fn plain_element(alloc: Global, size: Option<usize>, tree: &Value) -> Result<Vec
 /// of bytes than the type has; where an element that may be absent is due, `Syntax` for all but null
 /// and a list of one; `OutOfMemory`.
 pub fn read_element(alloc: Global, data_type: &DataType, tree: &Value) -> Result<Element, Refusal>
-    ensures answer { ReadsAs element_seen result (element_in data_type.now (view tree.now)) }
+    ensures answer { ReadsAs element_seen result (element_shown data_type.now (view tree.now)) }
 {
     let Some(inner) = data_type.as_optional() else {
         let bytes = plain_element(alloc, data_type.fixed_size(), tree)?;

@@ -1,9 +1,9 @@
 //! Elements read from JSON.
 ghost use Rattle.std.specs.Prelude.{◌≡◌, Some, IfOk, map};
 ghost use Rattle.serde_json.specs.View.{view, items_view};
-ghost use Rattle.zarrs_json.specs.Refusal.{Reads, ReadsAs};
+ghost use Rattle.zarrs_json.specs.Refusal.{ReadsJson, ReadsAs};
 ghost use Rattle.zarrs_json.specs.Edit.{container_in};
-ghost use Rattle.zarrs_json.specs.Elements.{elements_in};
+ghost use Rattle.zarrs_json.specs.Elements.{elements_shown};
 ghost use Rattle.zarrs_json.specs.Element.{element_seen, slots_seen};
 
 use crate::containers::container;
@@ -19,9 +19,8 @@ fn elements_among(
     data_type: &DataType,
     items: &Vec<Value>,
 ) -> Result<Vec<Element>, Refusal>
-    // Wide: elements in a vector, seen as those of a chunk.
     ensures answer { ReadsAs (λ v. map element_seen v.items) result
-        (elements_in data_type.now (items_view items.now.items)) }
+        (elements_shown data_type.now (items_view items.now.items)) }
 {
     let mut elements = Vec::new(alloc);
     for item in items {
@@ -49,7 +48,7 @@ pub fn elements(
     data_type: &DataType,
     tree: &Value,
 ) -> Result<ArrayBytes<'static>, Refusal>
-    ensures answer { Reads result (container_in data_type.now (view tree.now)) }
+    ensures answer { ReadsJson result (container_in data_type.now (view tree.now)) }
 {
     match tree {
         Value::Array(items) => {

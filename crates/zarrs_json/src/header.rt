@@ -2,7 +2,7 @@
 ghost use Rattle.serde_json.specs.View.{members_view};
 ghost use Rattle.zarrs_metadata.specs.Trees.{lent_tree};
 ghost use Rattle.zarrs_chain.specs.ChainView.{plain_chain};
-ghost use Rattle.zarrs_json.specs.Refusal.{Reads, ReadsAs};
+ghost use Rattle.zarrs_json.specs.Refusal.{ReadsJson, ReadsAs};
 ghost use Rattle.zarrs_json.specs.Header.{shape_at, data_type_at, fill_value_at, codecs_at, header_in, line_header, line_codecs};
 ghost use Rattle.zarrs_json.specs.HeaderRead.{header_seen};
 
@@ -29,7 +29,7 @@ pub struct ChunkHeader {
 }
 
 fn shape(alloc: Global, tree: Option<&Value>) -> Result<ChunkShape, Refusal>
-    ensures answer { Reads result (shape_at (lent_tree tree.entry)) }
+    ensures answer { ReadsJson result (shape_at (lent_tree tree.entry)) }
 {
     let Some(tree) = tree else {
         return Err(Refusal::Syntax);
@@ -39,7 +39,7 @@ fn shape(alloc: Global, tree: Option<&Value>) -> Result<ChunkShape, Refusal>
 }
 
 fn named_type(alloc: Global, tree: Option<&Value>) -> Result<DataType, Refusal>
-    ensures answer { Reads result (data_type_at (lent_tree tree.entry)) }
+    ensures answer { ReadsJson result (data_type_at (lent_tree tree.entry)) }
 {
     match tree {
         Some(tree) => data_type(alloc, tree),
@@ -48,7 +48,7 @@ fn named_type(alloc: Global, tree: Option<&Value>) -> Result<DataType, Refusal>
 }
 
 fn fill_value(alloc: Global, tree: Option<&Value>) -> Result<FillValue, Refusal>
-    ensures answer { Reads result (fill_value_at (lent_tree tree.entry)) }
+    ensures answer { ReadsJson result (fill_value_at (lent_tree tree.entry)) }
 {
     let Some(tree) = tree else {
         return Err(Refusal::Syntax);

@@ -3,8 +3,8 @@ ghost use Rattle.std.specs.Prelude.{◌≡◌};
 ghost use Rattle.serde_json.specs.View.{view, items_view};
 ghost use Rattle.zarrs_chunk.specs.Indexer.{selection_of};
 ghost use Rattle.zarrs_chunk.specs.Selection.{tuples_seen};
-ghost use Rattle.zarrs_json.specs.Refusal.{Reads, ReadsAs, ReadsItems};
-ghost use Rattle.zarrs_json.specs.Indexer.{range_between, range_in, ranges_in, tuples_in, ranges_selection, indices_selection, selection_in};
+ghost use Rattle.zarrs_json.specs.Refusal.{ReadsJson, ReadsAs, ReadsItems};
+ghost use Rattle.zarrs_json.specs.Indexer.{range_between, range_in, ranges_in, tuples_shown, ranges_selection, indices_selection, selection_shown};
 
 use crate::json::{numbers, object, only_member};
 use crate::refusal::Refusal;
@@ -23,7 +23,7 @@ fn between(ends: &[u64]) -> Option<Range<u64>>
 }
 
 fn range(alloc: Global, tree: &Value) -> Result<Range<u64>, Refusal>
-    ensures answer { Reads result (range_in (view tree.now)) }
+    ensures answer { ReadsJson result (range_in (view tree.now)) }
 {
     let ends = numbers(alloc, tree)?;
     between(&ends).ok_or(Refusal::Syntax)
@@ -41,7 +41,8 @@ fn ranges_among(alloc: Global, items: &Vec<Value>) -> Result<Vec<Range<u64>>, Re
 }
 
 fn tuples_among(alloc: Global, list: &Vec<Value>) -> Result<Vec<ArrayIndices>, Refusal>
-    ensures answer { ReadsAs (λ v. tuples_seen v.items) result (tuples_in (items_view list.now.items)) }
+    ensures answer { ReadsAs (λ v. tuples_seen v.items) result
+        (tuples_shown (items_view list.now.items)) }
 {
     let mut tuples = Vec::new(alloc);
     for item in list {
@@ -75,7 +76,7 @@ fn indices(alloc: Global, tree: &Value) -> Result<Indexer, Refusal>
 /// the tree is anything else; then `ReversedRange` where a range ends before it starts;
 /// `OutOfMemory`.
 pub fn indexer(alloc: Global, tree: &Value) -> Result<Indexer, Refusal>
-    ensures answer { ReadsAs selection_of result (selection_in (view tree.now)) }
+    ensures answer { ReadsAs selection_of result (selection_shown (view tree.now)) }
 {
     let members = object(tree)?;
     if let Some(ranges) = only_member(members, "ranges") {

@@ -6,7 +6,7 @@ ghost use Rattle.serde_json.specs.Find.{as_object, get_member};
 ghost use Rattle.zarrs_chunk.specs.Answer.{seen};
 ghost use Rattle.zarrs_metadata.specs.Trees.{lent_tree, whole_number};
 ghost use Rattle.zarrs_json.specs.Refusal.{ReadsAs, ReadsItems};
-ghost use Rattle.zarrs_json.specs.Json.{members_seen, lent_object, tree_of, number_list, numbers_in, hex_of, only_member as only_member_of, ok_line as line_of, hex_tree as hex_tree_of, lone_item};
+ghost use Rattle.zarrs_json.specs.Json.{members_seen, lent_object, tree_of, number_list_shown, numbers_shown, hex_of, only_member as only_member_of, ok_line as line_of, hex_tree as hex_tree_of, lone_item};
 
 use crate::refusal::Refusal;
 use hex::FromHexError;
@@ -124,7 +124,7 @@ fn number(tree: &Value) -> Result<u64, Refusal>
 }
 
 fn numbers_among(alloc: Global, items: &Vec<Value>) -> Result<Vec<u64>, Refusal>
-    ensures answer { ReadsItems result (numbers_in (items_view items.now.items)) }
+    ensures answer { ReadsItems result (numbers_shown (items_view items.now.items)) }
 {
     let mut numbers = Vec::new(alloc);
     for item in items {
@@ -136,7 +136,7 @@ fn numbers_among(alloc: Global, items: &Vec<Value>) -> Result<Vec<u64>, Refusal>
 
 /// The whole numbers of a list. Errors: `Syntax` where the tree is anything else; `OutOfMemory`.
 pub fn numbers(alloc: Global, tree: &Value) -> Result<Vec<u64>, Refusal>
-    ensures answer { ReadsItems result (number_list (view tree.now)) }
+    ensures answer { ReadsItems result (number_list_shown (view tree.now)) }
 {
     match tree {
         Value::Array(items) => numbers_among(alloc, items),

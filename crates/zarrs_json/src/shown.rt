@@ -113,7 +113,6 @@ fn values(
     count: usize,
 ) -> Result<Vec<Value>, Refusal>
     requires known { HasElements data_type.now count elements.now }
-    // Wide: values in a vector, seen as trees.
     ensures answer { ReadsAs (λ v. map view v.items) result
         (Ok (map (tree_at data_type.now elements.now) (range_with_len 0 count))) }
 {
@@ -132,7 +131,6 @@ pub fn ok_elements(
     elements: &ArrayBytes<'_>,
 ) -> Result<Vec<u8>, Refusal>
     requires held { (chunk : Chunk) × Holds data_type.now elements.now chunk }
-    // Wide: it names the chunk that the container holds, whose elements are shown.
     ensures answer { (chunk : Chunk) → Holds data_type.now elements.now chunk
         → ReadsItems result (Ok (line_of (chunk_tree chunk))) }
 {

@@ -14,10 +14,10 @@ use Rattle.zarrs_codec.specs.ByteSpan.{ByteSpan}
 use Rattle.zarrs_chain_meaning.specs.Parts.{length_of}
 use Rattle.zarrs_bytes.proofs.Coding.{ok}
 use Rattle.zarrs_chain_meaning.proofs.ArraySteps.{ok_is}
-use Rattle.zarrs_plain_vlen.specs.Laws.{ReadsAlike}
+use Rattle.zarrs_plain_vlen.specs.Laws.{VlenReadsAlike}
 use Rattle.zarrs_chain_meaning.specs.vlen.PlainForm.{PlainForm}
 use Rattle.zarrs_plain_vlen.specs.VlenLayout.{VlenLayout, span_bytes, span_numbers, head_at, head_of, layout_at, layout_within, layout_of}
-use Rattle.zarrs_plain_vlen.specs.VlenRead.{is_there, offsets_read, elements_read, vlen_read, numbers_in, element_numbers, elements_at, rests_on}
+use Rattle.zarrs_plain_vlen.specs.VlenRead.{element_is_there, offsets_read, elements_read, vlen_read, numbers_or_none, element_numbers, elements_at, rests_on}
 use Rattle.zarrs_plain_vlen.proofs.ElementBytes.{numbers_at, cut_numbered}
 use Rattle.zarrs_plain_vlen.proofs.LayoutParts.{parts_at, parts_are}
 use Rattle.zarrs_bytes.proofs.Ranges.{take_drop-numbers}
@@ -86,12 +86,12 @@ module _ (form : PlainForm) (count : ℕ) (value other places : List ℕ) (long 
   eight : (head : ByteSpan) → head_of form.at_end n ≡ Ok head → 8 ≤ n
   eight head e = long_if (nat_le 8 n) n (head_at form.at_end n) head refl e
 
-  from_head : (r : Result ByteSpan CodecError) → head_of form.at_end n ≡ r → All Same (numbers_in (seen span_numbers r))
+  from_head : (r : Result ByteSpan CodecError) → head_of form.at_end n ≡ r → All Same (numbers_or_none (seen span_numbers r))
       → (r >>= λ head. layout_within form.at_end n (length_of (span_bytes value head))) ≡ (r >>= λ head. layout_within form.at_end n (length_of (span_bytes other head)))
   from_head (Ok head) e h = ap (λ (bs : List ℕ). layout_within form.at_end n (length_of bs)) (span_alike head (head_inside form.at_end n head e) h)
   from_head (Err cause) e h = refl
 
-  layout_alike : All Same (numbers_in (seen span_numbers (head_of form.at_end n))) → layout_of form.at_end value ≡ layout_of form.at_end other
+  layout_alike : All Same (numbers_or_none (seen span_numbers (head_of form.at_end n))) → layout_of form.at_end value ≡ layout_of form.at_end other
   layout_alike h =
       from_head (head_of form.at_end n) refl h
       ∙ ap (λ (k : ℕ). head_of form.at_end k >>= λ head. layout_within form.at_end k (length_of (span_bytes other head))) long
@@ -102,11 +102,11 @@ module _ (form : PlainForm) (count : ℕ) (value other places : List ℕ) (long 
 
   -- ---- the elements
 
-  chunk_alike : (start end : ℕ) (offsets ps : List ℕ) → start ≤ end → end ≤ n → list_all (is_there offsets (end - start)) ps ≡ true → All Same (element_numbers start offsets ps)
+  chunk_alike : (start end : ℕ) (offsets ps : List ℕ) → start ≤ end → end ≤ n → list_all (element_is_there offsets (end - start)) ps ≡ true → All Same (element_numbers start offsets ps)
       → map (λ place. plain (cut offsets (between start end value) place)) ps ≡ map (λ place. plain (cut offsets (between start end other) place)) ps
   chunk_alike start end offsets [] ordered inside there h = refl
   chunk_alike start end offsets (place ∷ ps) ordered inside there h =
-      let both = and_parts (is_there offsets (end - start) place) (list_all (is_there offsets (end - start)) ps) there in
+      let both = and_parts (element_is_there offsets (end - start) place) (list_all (element_is_there offsets (end - start)) ps) there in
       let first = All-first Same (numbers_at start offsets place) (element_numbers start offsets ps) h in
       let cuts : cut offsets (between start end value) place ≡ cut offsets (between start end other) place =
       cut_numbered value start end offsets place ordered inside both.0
@@ -114,7 +114,7 @@ module _ (form : PlainForm) (count : ℕ) (value other places : List ℕ) (long 
       ∙ sym (cut_numbered other start end offsets place ordered (omega (arith, inside, long)) both.0) in
       ap₂ (λ (c : List ℕ) (cs : Chunk). plain c ∷ cs) cuts (chunk_alike start end offsets ps ordered inside both.1 (All-second Same (numbers_at start offsets place) (element_numbers start offsets ps) h))
 
-  chunk_if : (test : Bool) (span : ByteSpan) (offsets : List ℕ) → list_all (is_there offsets (span.end - span.start)) places ≡ test → IsInside n span → All Same (element_numbers span.start offsets places)
+  chunk_if : (test : Bool) (span : ByteSpan) (offsets : List ℕ) → list_all (element_is_there offsets (span.end - span.start)) places ≡ test → IsInside n span → All Same (element_numbers span.start offsets places)
       → (demand test InvalidByteRange >>= λ _. ok (map (λ place. plain (cut offsets (span_bytes value span) place)) places)) ≡ (demand test InvalidByteRange >>= λ _. ok (map (λ place. plain (cut offsets (span_bytes other span) place)) places))
   chunk_if true span offsets t i h = ap ok (chunk_alike span.start span.end offsets places i.ordered i.inside t h)
   chunk_if false span offsets t i h = refl
@@ -126,9 +126,9 @@ module _ (form : PlainForm) (count : ℕ) (value other places : List ℕ) (long 
       let e = i.inside in
       let one : length (span_bytes value span) ≡ span.end - span.start = length_between span.start span.end value o e in
       let two : length (span_bytes other span) ≡ span.end - span.start = length_between span.start span.end other o (omega (arith, e, long)) in
-      ap (λ (k : ℕ). demand (list_all (is_there offsets k) places) InvalidByteRange >>= λ _. ok (map (λ place. plain (cut offsets (span_bytes value span) place)) places)) one
-      ∙ chunk_if (list_all (is_there offsets (span.end - span.start)) places) span offsets refl i h
-      ∙ ap (λ (k : ℕ). demand (list_all (is_there offsets k) places) InvalidByteRange >>= λ _. ok (map (λ place. plain (cut offsets (span_bytes other span) place)) places)) (sym two)
+      ap (λ (k : ℕ). demand (list_all (element_is_there offsets k) places) InvalidByteRange >>= λ _. ok (map (λ place. plain (cut offsets (span_bytes value span) place)) places)) one
+      ∙ chunk_if (list_all (element_is_there offsets (span.end - span.start)) places) span offsets refl i h
+      ∙ ap (λ (k : ℕ). demand (list_all (element_is_there offsets k) places) InvalidByteRange >>= λ _. ok (map (λ place. plain (cut offsets (span_bytes other span) place)) places)) (sym two)
 
   -- ---- the read
 
@@ -144,14 +144,14 @@ module _ (form : PlainForm) (count : ℕ) (value other places : List ℕ) (long 
       ap (λ (r : Result (List ℕ × List ℕ) CodecError). r >>= λ parts. offsets_read form count parts.0 >>= λ offsets. elements_read offsets parts.1 places) (parts_are form.at_end v)
       ∙ read_each v (layout_of form.at_end v)
 
-  from_offsets : (l : VlenLayout) (r : Result (List ℕ) CodecError) → LayoutInside n l → All Same (numbers_in (r >>= λ offsets. ok (element_numbers l.content.start offsets places)))
+  from_offsets : (l : VlenLayout) (r : Result (List ℕ) CodecError) → LayoutInside n l → All Same (numbers_or_none (r >>= λ offsets. ok (element_numbers l.content.start offsets places)))
       → (r >>= λ offsets. elements_read offsets (span_bytes value l.content) places) ≡ (r >>= λ offsets. elements_read offsets (span_bytes other l.content) places)
   from_offsets l (Ok offsets) i h = elements_alike l.content offsets i.content h
   from_offsets l (Err cause) i h = refl
 
   from_layout : (r : Result VlenLayout CodecError) → ((l : VlenLayout) → r ≡ Ok l → LayoutInside n l)
-      → All Same (numbers_in (seen (λ layout. span_numbers layout.index) r))
-      → All Same (numbers_in (r >>= λ layout. offsets_read form count (span_bytes value layout.index) >>= λ offsets. ok (element_numbers layout.content.start offsets places)))
+      → All Same (numbers_or_none (seen (λ layout. span_numbers layout.index) r))
+      → All Same (numbers_or_none (r >>= λ layout. offsets_read form count (span_bytes value layout.index) >>= λ offsets. ok (element_numbers layout.content.start offsets places)))
       → read_at value r ≡ read_at other r
   from_layout (Ok l) known h k =
       let i = known l refl in
@@ -161,14 +161,14 @@ module _ (form : PlainForm) (count : ℕ) (value other places : List ℕ) (long 
 
   pub alike : All Same (rests_on form count value places) → vlen_read form count value places ≡ vlen_read form count other places
   alike h =
-      let head = numbers_in (seen span_numbers (head_of form.at_end n)) in
-      let index = numbers_in (seen (λ layout. span_numbers layout.index) (layout_of form.at_end value)) in
-      let elements = numbers_in (elements_at form count value places) in
+      let head = numbers_or_none (seen span_numbers (head_of form.at_end n)) in
+      let index = numbers_or_none (seen (λ layout. span_numbers layout.index) (layout_of form.at_end value)) in
+      let elements = numbers_or_none (elements_at form count value places) in
       let later = All-second Same head (index ++ elements) h in
       read_is value
       ∙ from_layout (layout_of form.at_end value) (λ l e. layout_known (head_of form.at_end n) l refl e) (All-first Same index elements later) (All-second Same index elements later)
       ∙ ap (read_at other) (layout_alike (All-first Same head (index ++ elements) h))
       ∙ sym (read_is other)
 
-pub reads_alike : ReadsAlike
+pub reads_alike : VlenReadsAlike
 reads_alike form count value other places long h = alike form count value other places long h

@@ -24,8 +24,8 @@ use Rattle.zarrs_array_bytes.proofs.OffsetLemmas.{rising_steps, rising_last, end
 use Rattle.zarrs_array_bytes.proofs.RunLemmas.{rising_between, ends_of_run, flat_map-take_runs}
 use Rattle.zarrs_array_bytes.proofs.ValidLemmas.{length_due}
 use Rattle.zarrs_array_bytes.proofs.Pieces.{take-drop-take}
-use Rattle.zarrs_plain_vlen.specs.Elements.{blank_element}
-use Rattle.zarrs_plain_vlen.specs.VlenRead.{is_there, element_numbers}
+use Rattle.zarrs_plain_vlen.specs.Elements.{element_zeros}
+use Rattle.zarrs_plain_vlen.specs.VlenRead.{element_is_there, element_numbers}
 use Rattle.zarrs_bytes.proofs.Ranges.{take_drop-numbers, all_below-range}
 use Rattle.zarrs_plain_vlen.proofs.RangesRead.{byte_of}
 
@@ -36,7 +36,7 @@ there_joined a b c size h l = grind (arith, nat_tests)
 
 -- the elements of a run are there where its end is
 pub run_there : (offsets : List ℕ) → is_offsets offsets ≡ true → (size first count : ℕ) → first + count < length offsets
-    → list_all (is_there offsets size) (range_with_len first count) ≡ (nat_le (slice_index offsets (first + count)) (slice_index offsets first) || nat_le (slice_index offsets (first + count)) size)
+    → list_all (element_is_there offsets size) (range_with_len first count) ≡ (nat_le (slice_index offsets (first + count)) (slice_index offsets first) || nat_le (slice_index offsets (first + count)) size)
 run_there offsets h size first zero l =
     let e : first + 0 ≡ first = omega arith in
     rw e (grind (arith, nat_tests))
@@ -44,7 +44,7 @@ run_there offsets h size first (suc count) l =
     let at : first + 1 + count ≡ first + suc count = omega arith in
     let rest = run_there offsets h size (first + 1) count (omega arith) in
     let up : slice_index offsets (first + 1) ≤ slice_index offsets (first + 1 + count) = rising_between offsets h (first + 1) count (omega arith) in
-    ap (λ (b : Bool). is_there offsets size first && b) rest
+    ap (λ (b : Bool). element_is_there offsets size first && b) rest
     ∙ there_joined (slice_index offsets first) (slice_index offsets (first + 1)) (slice_index offsets (first + 1 + count)) size (rising_steps offsets h first (omega arith)) up
     ∙ ap (λ (k : ℕ). nat_le (slice_index offsets k) (slice_index offsets first) || nat_le (slice_index offsets k) size) at
 
@@ -56,7 +56,7 @@ at_run test (run ∷ runs) (suc i) d l h =
     at_run test runs i d (omega arith) (and_parts (list_all test (range_with_len run.0 run.1)) (list_all test (joined_runs runs)) (sym (list_all-append test (range_with_len run.0 run.1) (joined_runs runs)) ∙ h)).1
 
 -- ends where 64 bits count it
-pub run_end_fits : (offsets : List ℕ) → is_offsets offsets ≡ true → (start size first count limit : ℕ) → first + count < length offsets → list_all (is_there offsets size) (range_with_len first count) ≡ true → start + size < limit
+pub run_end_fits : (offsets : List ℕ) → is_offsets offsets ≡ true → (start size first count limit : ℕ) → first + count < length offsets → list_all (element_is_there offsets size) (range_with_len first count) ≡ true → start + size < limit
     → slice_index offsets first < slice_index offsets (first + count) → start + slice_index offsets (first + count) < limit
 run_end_fits offsets h start size first count limit l there fits some =
     let test : (nat_le (slice_index offsets (first + count)) (slice_index offsets first) || nat_le (slice_index offsets (first + count)) size) ≡ true = sym (run_there offsets h size first count l) ∙ there in
@@ -64,13 +64,13 @@ run_end_fits offsets h start size first count limit l there fits some =
 
 -- the two tests of a run, by where it begins and ends
 pub none_there : (offsets : List ℕ) → is_offsets offsets ≡ true → (size first count from to : ℕ) → first + count < length offsets → from ≡ slice_index offsets first → to ≡ slice_index offsets (first + count) → to ≤ from
-    → nat_le to from ≡ list_all (is_there offsets size) (range_with_len first count)
+    → nat_le to from ≡ list_all (element_is_there offsets size) (range_with_len first count)
 none_there offsets h size first count from to l begins ends le =
     let e : nat_le to from ≡ (nat_le to from || nat_le to size) = grind (arith, nat_tests) in
     e ∙ ap₂ (λ (a b : ℕ). nat_le b a || nat_le b size) begins ends ∙ sym (run_there offsets h size first count l)
 
 pub some_there : (offsets : List ℕ) → is_offsets offsets ≡ true → (size first count from to : ℕ) → first + count < length offsets → from ≡ slice_index offsets first → to ≡ slice_index offsets (first + count) → from < to
-    → nat_le to size ≡ list_all (is_there offsets size) (range_with_len first count)
+    → nat_le to size ≡ list_all (element_is_there offsets size) (range_with_len first count)
 some_there offsets h size first count from to l begins ends lt =
     let e : nat_le to size ≡ (nat_le to from || nat_le to size) = grind (arith, nat_tests) in
     e ∙ ap₂ (λ (a b : ℕ). nat_le b a || nat_le b size) begins ends ∙ sym (run_there offsets h size first count l)
@@ -119,10 +119,10 @@ numbers_below : (start size n a b : ℕ) → (nat_le b a || nat_le b size) ≡ t
 numbers_below start size n a b there h = range_below n (start + a) (b - a) (λ l. grind (arith, nat_tests))
 
 -- the bytes of elements that are there lie inside
-pub numbers_inside : (start size n : ℕ) (offsets places : List ℕ) → start + size ≤ n → list_all (is_there offsets size) places ≡ true → list_all (λ k. nat_lt k n) (element_numbers start offsets places) ≡ true
+pub numbers_inside : (start size n : ℕ) (offsets places : List ℕ) → start + size ≤ n → list_all (element_is_there offsets size) places ≡ true → list_all (λ k. nat_lt k n) (element_numbers start offsets places) ≡ true
 numbers_inside start size n offsets [] h e = refl
 numbers_inside start size n offsets (place ∷ places) h e =
-    let both = and_parts (is_there offsets size place) (list_all (is_there offsets size) places) e in
+    let both = and_parts (element_is_there offsets size place) (list_all (element_is_there offsets size) places) e in
     list_all-append (λ k. nat_lt k n) (numbers_at start offsets place) (element_numbers start offsets places)
     ∙ ap₂ (λ (a b : Bool). a && b) (numbers_below start size n (slice_index offsets place) (slice_index offsets (place + 1)) both.0 h) (numbers_inside start size n offsets places h both.1)
 
@@ -146,17 +146,17 @@ numbered_if false value start end a b t ordered inside there =
     nested start end a b value over (omega arith) ∙ take_drop-numbers value (start + a) (b - a) (omega arith)
 
 -- an element that is there has the bytes with its numbers
-pub cut_numbered : (value : List ℕ) (start end : ℕ) (offsets : List ℕ) (place : ℕ) → start ≤ end → end ≤ length value → is_there offsets (end - start) place ≡ true
+pub cut_numbered : (value : List ℕ) (start end : ℕ) (offsets : List ℕ) (place : ℕ) → start ≤ end → end ≤ length value → element_is_there offsets (end - start) place ≡ true
     → cut offsets (between start end value) place ≡ map (byte_of value) (numbers_at start offsets place)
 cut_numbered value start end offsets place ordered inside there =
     numbered_if (nat_le (slice_index offsets (place + 1)) (slice_index offsets place)) value start end (slice_index offsets place) (slice_index offsets (place + 1)) refl ordered inside there
 
 -- and so the elements at places
-pub cuts_numbered : (value : List ℕ) (start end : ℕ) (offsets places : List ℕ) → start ≤ end → end ≤ length value → list_all (is_there offsets (end - start)) places ≡ true
+pub cuts_numbered : (value : List ℕ) (start end : ℕ) (offsets places : List ℕ) → start ≤ end → end ≤ length value → list_all (element_is_there offsets (end - start)) places ≡ true
     → flat_map (cut offsets (between start end value)) places ≡ map (byte_of value) (element_numbers start offsets places)
 cuts_numbered value start end offsets [] ordered inside there = refl
 cuts_numbered value start end offsets (place ∷ places) ordered inside there =
-    let both = and_parts (is_there offsets (end - start) place) (list_all (is_there offsets (end - start)) places) there in
+    let both = and_parts (element_is_there offsets (end - start) place) (list_all (element_is_there offsets (end - start)) places) there in
     ap₂ (λ (x y : List ℕ). x ++ y) (cut_numbered value start end offsets place ordered inside both.0) (cuts_numbered value start end offsets places ordered inside both.1)
     ∙ sym (map-append (byte_of value) (numbers_at start offsets place) (element_numbers start offsets places))
 
@@ -167,47 +167,47 @@ short_there a b size there xs long =
     let taken : length (between a b xs) ≡ _ = length-take (b - a) (drop a xs) in
     grind (arith, nat_tests, taken, length-drop a xs)
 
-pub cut_long : (offsets content : List ℕ) (place : ℕ) → is_there offsets (length content) place ≡ true → length (cut offsets content place) ≡ length (blank_element offsets place)
+pub cut_long : (offsets content : List ℕ) (place : ℕ) → element_is_there offsets (length content) place ≡ true → length (cut offsets content place) ≡ length (element_zeros offsets place)
 cut_long offsets content place there =
     short_there (slice_index offsets place) (slice_index offsets (place + 1)) (length content) there content refl
     ∙ sym (length-replicate (slice_index offsets (place + 1) - slice_index offsets place) 0)
 
 -- elements that are there are as long as blank ones
-pub cuts_long : (offsets content places : List ℕ) → list_all (is_there offsets (length content)) places ≡ true → length (flat_map (cut offsets content) places) ≡ length (flat_map (blank_element offsets) places)
+pub cuts_long : (offsets content places : List ℕ) → list_all (element_is_there offsets (length content)) places ≡ true → length (flat_map (cut offsets content) places) ≡ length (flat_map (element_zeros offsets) places)
 cuts_long offsets content [] there = refl
 cuts_long offsets content (place ∷ places) there =
-    let both = and_parts (is_there offsets (length content) place) (list_all (is_there offsets (length content)) places) there in
+    let both = and_parts (element_is_there offsets (length content) place) (list_all (element_is_there offsets (length content)) places) there in
     length-append (cut offsets content place) (flat_map (cut offsets content) places)
     ∙ ap₂ (λ (m n : ℕ). m + n) (cut_long offsets content place both.0) (cuts_long offsets content places both.1)
-    ∙ sym (length-append (blank_element offsets place) (flat_map (blank_element offsets) places))
+    ∙ sym (length-append (element_zeros offsets place) (flat_map (element_zeros offsets) places))
 
 -- and end where these do
-pub ends_long : (offsets content : List ℕ) (start : ℕ) (places : List ℕ) → list_all (is_there offsets (length content)) places ≡ true → ends start (map (blank_element offsets) places) ≡ ends start (map (cut offsets content) places)
+pub ends_long : (offsets content : List ℕ) (start : ℕ) (places : List ℕ) → list_all (element_is_there offsets (length content)) places ≡ true → ends start (map (element_zeros offsets) places) ≡ ends start (map (cut offsets content) places)
 ends_long offsets content start [] there = refl
 ends_long offsets content start (place ∷ places) there =
-    let both = and_parts (is_there offsets (length content) place) (list_all (is_there offsets (length content)) places) there in
-    let same : length (blank_element offsets place) ≡ length (cut offsets content place) = sym (cut_long offsets content place both.0) in
-    ap (λ (n : ℕ). (start + n) ∷ ends (start + n) (map (blank_element offsets) places)) same
+    let both = and_parts (element_is_there offsets (length content) place) (list_all (element_is_there offsets (length content)) places) there in
+    let same : length (element_zeros offsets place) ≡ length (cut offsets content place) = sym (cut_long offsets content place both.0) in
+    ap (λ (n : ℕ). (start + n) ∷ ends (start + n) (map (element_zeros offsets) places)) same
     ∙ ap (λ (ns : List ℕ). (start + length (cut offsets content place)) ∷ ns) (ends_long offsets content (start + length (cut offsets content place)) places both.1)
 
 -- all elements of a run are there, in as many bytes as the last offset says
-run_all_there : (offsets : List ℕ) → is_offsets offsets ≡ true → (first count : ℕ) → first + count < length offsets → list_all (is_there offsets (last_of offsets)) (range_with_len first count) ≡ true
+run_all_there : (offsets : List ℕ) → is_offsets offsets ≡ true → (first count : ℕ) → first + count < length offsets → list_all (element_is_there offsets (last_of offsets)) (range_with_len first count) ≡ true
 run_all_there offsets h first count l =
     let below : slice_index offsets (first + count) ≤ last_of offsets = rising_last offsets h (first + count) l in
     run_there offsets h (last_of offsets) first count l ∙ grind (arith, nat_tests)
 
 -- where the elements of a run end is where they ended, moved
 pub blank_ends : (offsets : List ℕ) → is_offsets offsets ≡ true → (start first count : ℕ) → first + count < length offsets
-    → ends start (map (blank_element offsets) (range_with_len first count)) ≡ map (λ end. end - slice_index offsets first + start) (take (first + count + 1 - (first + 1)) (drop (first + 1) offsets))
+    → ends start (map (element_zeros offsets) (range_with_len first count)) ≡ map (λ end. end - slice_index offsets first + start) (take (first + count + 1 - (first + 1)) (drop (first + 1) offsets))
 blank_ends offsets h start first count l =
     let zeros = replicate (last_of offsets) 0 in
     let long : length zeros ≡ last_of offsets = length-replicate (last_of offsets) 0 in
-    let there : list_all (is_there offsets (length zeros)) (range_with_len first count) ≡ true = rw long (run_all_there offsets h first count l) in
+    let there : list_all (element_is_there offsets (length zeros)) (range_with_len first count) ≡ true = rw long (run_all_there offsets h first count l) in
     ends_long offsets zeros start (range_with_len first count) there ∙ ends_of_run offsets zeros h (sym long) start first count l
 
 -- how many bytes a run has
 pub blank_run : (offsets : List ℕ) → is_offsets offsets ≡ true → (first count : ℕ) → first + count < length offsets
-    → length (flat_map (blank_element offsets) (range_with_len first count)) ≡ slice_index offsets (first + count) - slice_index offsets first
+    → length (flat_map (element_zeros offsets) (range_with_len first count)) ≡ slice_index offsets (first + count) - slice_index offsets first
 blank_run offsets h first zero l =
     let e : first + 0 ≡ first = omega arith in
     rw e (omega arith)
@@ -216,8 +216,8 @@ blank_run offsets h first (suc count) l =
     let up : slice_index offsets first ≤ slice_index offsets (first + 1) = rising_steps offsets h first (omega arith) in
     let over : slice_index offsets (first + 1) ≤ slice_index offsets (first + 1 + count) = rising_between offsets h (first + 1) count (omega arith) in
     let rest = blank_run offsets h (first + 1) count (omega arith) in
-    let one : length (blank_element offsets first) ≡ slice_index offsets (first + 1) - slice_index offsets first = length-replicate (slice_index offsets (first + 1) - slice_index offsets first) 0 in
-    rw (← at) (omega (arith, length-append (blank_element offsets first) (flat_map (blank_element offsets) (range_with_len (first + 1) count)), rest, one))
+    let one : length (element_zeros offsets first) ≡ slice_index offsets (first + 1) - slice_index offsets first = length-replicate (slice_index offsets (first + 1) - slice_index offsets first) 0 in
+    rw (← at) (omega (arith, length-append (element_zeros offsets first) (flat_map (element_zeros offsets) (range_with_len (first + 1) count)), rest, one))
 
 -- ---- a run's range
 
@@ -269,19 +269,19 @@ start_within f runs i =
 
 -- how many bytes the runs have up to one more
 pub start_next : (offsets : List ℕ) → is_offsets offsets ≡ true → (runs : List (ℕ × ℕ)) (i start : ℕ) → i < length runs → (get_or runs i (0, 0)).0 + (get_or runs i (0, 0)).1 < length offsets
-    → start ≡ length (flat_map (blank_element offsets) (joined_runs (take i runs)))
-    → start + (slice_index offsets ((get_or runs i (0, 0)).0 + (get_or runs i (0, 0)).1) - slice_index offsets (get_or runs i (0, 0)).0) ≡ length (flat_map (blank_element offsets) (joined_runs (take (i + 1) runs)))
+    → start ≡ length (flat_map (element_zeros offsets) (joined_runs (take i runs)))
+    → start + (slice_index offsets ((get_or runs i (0, 0)).0 + (get_or runs i (0, 0)).1) - slice_index offsets (get_or runs i (0, 0)).0) ≡ length (flat_map (element_zeros offsets) (joined_runs (take (i + 1) runs)))
 start_next offsets h runs i start l known at =
     let run = get_or runs i (0, 0) in
-    let more = start_more (blank_element offsets) runs i l in
+    let more = start_more (element_zeros offsets) runs i l in
     let one = blank_run offsets h run.0 run.1 known in
     omega (arith, at, more, one)
 
 pub start_fits : (offsets : List ℕ) → is_offsets offsets ≡ true → (runs : List (ℕ × ℕ)) (i start limit : ℕ) → i < length runs → (get_or runs i (0, 0)).0 + (get_or runs i (0, 0)).1 < length offsets
-    → start ≡ length (flat_map (blank_element offsets) (joined_runs (take i runs))) → length (flat_map (blank_element offsets) (joined_runs runs)) < limit
+    → start ≡ length (flat_map (element_zeros offsets) (joined_runs (take i runs))) → length (flat_map (element_zeros offsets) (joined_runs runs)) < limit
     → start + (slice_index offsets ((get_or runs i (0, 0)).0 + (get_or runs i (0, 0)).1) - slice_index offsets (get_or runs i (0, 0)).0) < limit
 start_fits offsets h runs i start limit l known at fits =
-    omega (arith, start_next offsets h runs i start l known at, start_within (blank_element offsets) runs (i + 1), fits)
+    omega (arith, start_next offsets h runs i start l known at, start_within (element_zeros offsets) runs (i + 1), fits)
 
 -- ---- the container
 

@@ -7,7 +7,7 @@ use Rattle.zarrs_chunk.specs.declared.codec_error.CodecError.{CodecError}
 use Rattle.zarrs_chunk.specs.declared.codec_error.CodecError.TheVariants.{InvalidBytesLength, IndexLength}
 use Rattle.zarrs_codec.specs.ByteSpan.{ByteSpan}
 use Rattle.zarrs_chain_meaning.specs.Parts.{length_of}
-use Rattle.zarrs_chain_meaning.specs.vlen.Vlen.{vlen_parts}
+use Rattle.zarrs_chain_meaning.specs.vlen.Vlen.{vlen_value_parts}
 use Rattle.zarrs_bytes.proofs.Coding.{ok}
 use Rattle.zarrs_plain_vlen.specs.VlenLayout.{VlenLayout, span_bytes, head_at, layout_at, layout_within, layout_of}
 
@@ -32,7 +32,7 @@ pair : (a b c d : List ℕ) → a ≡ c → b ≡ d → ◌≡◌ {A = Parts} (a
 pair a b c d e f = ap₂ (λ (x y : List ℕ). (x, y)) e f
 
 -- the parts are what stands there
-pub parts_are : (at_end : Bool) (value : List ℕ) → vlen_parts at_end value ≡ (layout_of at_end value >>= λ layout. ok (parts_at value layout))
+pub parts_are : (at_end : Bool) (value : List ℕ) → vlen_value_parts at_end value ≡ (layout_of at_end value >>= λ layout. ok (parts_at value layout))
 parts_are false value =
     let n = length value in
     let size = length_of (take 8 value) in

@@ -11,7 +11,7 @@ use Rattle.zarrs_chunk.specs.Selection.{Selection, places_of}
 use Rattle.zarrs_chunk.proofs.PlaceLaws.{known_below}
 use Rattle.zarrs_chain_meaning.specs.CodecMeaning.{CodecStands, codec_chunk, codec_representation, meaning}
 use Rattle.zarrs_chain_meaning.specs.Meaning.{Decoder, around_chunk, part_chunk}
-use Rattle.zarrs_chain_meaning.specs.vlen.Vlen.{vlen_chunk, vlen_parts, slices, offsets_in_chunk}
+use Rattle.zarrs_chain_meaning.specs.vlen.Vlen.{vlen_chunk, vlen_value_parts, slices, offsets_in_chunk}
 use Rattle.zarrs_chain_meaning.specs.Parts.{all_bytes, byte_type}
 use Rattle.zarrs_chunk.specs.declared.codec_error.CodecError.{CodecError}
 use Rattle.zarrs_chunk.specs.declared.codec_error.CodecError.TheVariants.{InvalidBytesLength, InvalidOffsets, InvalidByteRange, Overflow, EndiannessMissing}
@@ -37,11 +37,11 @@ use Rattle.zarrs_chain_meaning.specs.PlainChain.{bytes_codec}
 use Rattle.zarrs_bytes.proofs.Coding.{ok, bind_ok}
 use Rattle.zarrs_chain_meaning.proofs.ArraySteps.{err, ok_is, next_answer}
 use Rattle.zarrs_chain_meaning.proofs.CodecLaws.{chunk_only}
-use Rattle.zarrs_plain_vlen.specs.Laws.{ReadSelects, PartSelects}
+use Rattle.zarrs_plain_vlen.specs.Laws.{VlenReadSelects, PartSelects}
 use Rattle.zarrs_chain_meaning.specs.vlen.PlainVlen.{plain_codec_of}
 use Rattle.zarrs_chain_meaning.specs.vlen.PlainForm.{PlainForm}
 use Rattle.zarrs_chain_meaning.specs.vlen.VlenSteps.{offsets_form}
-use Rattle.zarrs_plain_vlen.specs.VlenRead.{is_there, offsets_of_index, offsets_read, elements_read, vlen_read}
+use Rattle.zarrs_plain_vlen.specs.VlenRead.{element_is_there, offsets_of_index, offsets_read, elements_read, vlen_read}
 use Rattle.zarrs_plain_vlen.proofs.IndexOffsets.{offsets_long, row_is}
 use Rattle.zarrs_chain_meaning.proofs.VlenOffsets.{rises_are}
 
@@ -111,11 +111,11 @@ there_if false a b last size t h l whole =
     grind (arith, nat_tests)
 
 -- elements of data that are as many as the last offset says are there, and so are those of none
-there_one : (offsets : List ℕ) (size place : ℕ) → is_offsets offsets ≡ true → place + 1 < length offsets → (0 < last_of offsets → size ≡ last_of offsets) → is_there offsets size place ≡ true
+there_one : (offsets : List ℕ) (size place : ℕ) → is_offsets offsets ≡ true → place + 1 < length offsets → (0 < last_of offsets → size ≡ last_of offsets) → element_is_there offsets size place ≡ true
 there_one offsets size place rising known whole =
     there_if (nat_le (last_of offsets) 0) (slice_index offsets place) (slice_index offsets (place + 1)) (last_of offsets) size refl (rising_steps offsets rising place known) (rising_last offsets rising (place + 1) known) whole
 
-there_all : (offsets : List ℕ) (size count : ℕ) (places : List ℕ) → is_offsets offsets ≡ true → length offsets ≡ count + 1 → (0 < last_of offsets → size ≡ last_of offsets) → All (λ place. place < count) places → list_all (is_there offsets size) places ≡ true
+there_all : (offsets : List ℕ) (size count : ℕ) (places : List ℕ) → is_offsets offsets ≡ true → length offsets ≡ count + 1 → (0 < last_of offsets → size ≡ last_of offsets) → All (λ place. place < count) places → list_all (element_is_there offsets size) places ≡ true
 there_all offsets size count [] rising long whole h = refl
 there_all offsets size count (place ∷ places) rising long whole h =
     let below : place < count = h 0 place (omega arith) in
@@ -146,7 +146,7 @@ whole_selects : (form : PlainForm) (order : Option Endianness) (count : ℕ) (va
     → vlen_read form count value places ≡ Ok (select chunk places)
 whole_selects form order count value chunk places e below =
     let wide = form.wide in
-    let parts = bind_ok (vlen_parts form.at_end value) _ chunk e in
+    let parts = bind_ok (vlen_value_parts form.at_end value) _ chunk e in
     let index = parts.0.0 in
     let content = parts.0.1 in
     let counted = bind_ok (checked_u64 (count + 1)) _ chunk parts.2 in
@@ -162,8 +162,8 @@ whole_selects form order count value chunk places e below =
     let long : length offsets ≡ count + 1 = offsets_long form count index offsets read in
     let up : is_offsets offsets ≡ true = rises_are offsets (omega (arith, long)) ∙ demand_ok (rises offsets) InvalidOffsets rising.1 in
     let known = data_known order (last_of offsets) content items.0 items.1 in
-    let there : list_all (is_there offsets (length content)) places ≡ true = there_all offsets (length content) count places up long (λ some. (known some).0) below in
-    next_answer (vlen_parts form.at_end value) parts.0 (λ p. offsets_read form count p.0 >>= λ os. elements_read os p.1 places) parts.1
+    let there : list_all (element_is_there offsets (length content)) places ≡ true = there_all offsets (length content) count places up long (λ some. (known some).0) below in
+    next_answer (vlen_value_parts form.at_end value) parts.0 (λ p. offsets_read form count p.0 >>= λ os. elements_read os p.1 places) parts.1
     ∙ next_answer (offsets_read form count index) offsets (λ os. elements_read os content places) read
     ∙ ap (λ (b : Bool). demand b InvalidByteRange >>= λ _. ok (map (λ place. plain (cut offsets content place)) places)) there
     ∙ ap ok (sym (cuts_all offsets (all_bytes items.0) content count places up long (λ some. (known some).1) below))
@@ -205,7 +205,7 @@ decoded_selects f form order sizes type fill value chunk places e below =
 none_mapping : All IsMapping []
 none_mapping = λ k d l. absurd (omega arith)
 
-pub read_selects : {B : Type 0} (f : BytesCodecs B) → ReadSelects f
+pub read_selects : {B : Type 0} (f : BytesCodecs B) → VlenReadSelects f
 unfolding meaning
 read_selects f form order sizes type fill value chunk places positive stands below =
     decoded_selects f form order sizes type fill value chunk places

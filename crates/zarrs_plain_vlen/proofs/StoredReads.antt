@@ -5,14 +5,14 @@ use Rattle.zarrs_chunk.specs.Answer.{◌>>=◌, seen}
 use Rattle.zarrs_chunk.specs.declared.codec_error.CodecError.{CodecError}
 use Rattle.zarrs_data_type.specs.Element.{Chunk}
 use Rattle.zarrs_codec.specs.StorageState.{are_sure}
-use Rattle.zarrs_chain_meaning.specs.vlen.Vlen.{vlen_parts}
+use Rattle.zarrs_chain_meaning.specs.vlen.Vlen.{vlen_value_parts}
 use Rattle.zarrs_bytes.proofs.Coding.{ok}
 use Rattle.zarrs_chain_meaning.proofs.ArraySteps.{err, next_answer}
 use Rattle.zarrs_chain_meaning.specs.vlen.PlainForm.{PlainForm}
 use Rattle.zarrs_plain_vlen.specs.VlenLayout.{VlenLayout, span_bytes, span_numbers, head_of, layout_of}
 use Rattle.zarrs_data_type.specs.ElementType.{ElementType}
 use Rattle.zarrs_plain_vlen.specs.PlainRead.{plain_read}
-use Rattle.zarrs_plain_vlen.specs.VlenRead.{stored_vlen_read, offsets_read, elements_read, vlen_read, numbers_in, elements_at, rests_on}
+use Rattle.zarrs_plain_vlen.specs.VlenRead.{stored_vlen_read, offsets_read, elements_read, vlen_read, numbers_or_none, elements_at, rests_on}
 use Rattle.zarrs_plain_vlen.proofs.IndexOffsets.{offsets_long}
 use Rattle.zarrs_plain_vlen.proofs.LayoutParts.{parts_at, parts_are}
 use Rattle.zarrs_bytes.proofs.BytesAt.{sure_parts}
@@ -26,36 +26,36 @@ module _ (form : PlainForm) (count : ℕ) (value places : List ℕ) where
   abbrev pub rest : List ℕ × List ℕ → Result Chunk CodecError
   rest parts = offsets_read form count parts.0 >>= λ offsets. elements_read offsets parts.1 places
 
-  parts_ok : (layout : VlenLayout) → layout_of form.at_end value ≡ Ok layout → vlen_parts form.at_end value ≡ ok (parts_at value layout)
+  parts_ok : (layout : VlenLayout) → layout_of form.at_end value ≡ Ok layout → vlen_value_parts form.at_end value ≡ ok (parts_at value layout)
   parts_ok layout e = parts_are form.at_end value ∙ next_answer (layout_of form.at_end value) layout (λ l. ok (parts_at value l)) e
 
   pub read_unindexed : (layout : VlenLayout) (cause : CodecError) → layout_of form.at_end value ≡ Ok layout → offsets_read form count (span_bytes value layout.index) ≡ Err cause → vlen_read form count value places ≡ Err cause
   read_unindexed layout cause e f =
-      next_answer (vlen_parts form.at_end value) (parts_at value layout) rest (parts_ok layout e)
+      next_answer (vlen_value_parts form.at_end value) (parts_at value layout) rest (parts_ok layout e)
       ∙ next_err (offsets_read form count (span_bytes value layout.index)) cause (λ offsets. elements_read offsets (span_bytes value layout.content) places) f
 
   pub read_indexed : (layout : VlenLayout) (offsets : List ℕ) → layout_of form.at_end value ≡ Ok layout → offsets_read form count (span_bytes value layout.index) ≡ Ok offsets
       → vlen_read form count value places ≡ elements_read offsets (span_bytes value layout.content) places
   read_indexed layout offsets e f =
-      next_answer (vlen_parts form.at_end value) (parts_at value layout) rest (parts_ok layout e)
+      next_answer (vlen_value_parts form.at_end value) (parts_at value layout) rest (parts_ok layout e)
       ∙ next_answer (offsets_read form count (span_bytes value layout.index)) offsets (λ offsets. elements_read offsets (span_bytes value layout.content) places) f
 
 -- ---- sure bytes
 
 module _ (form : PlainForm) (count : ℕ) (value places : List ℕ) (sure : Option (ℕ → Bool)) (h : are_sure sure (rests_on form count value places) ≡ true) where
   abbrev pub head : List ℕ
-  head = numbers_in (seen span_numbers (head_of form.at_end (length value)))
+  head = numbers_or_none (seen span_numbers (head_of form.at_end (length value)))
 
   abbrev pub index : List ℕ
-  index = numbers_in (seen (λ layout. span_numbers layout.index) (layout_of form.at_end value))
+  index = numbers_or_none (seen (λ layout. span_numbers layout.index) (layout_of form.at_end value))
 
   abbrev pub elements : List ℕ
-  elements = numbers_in (elements_at form count value places)
+  elements = numbers_or_none (elements_at form count value places)
 
   pub sure_index : (layout : VlenLayout) → layout_of form.at_end value ≡ Ok layout → are_sure sure (span_numbers layout.index) ≡ true
   sure_index layout e =
       let both = sure_parts sure index elements (sure_parts sure head (index ++ elements) h).1 in
-      ap (λ (r : Result VlenLayout CodecError). are_sure sure (numbers_in (seen (λ layout. span_numbers layout.index) r))) (sym e) ∙ both.0
+      ap (λ (r : Result VlenLayout CodecError). are_sure sure (numbers_or_none (seen (λ layout. span_numbers layout.index) r))) (sym e) ∙ both.0
 
 -- ---- runs
 

@@ -21,15 +21,15 @@ use Rattle.zarrs_plain_vlen.specs.PlainRead.{plain_part}
 use Rattle.zarrs_plain_vlen.specs.VlenRead.{offsets_read, vlen_read, rests_on}
 
 -- Of a value that stands for a chunk, a read of places inside selects the chunk's elements.
-abbrev pub ReadSelects : {B : Type 0} → BytesCodecs B → Type 0
-ReadSelects {B} f =
+abbrev pub VlenReadSelects : {B : Type 0} → BytesCodecs B → Type 0
+VlenReadSelects {B} f =
     (form : PlainForm) (content : Option Endianness) (sizes : List ℕ) (type : ElementType) (fill value : List ℕ) (chunk : Chunk) (places : List ℕ)
     → All (λ size. 0 < size) sizes → CodecStands f (plain_codec_of form content) sizes type fill value chunk → All (λ place. place < product sizes) places
     → vlen_read form (product sizes) value places ≡ Ok (select chunk places)
 
 -- A read rests on these bytes alone: two values of one length that have the same bytes there are read alike at these places, or rejected for the same cause.
-abbrev pub ReadsAlike : Type 0
-ReadsAlike =
+abbrev pub VlenReadsAlike : Type 0
+VlenReadsAlike =
     (form : PlainForm) (count : ℕ) (value other places : List ℕ)
     → length value ≡ length other → All (λ number. slice_index value number ≡ slice_index other number) (rests_on form count value places)
     → vlen_read form count value places ≡ vlen_read form count other places

@@ -8,7 +8,7 @@ use Rattle.zarrs_data_type.specs.Element.{plain, Chunk}
 use Rattle.zarrs_array_bytes.specs.Elements.{cut}
 use Rattle.zarrs_array_bytes.specs.Offsets.{rises}
 use Rattle.zarrs_bytes.specs.BytesCodec.{bytes_chunk}
-use Rattle.zarrs_chain_meaning.specs.vlen.Vlen.{offsets_in_chunk, vlen_parts}
+use Rattle.zarrs_chain_meaning.specs.vlen.Vlen.{offsets_in_chunk, vlen_value_parts}
 use Rattle.zarrs_chain_meaning.specs.vlen.PlainForm.{PlainForm}
 use Rattle.zarrs_plain_vlen.specs.VlenLayout.{span_numbers, head_of, layout_of, span_bytes}
 use Rattle.zarrs_chain_meaning.specs.vlen.VlenSteps.{offsets_form}
@@ -29,33 +29,33 @@ offsets_read form count index = do
   offsets_of_index form (count + 1) index
 
 -- the element at a place is empty, or ends within so many bytes of data
-abbrev pub is_there : List ℕ → ℕ → ℕ → Bool
-is_there offsets size place =
+abbrev pub element_is_there : List ℕ → ℕ → ℕ → Bool
+element_is_there offsets size place =
     nat_le (slice_index offsets (place + 1)) (slice_index offsets place) || nat_le (slice_index offsets (place + 1)) size
 
 -- the elements at places, each the data from its offset to the next, where all are there
 abbrev pub elements_read : List ℕ → List ℕ → List ℕ → Result Chunk CodecError
 elements_read offsets content places = do
-  _ ← demand (list_all (is_there offsets (length content)) places) InvalidByteRange
+  _ ← demand (list_all (element_is_there offsets (length content)) places) InvalidByteRange
   Ok (map (λ place. plain (cut offsets content place)) places)
 
 -- The elements at places of a chunk of so many, by a value's index and the elements' bytes alone; or the first error: of the value's parts; of the index, also where there are no places; of an element that isn't there.
 abbrev pub vlen_read : PlainForm → ℕ → List ℕ → List ℕ → Result Chunk CodecError
 vlen_read form count value places = do
-  parts ← vlen_parts form.at_end value
+  parts ← vlen_value_parts form.at_end value
   offsets ← offsets_read form count parts.0
   elements_read offsets parts.1 places
 
 -- ---- what it rests on
 
 -- the numbers, or none of what is rejected
-abbrev pub numbers_in : Result (List ℕ) CodecError → List ℕ
-numbers_in (Ok numbers) = numbers
-numbers_in (Err cause) = []
+abbrev pub numbers_or_none : Result (List ℕ) CodecError → List ℕ
+numbers_or_none (Ok numbers) = numbers
+numbers_or_none (Err cause) = []
 
 -- the numbers of the bytes of the index's length, where a value of so many bytes has them
 abbrev pub head_numbers : Bool → ℕ → List ℕ
-head_numbers at_end size = numbers_in (seen span_numbers (head_of at_end size))
+head_numbers at_end size = numbers_or_none (seen span_numbers (head_of at_end size))
 
 -- the numbers of the bytes of the elements at places, of data that begin at `start`
 abbrev pub element_numbers : ℕ → List ℕ → List ℕ → List ℕ
@@ -73,7 +73,7 @@ elements_at form count value places = do
 abbrev pub rests_on : PlainForm → ℕ → List ℕ → List ℕ → List ℕ
 rests_on form count value places =
     head_numbers form.at_end (length value)
-    ++ (numbers_in (seen (λ layout. span_numbers layout.index) (layout_of form.at_end value)) ++ numbers_in (elements_at form count value places))
+    ++ (numbers_or_none (seen (λ layout. span_numbers layout.index) (layout_of form.at_end value)) ++ numbers_or_none (elements_at form count value places))
 
 -- the same of what is stored: of nothing it rests on no bytes
 abbrev pub stored_rests_on : PlainForm → ℕ → Option (List ℕ) → List ℕ → List ℕ

@@ -9,10 +9,10 @@ ghost use Rattle.zarrs_array_bytes.specs.Offsets.{is_offsets, last_of};
 ghost use Rattle.zarrs_codec.specs.ByteRanges.{range_indices};
 ghost use Rattle.zarrs_codec.specs.StorageState.{after_reading};
 ghost use Rattle.zarrs_array_bytes.specs.Cuts.{run_size};
-ghost use Rattle.zarrs_plain_vlen.specs.Elements.{AddsNumbers, joined_size, run_bytes, blank_element, bytes_read};
+ghost use Rattle.zarrs_plain_vlen.specs.Elements.{AddsNumbers, joined_size, run_numbers, element_zeros, joined_elements};
 ghost use Rattle.zarrs_plain_vlen.specs.StoredBytes.{SureAt, stored_bytes};
 ghost use Rattle.zarrs_plain_vlen.specs.VlenLayout.{span_numbers, span_bytes};
-ghost use Rattle.zarrs_plain_vlen.specs.VlenRead.{is_there, element_numbers, elements_read};
+ghost use Rattle.zarrs_plain_vlen.specs.VlenRead.{element_is_there, element_numbers, elements_read};
 ghost use Rattle.zarrs_chunk.specs.Answer.{Appends, AnswersBy, AnswersItems, memory_or_fault};
 ghost use Rattle.zarrs_array_bytes.specs.Pieces.{ends as ends_of};
 ghost use Rattle.zarrs_array_bytes.specs.Validity.{Holds};
@@ -31,7 +31,7 @@ use zarrs_data_type::DataType;
 fn run_is_there(offsets: &Offsets, size: u64, first: usize, count: usize) -> bool
     requires rising { is_offsets offsets.now ≡ true }
     requires known { first + count < length offsets.now }
-    ensures value { result ≡ list_all (is_there offsets.now size) (range_with_len first count) }
+    ensures value { result ≡ list_all (element_is_there offsets.now size) (range_with_len first count) }
 {
     let from = offsets.at(first);
     let to = offsets.at(first + count);
@@ -42,9 +42,8 @@ fn run_is_there(offsets: &Offsets, size: u64, first: usize, count: usize) -> boo
 fn are_there(offsets: &Offsets, size: u64, runs: &[(u64, u64)]) -> bool
     requires rising { is_offsets offsets.now ≡ true }
     requires known { All (λ run. run.0 + run.1 < length offsets.now) runs.now }
-    // Wide: the tests of all runs, and of all elements of each, stand as the proof takes them.
     ensures value { result ≡ list_all
-        (λ run. list_all (is_there offsets.now size) (range_with_len run.0 run.1)) runs.now }
+        (λ run. list_all (element_is_there offsets.now size) (range_with_len run.0 run.1)) runs.now }
 {
     for (first, count) in runs {
         if !run_is_there(offsets, size, *first as usize, *count as usize) {
@@ -86,11 +85,9 @@ fn plan_run(
 ) -> Result<(), AllocError>
     requires rising { is_offsets offsets.now ≡ true }
     requires known { first + count < length offsets.now }
-    // Wide: no other clause says this, so it is written out.
     requires ends { slice_index offsets.now first < slice_index offsets.now (first + count)
         → start + slice_index offsets.now (first + count) < 2 ^ 64 }
     requires filled { All (λ range. range.start < range.end) ranges.old.items }
-    // Wide: no other clause says this, so it is written out.
     ensures numbers { OnOk result (AddsNumbers
         (element_numbers start offsets.now (range_with_len first count)) ranges.old ranges.new) }
     ensures filled { OnOk result (All (λ range. range.start < range.end) ranges.new.items) }
@@ -114,10 +111,10 @@ fn plan_runs(
 ) -> Result<Vec<ByteRange>, AllocError>
     requires rising { is_offsets offsets.now ≡ true }
     requires known { All (λ run. run.0 + run.1 < length offsets.now) runs.now }
-    requires there { list_all (is_there offsets.now size) (joined_runs runs.now) ≡ true }
+    requires there { list_all (element_is_there offsets.now size) (joined_runs runs.now) ≡ true }
     requires fits { start + size < 2 ^ 64 }
     ensures numbers { IfOk result
-        (λ v. range_indices v.items ≡ run_bytes start offsets.now runs.now) }
+        (λ v. range_indices v.items ≡ run_numbers start offsets.now runs.now) }
     ensures filled { IfOk result (λ ranges. All (λ range. range.start < range.end) ranges.items) }
 {
     let mut ranges = Vec::with_capacity(alloc, runs.len())?;
@@ -144,9 +141,8 @@ fn append_ends(
     requires rising { is_offsets offsets.now ≡ true }
     requires known { first + count < length offsets.now }
     requires fits { start + run_size offsets.now first count < 2 ^ 64 }
-    // Wide: no other clause says this, so it is written out.
     ensures ends { Appends ends.old ends.new result
-        (ends_of start (map (blank_element offsets.now) (range_with_len first count))) }
+        (ends_of start (map (element_zeros offsets.now) (range_with_len first count))) }
 {
     let from = offsets.at(first);
     offsets.append_moved(ends, first + 1, first + count + 1, from, start)
@@ -162,9 +158,8 @@ fn ends_of_runs(
     requires known { All (λ run. run.0 + run.1 < length offsets.now) runs.now }
     requires fits { joined_size offsets.now runs.now < 2 ^ 64 }
     ensures small { IfOk result (λ ends. length ends.items < 2 ^ 64) }
-    // Wide: no other clause says this, so it is written out.
     ensures ends { IfOk result (λ ends. ends.items
-        ≡ 0 ∷ ends_of 0 (map (blank_element offsets.now) (joined_runs runs.now))) }
+        ≡ 0 ∷ ends_of 0 (map (element_zeros offsets.now) (joined_runs runs.now))) }
 {
     let room = (count_places(runs) as usize).saturating_add(1);
     let mut ends = Vec::with_capacity(alloc, room)?;
@@ -192,12 +187,11 @@ fn read_bytes<H: BytesPartialDecoderTraits>(
     requires inside { content.end ≤ length (stored_bytes (H.state handle.old)) }
     requires rising { is_offsets offsets.now ≡ true }
     requires known { All (λ run. run.0 + run.1 < length offsets.now) runs.now }
-    // Wide: no other clause says this, so it is written out.
-    ensures answer { AnswersItems memory_or_fault result (bytes_read offsets.now
+    ensures answer { AnswersItems memory_or_fault result (joined_elements offsets.now
         (span_bytes (stored_bytes (H.state handle.old)) content) (joined_runs runs.now)) }
     ensures lengths { IfOk result (λ bytes. length bytes.items ≡ joined_size offsets.now runs.now) }
     ensures sure { SureAt (H.state handle.old)
-        (run_bytes content.start offsets.now runs.now) result }
+        (run_numbers content.start offsets.now runs.now) result }
     ensures left { H.state handle.new ≡ after_reading result (H.state handle.old) }
     ensures same_reference { H.lent handle.new ≡ H.lent handle.old }
 {
@@ -234,11 +228,10 @@ pub(crate) fn read_elements<H: BytesPartialDecoderTraits>(
     requires rising { is_offsets offsets.now ≡ true }
     requires known { All (λ run. run.0 + run.1 < length offsets.now) runs.now }
     requires variable { is_variable data_type.now ≡ true }
-    // Wide: no other clause says this, so it is written out.
     ensures answer { AnswersBy memory_or_fault (Holds data_type.now) result (elements_read
         offsets.now (span_bytes (stored_bytes (H.state handle.old)) span) (joined_runs runs.now)) }
     ensures tight { IfOk result (IsTight data_type.now) }
-    ensures sure { SureAt (H.state handle.old) (run_bytes span.start offsets.now runs.now) result }
+    ensures sure { SureAt (H.state handle.old) (run_numbers span.start offsets.now runs.now) result }
     ensures left { H.state handle.new ≡ after_reading result (H.state handle.old) }
     ensures same_reference { H.lent handle.new ≡ H.lent handle.old }
 {

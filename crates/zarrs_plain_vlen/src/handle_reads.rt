@@ -18,7 +18,6 @@ pub(crate) fn read_inside<H: BytesPartialDecoderTraits>(
     ranges: &[ByteRange],
 ) -> Result<Vec<u8>, CodecError>
     requires stored { is_some (H.state handle.old).value ≡ true }
-    // Wide: no other clause says this, so it is written out.
     requires inside { list_all
         (λ range. nat_le range.end (length (stored_bytes (H.state handle.old)))) ranges.now ≡ true }
     ensures answer { AreRead

@@ -75,7 +75,6 @@ fn index_rows(
     index: Vec<u8>,
 ) -> Result<ArrayBytes<'static>, CodecError>
     requires some { 0 < count }
-    // Wide: no other clause says this, so it is written out.
     ensures answer { GivesBy (Holds (offset_type_of (plain_form codec).wide)) result (bytes_chunk
         (Some (plain_form codec).order) (offsets_form (plain_form codec).wide count) index.items) }
 {
@@ -118,7 +117,6 @@ pub(crate) fn read_index<H: BytesPartialDecoderTraits>(
 ) -> Result<Offsets, CodecError>
     requires stored { is_some (H.state handle.old).value ≡ true }
     requires inside { index.end ≤ length (stored_bytes (H.state handle.old)) }
-    // Wide: no other clause says this, so it is written out.
     ensures answer { AnswersValue memory_or_fault result (offsets_read (plain_form codec) count
         (span_bytes (stored_bytes (H.state handle.old)) index)) }
     ensures sure { SureAt (H.state handle.old) (span_numbers index) result }

@@ -90,7 +90,6 @@ pub(crate) fn read_layout<H: BytesPartialDecoderTraits>(
 ) -> Result<Layout, CodecError>
     requires stored { is_some (H.state handle.old).value ≡ true }
     requires len { length (stored_bytes (H.state handle.old)) ≡ size }
-    // Wide: no other clause says this, so it is written out.
     ensures answer { Answers memory_or_fault vlen_layout result
         (layout_of (is_at_end location) (stored_bytes (H.state handle.old))) }
     ensures index_inside { IfOk result (λ layout. layout.index.end ≤ size) }

@@ -80,7 +80,6 @@ impl Offsets {
         requires above { All (λ offset. from ≤ offset) (between first end self.now) }
         requires fits { All (λ offset. offset - from + start < 2 ^ 64)
             (between first end self.now) }
-        // Wide: no other clause says this, so it is written out.
         ensures appended { Appends out.old out.new result
             (map (λ offset. offset - from + start) (between first end self.now)) }
     {

@@ -36,11 +36,9 @@ fn read_stored<H: BytesPartialDecoderTraits>(
     requires len { length (stored_bytes (H.state handle.old)) ≡ size }
     requires variable { is_variable data_type.now ≡ true }
     requires inside { All (λ run. run.0 + run.1 ≤ count) runs.now }
-    // Wide: no other clause says this, so it is written out.
     ensures answer { AnswersBy memory_or_fault (Holds data_type.now) result (vlen_read
         (plain_form codec) count (stored_bytes (H.state handle.old)) (joined_runs runs.now)) }
     ensures tight { IfOk result (IsTight data_type.now) }
-    // Wide: no other clause says this, so it is written out.
     ensures sure { SureAt (H.state handle.old) (rests_on (plain_form codec) count
         (stored_bytes (H.state handle.old)) (joined_runs runs.now)) result }
     ensures left { H.state handle.new ≡ after_reading result (H.state handle.old) }
@@ -72,11 +70,9 @@ pub fn read_runs<H: BytesPartialDecoderTraits>(
 ) -> Result<Option<ArrayBytes<'static>>, CodecError>
     requires variable { is_variable data_type.now ≡ true }
     requires inside { All (λ run. run.0 + run.1 ≤ count) runs.now }
-    // Wide: no other clause says this, so it is written out.
     ensures answer { AnswersBy memory_or_fault (HoldsStored data_type.now) result (stored_vlen_read
         (plain_form codec) count (H.state handle.old).value (joined_runs runs.now)) }
     ensures tight { IfOk result (λ elements. IfSome elements (IsTight data_type.now)) }
-    // Wide: no other clause says this, so it is written out.
     ensures sure { SureAt (H.state handle.old) (stored_rests_on (plain_form codec) count
         (H.state handle.old).value (joined_runs runs.now)) result }
     ensures left { H.state handle.new ≡ after_reading result (H.state handle.old) }

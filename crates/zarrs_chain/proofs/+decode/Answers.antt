@@ -1,5 +1,6 @@
-use Rattle.std.proofs.Common.{◌≡◌, subst, map, List, Ok, IfOk, rules, length, Err, ◌+◌, ◌<◌, ◌^◌, ◌∷◌, []}
+use Rattle.std.proofs.Common.{◌≡◌, ◌∙◌, sym, true, subst, map, List, Ok, IfOk, rules, length, Err, ◌+◌, ◌<◌, ◌^◌, ◌∷◌, []}
 use Rattle.std.proofs.lemmas.Result.{err_from_is_err_and}
+use Rattle.std.specs.List.{list_all}
 use Rattle.zarrs_array_bytes.specs.Held.{raw_of}
 use Rattle.zarrs_array_bytes.specs.Present.{present_count}
 use Rattle.zarrs_array_bytes.specs.Validity.{Holds, sizes_fit}
@@ -17,6 +18,8 @@ use Rattle.zarrs_chain_meaning.proofs.ChainSteps.{refused_chunk, unopened, unrea
 use Rattle.zarrs_chain_meaning.proofs.OptionalSteps.{mask_refused, part_refused, part_expanded}
 use Rattle.zarrs_chain_meaning.proofs.PartSteps.{chunk_of_none}
 use Rattle.zarrs_chain.proofs.BytesBehind.{takes_behind, reads_behind}
+use Rattle.zarrs_chain.proofs.KeptBytes.{bytes_kept, raw_is, given_below, held_through}
+use Rattle.zarrs_chain_meaning.specs.KeptBytes.{hands_on}
 use Rattle.zarrs_chain.proofs.VlenDecode.{content_bytes, content_answered, content_counted, offsets_answered, vlen_answered, index_refused_by, content_refused_by}
 use Rattle.zarrs_chain_meaning.specs.ArrayStages.{arrays_map}
 use Rattle.zarrs_chain_meaning.specs.BytesStages.{outer_bytes}
@@ -25,7 +28,7 @@ use Rattle.zarrs_chain.specs.ChainView.{plain_chain}
 use Rattle.zarrs_chain_meaning.specs.vlen.VlenSettings.{is_wide, is_at_end}
 use Rattle.zarrs_chain_meaning.specs.CodecMeaning.{chain_chunk}
 use Rattle.zarrs_chain_meaning.specs.Meaning.{part_chunk}
-use Rattle.zarrs_chain_meaning.specs.vlen.Vlen.{vlen_parts}
+use Rattle.zarrs_chain_meaning.specs.vlen.Vlen.{vlen_value_parts}
 use Rattle.zarrs_chain_meaning.specs.optional.Optional.{blank_fill, flag_type}
 use Rattle.zarrs_chain_meaning.specs.Parts.{byte_elements}
 use Rattle.zarrs_chunk.specs.ChunkShape.{product}
@@ -54,6 +57,11 @@ decode::chain_decode-returns g t c =
         no_fault = search rules;
       };
       tight = c.decode_arrays.ensures.tight c.in_ok-chunk.ensures.tight;
+      kept = λ k.
+          held_through c.args.value c.in_ok-below.below c.in_ok-chunk.chunk c.decode_arrays.result
+          (raw_is (c.in_ok-below.ensures.kept (c.deref.ensures.value ∙ k.outer)))
+          (c.in_ok-chunk.ensures.kept k.codec)
+          (c.decode_arrays.ensures.kept (subst (λ (cs : List ArrayToArrayCodec). list_all hands_on (map mapping_of cs) ≡ true) (sym c.as_slice-codecs.ensures.value) k.arrays));
     }
 
 pub decode::chain_decode-bytes_decode-requires : goal.decode::chain_decode-bytes_decode-requires
@@ -78,6 +86,13 @@ decode::chain_decode-returns-in-Bytes-clause-exact g t c =
     let opened = subst (λ bs. outer_bytes f bs taken.representation (raw_of c.args.value).items ≡ Ok below) c.deref.ensures.value c.in_ok-below.ensures.answer.is in
     let found = subst (λ (cs : List ArrayToArrayCodec). IfOk (arrays_map type (map mapping_of cs) sizes) (λ m. GivesBy (Holds type) c.bytes_decode.result (seen (moved_chunk (inverse_map sizes m)) (bytes_chunk order (form_of sizes type fill) below)))) c.as_slice-codecs.ensures.value c.bytes_decode.ensures.answer in
     reads_behind f chain.array_to_array c.args.chain.now.array_to_bytes order chain.bytes_to_bytes sizes type fill (taken.shape, taken.representation) (raw_of c.args.value).items below c.bytes_decode.result c.in-Bytes.is c.in_ok-taken.ensures.map c.in_ok-taken.ensures.answer.is opened found
+
+pub decode::chain_decode-returns-in-Bytes-clause-kept : goal.decode::chain_decode-returns-in-Bytes-clause-kept
+decode::chain_decode-returns-in-Bytes-clause-kept g t c = λ k.
+    given_below c.args.value c.in_ok-below.below c.bytes_decode.result
+    (raw_is (c.in_ok-below.ensures.kept (c.deref.ensures.value ∙ k.outer)))
+    (c.bytes_decode.ensures.kept (bytes_kept c.args.chain.now.array_to_bytes c.in-Bytes.codec c.args.kind.now c.in-Bytes.is k.codec)
+    (subst (λ (cs : List ArrayToArrayCodec). list_all hands_on (map mapping_of cs) ≡ true) (sym c.as_slice-codecs.ensures.value) k.arrays))
 
 pub decode::chain_decode-returns-in_err-taken-clause-exact : goal.decode::chain_decode-returns-in_err-taken-clause-exact
 decode::chain_decode-returns-in_err-taken-clause-exact g t c =
@@ -119,6 +134,7 @@ decode::chain_decode-returns-in_err-chunk g t c =
         no_fault = search rules;
       };
       tight = search rules;
+      kept = λ _. search rules;
     }
 
 pub decode::part_decode-returns : goal.decode::part_decode-returns
@@ -227,7 +243,7 @@ vlen::vlen_decode::vlen_decode-returns-in_err-offsets g t c =
             let i = c.in_ok-index.index.now in
             let d = c.in_ok-index.field-0-1.now in
             let count = c.in_ok-count.count in
-            let parts : ok (i, d) ≡ vlen_parts at_end value = search rules in
+            let parts : ok (i, d) ≡ vlen_value_parts at_end value = search rules in
             let counted : ok count ≡ checked_u64 (product sizes + 1) = search rules in
             let p = err_from_is_err_and c.from_residual-in_err-offsets.result c.from_residual-in_err-offsets.ensures.1 in
             rw (p.1, p.2) (λ ne.
@@ -257,7 +273,7 @@ vlen::vlen_decode::vlen_decode-returns-in_err-bytes g t c =
             let i = c.in_ok-index.index.now in
             let d = c.in_ok-index.field-0-1.now in
             let count = c.in_ok-count.count in
-            let parts : ok (i, d) ≡ vlen_parts at_end value = search rules in
+            let parts : ok (i, d) ≡ vlen_value_parts at_end value = search rules in
             let counted : ok count ≡ checked_u64 (product sizes + 1) = search rules in
             let offsets = c.in_ok-offsets.offsets in
             let p = err_from_is_err_and c.from_residual-in_err-bytes.result c.from_residual-in_err-bytes.ensures.1 in
@@ -289,7 +305,7 @@ vlen::vlen_decode::vlen_decode-returns g t c =
             let i = c.in_ok-index.index.now in
             let d = c.in_ok-index.field-0-1.now in
             let count = c.in_ok-count.count in
-            let parts : ok (i, d) ≡ vlen_parts at_end value = search rules in
+            let parts : ok (i, d) ≡ vlen_value_parts at_end value = search rules in
             let counted : ok count ≡ checked_u64 (product sizes + 1) = search rules in
             let offsets = c.in_ok-offsets.offsets in
             let raw = raw_of c.in_ok-bytes.bytes in

@@ -1,5 +1,6 @@
 use Rattle.std.proofs.Common.{sym, subst, map, List, Ok, IfOk, rules, ◌≡◌, [], ◌∷◌, Err, ◌<◌, ◌^◌, ◌∙◌, drop, slice_index, length, true}
 use Rattle.std.proofs.lemmas.Result.{err_from_is_err_and}
+use Rattle.std.specs.List.{list_all}
 use Rattle.zarrs_array_bytes.specs.Held.{raw_of, flen}
 use Rattle.zarrs_array_bytes.specs.Present.{present_chunk}
 use Rattle.zarrs_array_bytes.specs.Validity.{Holds, validity}
@@ -9,14 +10,16 @@ use Rattle.zarrs_chunk.specs.Answer.{Answers, memory, AnswersBy}
 use Rattle.zarrs_chunk.specs.declared.codec_error.CodecError.{CodecError}
 use Rattle.zarrs_codec.specs.MappedChunk.{encoded_chunk}
 use Rattle.zarrs_chain_meaning.proofs.ChainSteps.{value_last, value_refused, refused_value}
+use Rattle.zarrs_chain.proofs.KeptBytes.{given_through}
 use Rattle.zarrs_chain.proofs.OptionalAt.{inner_refused_at, unfit_at, mask_refused_at, part_refused_at}
 use Rattle.zarrs_chain_meaning.proofs.OptionalSteps.{mask_answers}
 use Rattle.zarrs_chain_meaning.specs.ArrayStages.{arrays_map}
 use Rattle.zarrs_chain_meaning.specs.BytesStages.{outer_value, in_memory}
 use Rattle.zarrs_chain_meaning.specs.Chain.{held_value, held_part}
+use Rattle.zarrs_chain_meaning.specs.KeptBytes.{hands_on}
 use Rattle.zarrs_chain.specs.ChainView.{plain_chain, plain_vlen, plain_vlen_at}
 use Rattle.zarrs_chain_meaning.specs.vlen.VlenSettings.{is_wide, is_at_end}
-use Rattle.zarrs_chain_meaning.specs.Parts.{byte_elements, byte_type, length_bytes}
+use Rattle.zarrs_chain_meaning.specs.Parts.{byte_elements, byte_type, part_length_bytes}
 use Rattle.zarrs_chain_meaning.specs.CodecMeaning.{chain_value}
 use Rattle.zarrs_chain_meaning.specs.vlen.Vlen.{vlen_representation, arranged}
 use Rattle.zarrs_chain_meaning.specs.optional.Optional.{flag_type, blank_fill}
@@ -38,6 +41,7 @@ encode::chain_encode-returns-in_err-taken g t c =
             rw (p.1, p.2) (λ quiet. refused_value g.B.BytesToBytesCodecTraits.functions (plain_chain c.args.chain.now) c.args.shape.now c.args.kind.now c.args.fill.now c.args.held c.in_err-taken.field-0.0 (c.in_err-taken.ensures.answer.is quiet));
         no_fault = search rules;
       };
+      kept = λ _. search rules;
     }
 
 pub encode::chain_encode-returns-in_err-below : goal.encode::chain_encode-returns-in_err-below
@@ -56,6 +60,7 @@ encode::chain_encode-returns-in_err-below g t c =
             rw (p.1, p.2) (value_refused f chain sizes type fill (taken.shape, taken.representation) c.args.held c.in_ok-chunk.chunk c.in_err-below.field-0.0 c.in_ok-taken.ensures.map c.in_ok-taken.ensures.answer.is c.in_ok-taken.ensures.counted (sym c.in_ok-check_elements.ensures.answer) found c.in_err-below.ensures.answer.is);
         no_fault = search rules;
       };
+      kept = λ _. search rules;
     }
 
 pub encode::chain_encode-returns : goal.encode::chain_encode-returns
@@ -74,6 +79,11 @@ encode::chain_encode-returns g t c =
             value_last (λ value. (raw_of value).items) c.encode_bytes.result f chain sizes type fill (taken.shape, taken.representation) c.args.held c.in_ok-chunk.chunk (raw_of c.in_ok-below.below).items c.in_ok-taken.ensures.map c.in_ok-taken.ensures.answer.is c.in_ok-taken.ensures.counted (sym c.in_ok-check_elements.ensures.answer) found c.in_ok-below.ensures.answer.is last;
         no_fault = search rules;
       };
+      kept = λ k.
+          given_through c.args.held c.in_ok-chunk.chunk (raw_of c.in_ok-below.below) c.encode_bytes.result
+          (c.in_ok-chunk.ensures.kept (subst (λ (cs : List ArrayToArrayCodec). list_all hands_on (map mapping_of cs) ≡ true) (sym c.deref.ensures.value) k.arrays))
+          (c.in_ok-below.ensures.kept k.codec)
+          (c.encode_bytes.ensures.kept (c.deref-2.ensures.value ∙ k.outer));
     }
 
 pub optional::optional_codec::mask_encode-returns : goal.optional::optional_codec::mask_encode-returns
@@ -277,7 +287,7 @@ vlen::vlen_encode::vlen_encode-returns g t c =
             let v : IsVariableHeld sizes type c.args.held raw offsets = record { size = c.in_ok-vlen_representation.field-0; measured = measured; valid = valid; parts = parts; rising = rising; ending = ending; small = small } in
             let first : index_part f index wide offsets ≡ Ok (raw_of c.in_ok-index.index).items = search rules in
             let second : content_part f content (drop (slice_index offsets 0) raw.items) ≡ Ok (raw_of c.in_ok-content.content).items = search rules in
-            let last : in_memory (arranged at_end (length_bytes (raw_of c.in_ok-index.index).items) (raw_of c.in_ok-index.index).items (raw_of c.in_ok-content.content).items) ≡ Ok c.in_ok-value.value.items = search rules in
+            let last : in_memory (arranged at_end (part_length_bytes (raw_of c.in_ok-index.index).items) (raw_of c.in_ok-index.index).items (raw_of c.in_ok-content.content).items) ≡ Ok c.in_ok-value.value.items = search rules in
             value_joined f (plain_vlen codec) index content wide at_end sizes type fill c.args.held raw offsets (raw_of c.in_ok-index.index).items (raw_of c.in_ok-content.content).items (plain_vlen_at codec) v first second ∙ last;
         no_fault = search rules;
       };

@@ -14,17 +14,17 @@ use Rattle.zarrs_chain.specs.ChainView.{plain_optional}
 use Rattle.zarrs_chain.specs.declared.optional.optional_codec.OptionalCodec.{OptionalCodec}
 
 -- the codec takes such chunks
-abbrev pub Takes : {B : Type 0} → BytesCodecs B → OptionalCodec B → List ℕ → ElementType → List ℕ → Type 0
-Takes f codec sizes type fill = IsTaken f (plain_optional codec) (form_of sizes type fill)
+abbrev pub OptionalAccepts : {B : Type 0} → BytesCodecs B → OptionalCodec B → List ℕ → ElementType → List ℕ → Type 0
+OptionalAccepts f codec sizes type fill = IsTaken f (plain_optional codec) (form_of sizes type fill)
 
 -- how many bytes the value of such a chunk has, or the first error
-abbrev pub Counts : {B : Type 0} → BytesCodecs B → OptionalCodec B → List ℕ → ElementType → List ℕ → Result BytesRepresentation CodecError → Type 0
-Counts f codec sizes type fill result = GivesRepresentation f (plain_optional codec) (form_of sizes type fill) result
+abbrev pub OptionalRepresents : {B : Type 0} → BytesCodecs B → OptionalCodec B → List ℕ → ElementType → List ℕ → Result BytesRepresentation CodecError → Type 0
+OptionalRepresents f codec sizes type fill result = GivesRepresentation f (plain_optional codec) (form_of sizes type fill) result
 
 -- the value of the chunk that a container holds, or the first error
-abbrev pub Writes : {B : Type 0} → BytesCodecs B → OptionalCodec B → List ℕ → ElementType → List ℕ → Held → Result (CowSlice ℕ Global) CodecError → Type 0
-Writes f codec sizes type fill held result = GivesCodecValue f (plain_optional codec) (form_of sizes type fill) held result
+abbrev pub OptionalEncodes : {B : Type 0} → BytesCodecs B → OptionalCodec B → List ℕ → ElementType → List ℕ → Held → Result (CowSlice ℕ Global) CodecError → Type 0
+OptionalEncodes f codec sizes type fill held result = GivesCodecValue f (plain_optional codec) (form_of sizes type fill) held result
 
 -- 64 bits count what as many elements as mask bytes take, where they count the offsets of so many
-abbrev pub HasRoom : ElementType → CowSlice ℕ Global → Type 0
-HasRoom type mask = length (items_of mask) + 1 < 2 ^ 64 → sizes_fit type (length (items_of mask)) ≡ Ok tt
+abbrev pub HasMaskRoom : ElementType → CowSlice ℕ Global → Type 0
+HasMaskRoom type mask = length (items_of mask) + 1 < 2 ^ 64 → sizes_fit type (length (items_of mask)) ≡ Ok tt

@@ -46,7 +46,6 @@ impl<B: Drop> ChainParts<B> {
     /// The codec joins those of its kind, behind them. Errors: `MultipleArrayToBytes` for a second
     /// one of chunks to bytes; `OutOfMemory`.
     pub(crate) fn add(&mut self, codec: MadeCodec<B>) -> Result<(), PluginCreateError>
-        // Wide: the parts before and after, and the codec.
         ensures answer { Makes (λ _. parts_seen self.new) result
             (with_codec (made_seen codec) (parts_seen self.old)) }
     {
@@ -58,7 +57,6 @@ impl<B: Drop> ChainParts<B> {
     }
 
     fn add_to_bytes(&mut self, codec: ArrayToBytesCodec<B>) -> Result<(), PluginCreateError>
-        // Wide: the parts before and after, and the codec.
         ensures answer { seen (λ _. parts_seen self.new) result
             ≡ with_codec (to_bytes_made (plain_codec codec)) (parts_seen self.old) }
     {

@@ -23,7 +23,6 @@ impl<B: BytesToBytesCodecTraits> CodecChain<B> {
     /// codecs again. Errors: `OutOfMemory`.
     pub fn create_metadatas(&self, alloc: Global) -> Result<Vec<MetadataV3>, PluginCreateError>
         ensures answer { WritesList result (chain_metadatas B.described (plain_chain self.now)) }
-        // Wide: what writes the bytes-to-bytes codecs, the chain and the list.
         ensures made_again { IfOk result (λ list.
             MakesChain B.described (plain_chain self.now) (metadatas_in list)) }
     {

@@ -129,7 +129,6 @@ fn asked<B: Drop, M: BytesCodecMaker<B>>(
     metadata: &MetadataV3,
     maker: &M,
 ) -> Result<MadeCodec<B>, PluginCreateError>
-    // Wide: the maker, the metadata and the answer.
     ensures answer { Makes made_seen result
         (asked_maker (M.makes maker.now (metadata_seen metadata.now))) }
 {
@@ -149,7 +148,6 @@ fn codec_from<B: Drop, M: BytesCodecMaker<B>>(
     metadata: &MetadataV3,
     maker: &M,
 ) -> Result<MadeCodec<B>, PluginCreateError>
-    // Wide: the maker, the metadata and the answer.
     ensures answer { Makes made_seen result
         (codec_by (M.makes maker.now) (metadata_seen metadata.now)) }
 {
@@ -209,7 +207,6 @@ fn join<B: Drop, M: BytesCodecMaker<B>>(
     maker: &M,
     parts: &mut ChainParts<B>,
 ) -> Result<(), PluginCreateError>
-    // Wide: the parts before and after, the maker and the metadata.
     ensures answer { Makes (λ _. parts_seen parts.new) result
         (joined_by (M.makes maker.now) (metadata_seen metadata.now) (parts_seen parts.old)) }
 {

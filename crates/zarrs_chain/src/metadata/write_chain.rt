@@ -56,7 +56,6 @@ fn push_outer<B: BytesToBytesCodecTraits>(
     codecs: &[B],
     list: &mut Vec<MetadataV3>,
 ) -> Result<(), PluginCreateError>
-    // Wide: the list before and after, and what is put behind it.
     ensures answer { Makes (λ _. metadatas_in list.new) result
         (Ok (metadatas_in list.old ++ map B.described codecs.now)) }
 {

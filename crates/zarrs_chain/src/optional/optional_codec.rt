@@ -17,7 +17,7 @@ ghost use Rattle.zarrs_chain_meaning.specs.optional.Optional.{flag_type, blank_f
 ghost use Rattle.zarrs_chain_meaning.specs.MadeAgain.{HasRanges};
 ghost use Rattle.zarrs_chain_meaning.specs.optional.OptionalParts.{optional_inner, optional_content, GivesPresent};
 ghost use Rattle.zarrs_chain_meaning.specs.WrittenMetadata.{codec_configuration};
-ghost use Rattle.zarrs_chain.specs.optional.OptionalCalls.{Takes, Counts, Writes, HasRoom};
+ghost use Rattle.zarrs_chain.specs.optional.OptionalCalls.{OptionalAccepts, OptionalRepresents, OptionalEncodes, HasMaskRoom};
 
 use crate::codec_chain::{CodecChain, chain_has_ranges, chain_is_sound};
 use crate::decode::{chain_decode, part_decode};
@@ -110,7 +110,8 @@ pub(crate) fn optional_representation<B: BytesToBytesCodecTraits>(
     data_type: &DataType,
     fill_value: &FillValue,
 ) -> Result<BytesRepresentation, CodecError>
-    ensures answer { Counts B.functions codec.now shape.now data_type.now fill_value.now result }
+    ensures answer { OptionalRepresents B.functions codec.now
+        shape.now data_type.now fill_value.now result }
 {
     let inner = inner_type(data_type)?;
     if !fill_value.fits(data_type) {
@@ -136,7 +137,6 @@ fn mask_encode<'a, B: BytesToBytesCodecTraits>(
 ) -> Result<ArrayBytesRaw<'a>, CodecError>
     requires len { length (items_of mask) ≡ product shape.now }
     requires counted { checked_u64 (product shape.now) ≡ Ok (product shape.now) }
-    // Wide: flags are a chunk of their own type and fill value.
     ensures answer { Gives items_of result (chain_value B.functions (plain_chain chain.now)
         shape.now flag_type (0 ∷ []) (byte_elements (items_of mask.entry))) }
 {
@@ -161,7 +161,6 @@ fn present_encode<'a, B: BytesToBytesCodecTraits>(
     count: u64,
     data_type: &DataType,
 ) -> Result<ArrayBytesRaw<'a>, CodecError>
-    // Wide: a row is its count, type and fill value.
     ensures exact { GivesPartValue B.functions (plain_chain chain.now)
         count data_type.now (blank_fill_of data_type.now) present.entry result }
 {
@@ -182,7 +181,6 @@ fn content_encode<'a, B: BytesToBytesCodecTraits>(
 ) -> Result<ArrayBytesRaw<'a>, CodecError>
     requires valid { validity (optional inner.now) (product shape.now) elements ≡ Ok tt }
     requires counted { checked_u64 (product shape.now) ≡ Ok (product shape.now) }
-    // Wide: the codec, the shape, the type inside and the container.
     ensures answer { Gives items_of result (optional_content B.functions
         (plain_optional codec.now) shape.now inner.now elements.entry) }
 {
@@ -205,8 +203,9 @@ pub(crate) fn optional_encode<'a, B: BytesToBytesCodecTraits>(
     kind: &DataType,
     fill: &FillValue,
 ) -> Result<ArrayBytesRaw<'a>, CodecError>
-    requires taken { Takes B.functions codec.now shape.now kind.now fill.now }
-    ensures answer { Writes B.functions codec.now shape.now kind.now fill.now held.entry result }
+    requires taken { OptionalAccepts B.functions codec.now shape.now kind.now fill.now }
+    ensures answer { OptionalEncodes B.functions codec.now
+        shape.now kind.now fill.now held.entry result }
 {
     let inner = inner_type(kind)?;
     check_elements(&held, shape, kind)?;
@@ -222,7 +221,8 @@ fn optional_taken_encode<'a, B: BytesToBytesCodecTraits>(
     kind: &DataType,
     fill: &FillValue,
 ) -> Result<ArrayBytesRaw<'a>, CodecError>
-    ensures answer { Writes B.functions codec.now shape.now kind.now fill.now held.entry result }
+    ensures answer { OptionalEncodes B.functions codec.now
+        shape.now kind.now fill.now held.entry result }
 {
     optional_representation(alloc, codec, shape, kind, fill)?;
     optional_encode(alloc, codec, held, shape, kind, fill)
@@ -237,7 +237,6 @@ fn mask_decode<'a, B: BytesToBytesCodecTraits>(
     part: ArrayBytesRaw<'a>,
     shape: &ChunkShape,
 ) -> Result<ArrayBytesRaw<'a>, CodecError>
-    // Wide: flags are a chunk of their own type and fill value.
     ensures answer { Gives (λ mask. byte_elements (items_of mask)) result (chain_chunk B.functions
         (plain_chain chain.now) shape.now flag_type (0 ∷ []) (items_of part.entry)) }
 {
@@ -258,8 +257,7 @@ fn present_decode<'a, B: BytesToBytesCodecTraits>(
     part: ArrayBytesRaw<'a>,
     data_type: &DataType,
 ) -> Result<ArrayBytes<'a>, CodecError>
-    requires room { HasRoom data_type.now mask }
-    // Wide: the chain, the type inside, the mask and the part.
+    requires room { HasMaskRoom data_type.now mask }
     ensures answer { GivesPresent B.functions (plain_chain chain.now)
         data_type.now (items_of mask.entry) (items_of part.entry) result }
     ensures tight { IfOk result (IsTight (optional data_type.now)) }
@@ -280,10 +278,10 @@ fn has_room<B: BytesToBytesCodecTraits>(
     inner: &DataType,
     mask: &ArrayBytesRaw<'_>,
 )
-    requires taken { Takes B.functions codec.now shape.now data_type.now fill_value.now }
+    requires taken { OptionalAccepts B.functions codec.now shape.now data_type.now fill_value.now }
     requires inner { optional_inner data_type.now ≡ Ok inner.now }
     requires len { length (items_of mask.now) ≡ product shape.now }
-    ensures room { HasRoom inner.now mask.now }
+    ensures room { HasMaskRoom inner.now mask.now }
 {
     optional_is_sound(codec);
     shape.as_slice();
@@ -301,8 +299,7 @@ pub(crate) fn optional_decode<'a, B: BytesToBytesCodecTraits>(
     kind: &DataType,
     fill: &FillValue,
 ) -> Result<ArrayBytes<'a>, CodecError>
-    requires taken { Takes B.functions codec.now shape.now kind.now fill.now }
-    // Wide: the three parameters of a form, the value and the answer.
+    requires taken { OptionalAccepts B.functions codec.now shape.now kind.now fill.now }
     ensures answer { GivesCodecChunk B.functions (plain_optional codec.now)
         (form_of shape.now kind.now fill.now) (items_of value.entry) result }
     ensures tight { IfOk result (IsTight kind.now) }
@@ -324,7 +321,6 @@ fn optional_taken_decode<'a, B: BytesToBytesCodecTraits>(
     kind: &DataType,
     fill: &FillValue,
 ) -> Result<ArrayBytes<'a>, CodecError>
-    // Wide: the three parameters of a form, the value and the answer.
     ensures exact { GivesTakenChunk B.functions (plain_optional codec.now)
         (form_of shape.now kind.now fill.now) (items_of value.entry) result }
     ensures tight { IfOk result (IsTight kind.now) }
@@ -346,7 +342,8 @@ impl<B: BytesToBytesCodecTraits> OptionalCodec<B> {
         data_type: &DataType,
         fill_value: &FillValue,
     ) -> Result<BytesRepresentation, CodecError>
-        ensures answer { Counts B.functions self.now shape.now data_type.now fill_value.now result }
+        ensures answer { OptionalRepresents B.functions self.now
+            shape.now data_type.now fill_value.now result }
     {
         optional_representation(alloc, self, shape, data_type, fill_value)
     }
@@ -362,7 +359,6 @@ impl<B: BytesToBytesCodecTraits> OptionalCodec<B> {
         data_type: &DataType,
         fill_value: &FillValue,
     ) -> Result<ArrayBytesRaw<'a>, CodecError>
-        // Wide: the form of a chunk is three parameters, as in the Rust crate.
         ensures encodes { Encodes (codec_grammar B.functions (plain_optional self.now))
             (form_of shape.now data_type.now fill_value.now) elements.entry result }
     {
@@ -387,7 +383,6 @@ impl<B: BytesToBytesCodecTraits> OptionalCodec<B> {
         data_type: &DataType,
         fill_value: &FillValue,
     ) -> Result<ArrayBytes<'a>, CodecError>
-        // Wide: the form of a chunk is three parameters, as in the Rust crate.
         ensures decodes { Decodes (codec_grammar B.functions (plain_optional self.now))
             (form_of shape.now data_type.now fill_value.now) (items_of value.entry) result }
         ensures tight { IfOk result (IsTight data_type.now) }

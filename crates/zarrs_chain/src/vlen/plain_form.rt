@@ -20,7 +20,6 @@ use zarrs_metadata::{VlenIndexDataType, VlenIndexLocation};
 /// chain.
 #[tactic(auto, unfolding(crate::specs::ChainView::plain_codec), using(crate::specs::ChainView::plain_vlen_at, crate::specs::ChainView::plain_optional_at, crate::proofs::PlainForms::arrays_before, crate::proofs::PlainForms::bytes_behind, crate::proofs::PlainForms::none_around, crate::proofs::PlainForms::none_else))]
 pub(crate) fn lone_bytes<B>(chain: &CodecChain<B>) -> Option<Option<Endianness>>
-    // Wide: a chain has three parts.
     ensures value { result ≡ if_alone (plain_chain chain.now).array_to_array (facts
         (plain_chain chain.now).array_to_bytes).order (plain_chain chain.now).bytes_to_bytes }
 {
@@ -44,7 +43,6 @@ pub(crate) fn form_of_parts(
     index_data_type: VlenIndexDataType,
     index_location: VlenIndexLocation,
 ) -> Option<PlainVlen>
-    // Wide: both chains, and the settings under the Rust crate's names.
     ensures form { option_map plain_form result
         ≡ form_of_chains index content (is_wide index_data_type) (is_at_end index_location) }
 {

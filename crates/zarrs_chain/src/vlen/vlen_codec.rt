@@ -17,7 +17,7 @@ ghost use Rattle.zarrs_chain_meaning.specs.vlen.Vlen.{vlen_representation as vle
 ghost use Rattle.zarrs_chain_meaning.specs.MadeAgain.{HasRanges};
 ghost use Rattle.zarrs_chain_meaning.specs.vlen.PlainVlen.{plain_form, plain_form_of};
 ghost use Rattle.zarrs_chain_meaning.specs.WrittenMetadata.{codec_configuration};
-ghost use Rattle.zarrs_chain.specs.vlen.VlenCalls.{Counts, Says};
+ghost use Rattle.zarrs_chain.specs.vlen.VlenCalls.{VlenRepresents, Says};
 
 use crate::array_to_bytes_codec::ArrayToBytesCodec;
 use crate::codec_chain::{CodecChain, chain_has_ranges, chain_is_sound};
@@ -64,7 +64,6 @@ impl<B> VlenCodec<B> {
         index_data_type: VlenIndexDataType,
         index_location: VlenIndexLocation,
     ) -> VlenCodec<B>
-        // Wide: both chains, and the settings under the Rust crate's names.
         ensures made { plain_vlen result
             ≡ vlen_of index_codecs.value data_codecs.value index_data_type index_location }
     {
@@ -121,7 +120,6 @@ impl<B: Drop> VlenCodec<B> {
     /// the index at the start; the elements' bytes as they are. Both chains are `bytes` alone, the
     /// data chain without a byte order. Errors: `OutOfMemory`.
     pub fn new_default(alloc: Global) -> Result<VlenCodec<B>, CodecError>
-        // Wide: both chains, and the settings.
         ensures made { Answers memory plain_vlen result
             (Ok (vlen_codec_of (bytes_chain (Some Little)) (bytes_chain None) true false)) }
     {
@@ -200,7 +198,8 @@ fn vlen_measure<B: BytesToBytesCodecTraits>(
     data_type: &DataType,
     fill_value: &FillValue,
 ) -> Result<BytesRepresentation, CodecError>
-    ensures answer { Counts B.functions codec.now shape.now data_type.now fill_value.now result }
+    ensures answer { VlenRepresents B.functions codec.now
+        shape.now data_type.now fill_value.now result }
     ensures in_place { Says B.functions codec.now shape.now data_type.now fill_value.now result }
 {
     vlen_representation(shape, data_type)
@@ -216,7 +215,6 @@ fn vlen_taken_decode<'a, B: BytesToBytesCodecTraits>(
     kind: &DataType,
     fill: &FillValue,
 ) -> Result<ArrayBytes<'a>, CodecError>
-    // Wide: the three parameters of a form, the value and the answer.
     ensures exact { GivesTakenChunk B.functions (plain_vlen codec.now)
         (form_of shape.now kind.now fill.now) (items_of value.entry) result }
     ensures tight { IfOk result (IsTight kind.now) }
@@ -235,7 +233,7 @@ impl<B: BytesToBytesCodecTraits> VlenCodec<B> {
         data_type: &DataType,
         fill_value: &FillValue,
     ) -> Result<BytesRepresentation, CodecError>
-        ensures answer { Counts B.functions self.now shape.now data_type.now fill_value.now result }
+        ensures answer { VlenRepresents B.functions self.now shape.now data_type.now fill_value.now result }
         ensures in_place { Says B.functions self.now shape.now data_type.now fill_value.now result }
     {
         vlen_measure(self, shape, data_type, fill_value)
@@ -254,7 +252,6 @@ impl<B: BytesToBytesCodecTraits> VlenCodec<B> {
         data_type: &DataType,
         fill_value: &FillValue,
     ) -> Result<ArrayBytesRaw<'a>, CodecError>
-        // Wide: the form of a chunk is three parameters, as in the Rust crate.
         ensures encodes { Encodes (codec_grammar B.functions (plain_vlen self.now))
             (form_of shape.now data_type.now fill_value.now) elements.entry result }
     {
@@ -279,7 +276,6 @@ impl<B: BytesToBytesCodecTraits> VlenCodec<B> {
         data_type: &DataType,
         fill_value: &FillValue,
     ) -> Result<ArrayBytes<'a>, CodecError>
-        // Wide: the form of a chunk is three parameters, as in the Rust crate.
         ensures decodes { Decodes (codec_grammar B.functions (plain_vlen self.now))
             (form_of shape.now data_type.now fill_value.now) (items_of value.entry) result }
         ensures tight { IfOk result (IsTight data_type.now) }

@@ -39,7 +39,6 @@ fn index_decode<B: BytesToBytesCodecTraits>(
     data_type: VlenIndexDataType,
 ) -> Result<ArrayBytesOffsets, CodecError>
     requires some { 0 < count }
-    // Wide: the chain, the offsets' type, their count and the part.
     ensures answer { GivesValue result
         (index_offsets B.functions (plain_chain chain.now) (is_wide data_type) count part.now) }
 {
@@ -65,7 +64,6 @@ fn content_decode<'a, B: BytesToBytesCodecTraits>(
     part: ArrayBytesRaw<'a>,
     count: u64,
 ) -> Result<ArrayBytesRaw<'a>, CodecError>
-    // Wide: bytes are a row of their own type and fill value.
     ensures answer { Gives items_of result (seen all_bytes (part_chunk (chain_chunk B.functions
         (plain_chain chain.now)) byte_type (0 ∷ []) count (items_of part.entry))) }
     ensures len { IfOk result (λ bytes. length (items_of bytes) ≡ count) }
@@ -90,7 +88,6 @@ pub fn vlen_decode<'a, B: BytesToBytesCodecTraits>(
 ) -> Result<ArrayBytes<'a>, CodecError>
     requires taken { IsTaken B.functions (plain_vlen codec.now)
         (form_of shape.now kind.now fill.now) }
-    // Wide: the three parameters of a form, the value and the answer.
     ensures answer { GivesCodecChunk B.functions (plain_vlen codec.now)
         (form_of shape.now kind.now fill.now) (items_of value.entry) result }
     ensures tight { IfOk result (IsTight kind.now) }

@@ -36,7 +36,6 @@ fn index_encode<'a, B: BytesToBytesCodecTraits>(
     data_type: VlenIndexDataType,
 ) -> Result<ArrayBytesRaw<'a>, CodecError>
     requires rising { is_offsets offsets.now ≡ true }
-    // Wide: the chain, the offsets' type and the offsets.
     ensures answer { Gives items_of result
         (index_part B.functions (plain_chain chain.now) (is_wide data_type) offsets.now) }
 {
@@ -63,7 +62,6 @@ fn content_encode<'a, B: BytesToBytesCodecTraits>(
     chain: &CodecChain<B>,
     bytes: ArrayBytesRaw<'a>,
 ) -> Result<ArrayBytesRaw<'a>, CodecError>
-    // Wide: bytes are a row of their own type and fill value.
     ensures answer { Gives items_of result (part_value (chain_value B.functions
         (plain_chain chain.now)) byte_type (0 ∷ []) (byte_elements (items_of bytes.entry))) }
 {
@@ -91,7 +89,6 @@ pub(crate) fn vlen_encode<'a, B: BytesToBytesCodecTraits>(
     kind: &DataType,
     fill: &FillValue,
 ) -> Result<ArrayBytesRaw<'a>, CodecError>
-    // Wide: the three parameters of a form, the container and the answer.
     ensures answer { GivesCodecValue B.functions (plain_vlen codec.now)
         (form_of shape.now kind.now fill.now) held.entry result }
 {

@@ -45,7 +45,6 @@ fn keeps_items(
 /// Whether the bytes of elements of one size are these. Errors: `ArrayBytesKind` for any other
 /// elements.
 fn holds_items(elements: &ArrayBytes<'_>, items: &[u8]) -> Result<bool, CodecError>
-    // Wide: the test of the bytes, or the error of other elements.
     ensures answer { result
         ≡ seen (λ raw. pointwise nat_eq raw.items items.now) (fixed_part elements.now) }
 {
@@ -62,7 +61,6 @@ fn packs_offsets(
     requires rising { is_offsets offsets.now ≡ true }
     requires fits { offsets_fit (is_wide data_type) offsets.now ≡ true }
     requires taken { IsPackable codec.now (offsets_form (is_wide data_type) (length offsets.now)) }
-    // Wide: the codec, the offsets' type and the offsets.
     ensures answer { GivesValue result
         (Ok (keeps_offsets {B = ℕ} (packbits_codec codec.now) (is_wide data_type) offsets.now)) }
 {
@@ -93,7 +91,6 @@ fn is_kept<B>(
     requires rising { is_offsets offsets.now ≡ true }
     requires fits { offsets_fit (is_wide data_type) offsets.now ≡ true }
     requires taken { TakesOffsets (plain_codec codec.now) (is_wide data_type) (length offsets.now) }
-    // Wide: the codec, the offsets' type and the offsets.
     ensures answer { GivesValue result
         (Ok (keeps_offsets (plain_codec codec.now) (is_wide data_type) offsets.now)) }
 {
@@ -117,7 +114,6 @@ pub(crate) fn check_kept<B>(
     requires rising { is_offsets offsets.now ≡ true }
     requires fits { offsets_fit (is_wide data_type) offsets.now ≡ true }
     requires taken { TakesOffsets (plain_codec codec.now) (is_wide data_type) (length offsets.now) }
-    // Wide: the test and its error.
     ensures answer { GivesValue result (demand
         (keeps_offsets (plain_codec codec.now) (is_wide data_type) offsets.now) OffsetNotKept) }
 {

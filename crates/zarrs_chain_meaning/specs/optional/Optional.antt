@@ -3,7 +3,7 @@ use Rattle.std.specs.Prelude.{ℕ, ◌+◌, ◌^◌, Bool, false, nat_lt, if◌t
 use Rattle.zarrs_bytes.specs.BytesCodec.{IsChunk}
 use Rattle.zarrs_chain_meaning.specs.BytesStages.{in_memory}
 use Rattle.zarrs_chain_meaning.specs.Meaning.{Measure, Encoder, Decoder, Standing, Meaning, part_value, part_chunk, PartStands, PartWritten}
-use Rattle.zarrs_chain_meaning.specs.Parts.{length_bytes, length_of}
+use Rattle.zarrs_chain_meaning.specs.Parts.{part_length_bytes, length_of}
 use Rattle.zarrs_chain_meaning.specs.declared.codec_name.TheConstants.{OPTIONAL}
 use Rattle.zarrs_chunk.specs.Answer.{◌>>=◌, demand, checked_u64}
 use Rattle.zarrs_chunk.specs.ChunkShape.{product}
@@ -65,7 +65,7 @@ present_of (_ ∷ chunk) = present_of chunk
 
 -- the two lengths, the mask and the data
 abbrev pub optional_layout : List ℕ → List ℕ → List ℕ
-optional_layout mask data' = length_bytes mask ++ (length_bytes data' ++ (mask ++ data'))
+optional_layout mask data' = part_length_bytes mask ++ (part_length_bytes data' ++ (mask ++ data'))
 
 abbrev pub optional_value : Encoder → Encoder → List ℕ → ElementType → Chunk → Result (List ℕ) CodecError
 optional_value mask data' sizes (optional type) chunk = do

@@ -9,7 +9,7 @@ use Rattle.zarrs_array_bytes.specs.Pieces.{ends}
 use Rattle.zarrs_bytes.specs.ByteOrder.{bytes_of}
 use Rattle.zarrs_chain_meaning.specs.BytesStages.{in_memory}
 use Rattle.zarrs_chain_meaning.specs.Meaning.{Measure, Encoder, Decoder, Standing, Meaning, part_value, part_chunk, PartStands, PartWritten}
-use Rattle.zarrs_chain_meaning.specs.Parts.{byte_type, the_byte, byte_elements, all_bytes, length_bytes, length_of}
+use Rattle.zarrs_chain_meaning.specs.Parts.{byte_type, the_byte, byte_elements, all_bytes, part_length_bytes, length_of}
 use Rattle.zarrs_chain_meaning.specs.declared.codec_name.TheConstants.{VLEN}
 use Rattle.zarrs_chunk.specs.Answer.{◌>>=◌, demand, checked_u64}
 use Rattle.zarrs_chunk.specs.ChunkShape.{product}
@@ -84,18 +84,18 @@ vlen_value wide at_end keep index data' chunk = do
   index_part ← index (length offsets ∷ []) (offset_type wide) (offset_bytes wide 0) offsets
   _ ← demand (is_same_bytes (map (keep (offset_type wide)) offsets) offsets) OffsetNotKept
   data_part ← part_value data' byte_type (0 ∷ []) (byte_elements items)
-  in_memory (arranged at_end (length_bytes index_part) index_part data_part)
+  in_memory (arranged at_end (part_length_bytes index_part) index_part data_part)
 
 -- ---- the chunk of a value
 
 -- the index and the data, behind the index's length or before it
-abbrev pub vlen_parts : Bool → List ℕ → Result (List ℕ × List ℕ) CodecError
-vlen_parts false value = do
+abbrev pub vlen_value_parts : Bool → List ℕ → Result (List ℕ × List ℕ) CodecError
+vlen_value_parts false value = do
   _ ← demand (nat_le 8 (length value)) (InvalidBytesLength (length value) 8)
   let size = length_of (take 8 value)
   _ ← demand (nat_le size (length value - 8)) IndexLength
   Ok (take size (drop 8 value), drop size (drop 8 value))
-vlen_parts true value = do
+vlen_value_parts true value = do
   _ ← demand (nat_le 8 (length value)) (InvalidBytesLength (length value) 8)
   let size = length_of (drop (length value - 8) value)
   _ ← demand (nat_le size (length value - 8)) IndexLength
@@ -103,7 +103,7 @@ vlen_parts true value = do
 
 abbrev pub vlen_chunk : Bool → Bool → Decoder → Decoder → ℕ → List ℕ → Result Chunk CodecError
 vlen_chunk wide at_end index data' count value = do
-  parts ← vlen_parts at_end value
+  parts ← vlen_value_parts at_end value
   _ ← checked_u64 (count + 1)
   offset_chunk ← index ((count + 1) ∷ []) (offset_type wide) (offset_bytes wide 0) parts.0
   let offsets = offsets_in_chunk wide offset_chunk
@@ -143,7 +143,7 @@ pub record VlenWritten (wide at_end : Bool) (keep : ElementType → Element → 
   pub index_part : List ℕ
   pub data_part : List ℕ
   pub small : length value < 2 ^ 64
-  pub parts : value ≡ arranged at_end (length_bytes index_part) index_part data_part
+  pub parts : value ≡ arranged at_end (part_length_bytes index_part) index_part data_part
   pub bytes_small : length (all_bytes chunk) < 2 ^ 64
   pub fit : offset_fits wide (length (all_bytes chunk)) ≡ true
   pub kept : map (keep (offset_type wide)) (offset_elements wide (chunk_offsets chunk)) ≡ offset_elements wide (chunk_offsets chunk)

@@ -15,7 +15,7 @@ use Rattle.zarrs_packbits.specs.PackBitsSettings.{packed_layout, PackBitsSetting
 use Rattle.zarrs_chain_meaning.specs.CodecFacts.{facts}
 use Rattle.zarrs_chain_meaning.specs.PlainChain.{PlainCodec, PlainChain}
 use Rattle.zarrs_chain_meaning.specs.vlen.Vlen.{offset_of, offsets_in_chunk, offset_bytes, offset_fits, offset_elements, is_same_bytes, offset_type}
-use Rattle.zarrs_chain_meaning.specs.CodecMeaning.{chain_chunk, chain_value, normal_element}
+use Rattle.zarrs_chain_meaning.specs.CodecMeaning.{chain_chunk, chain_value, codec_normal_element}
 use Rattle.zarrs_chunk.specs.ChunkShape.{product}
 use Rattle.zarrs_data_type.specs.ElementType.{ElementType}
 use Rattle.zarrs_array_bytes.specs.Validity.{Holds}
@@ -67,7 +67,7 @@ read_offsets wide items = map (offset_of wide) (pieces (offset_size wide) (lengt
 -- a codec gives offsets back unchanged
 abbrev pub keeps_offsets : {B : Type 0} → PlainCodec B → Bool → List ℕ → Bool
 keeps_offsets codec wide offsets =
-    is_same_bytes (map (normal_element codec (offset_type wide)) (offset_elements wide (from_first offsets))) (offset_elements wide (from_first offsets))
+    is_same_bytes (map (codec_normal_element codec (offset_type wide)) (offset_elements wide (from_first offsets))) (offset_elements wide (from_first offsets))
 
 -- a row of so many offsets
 abbrev pub offsets_form : Bool → ℕ → Form

@@ -68,7 +68,6 @@ pub fn masked_parts(
 
 /// How many bytes a value of parts of so many bytes has, where 64 bits count them.
 fn whole_size(mask_size: u64, data_size: u64) -> Option<u64>
-    // Wide: the sum stands in the test and in the answer.
     ensures value { result ≡ if nat_lt (16 + mask_size + data_size) (2 ^ 64)
         then Some (16 + mask_size + data_size) else None }
 {
@@ -148,7 +147,6 @@ pub fn split_value(
     alloc: Global,
     value: ArrayBytesRaw<'_>,
 ) -> Result<(ArrayBytesRaw<'_>, ArrayBytesRaw<'_>), CodecError>
-    // Wide: both parts are seen by their bytes.
     ensures answer { Gives (λ parts. (items_of parts.0, items_of parts.1)) result
         (optional_parts (items_of value.entry)) }
 {
@@ -166,7 +164,7 @@ pub fn split_value(
 }
 
 /// The value of these parts: the two lengths, the mask and the data. Errors: `OutOfMemory`.
-#[tactic(auto, unfolding(crate::specs::Parts::length_bytes))]
+#[tactic(auto, unfolding(crate::specs::Parts::part_length_bytes))]
 pub fn join_parts<'a>(
     alloc: Global,
     mask: &[u8],

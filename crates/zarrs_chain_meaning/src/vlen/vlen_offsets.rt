@@ -157,7 +157,6 @@ pub fn index_elements<'a>(
     data_type: VlenIndexDataType,
 ) -> Result<ArrayBytes<'a>, CodecError>
     requires rising { is_offsets offsets.now ≡ true }
-    // Wide: the offsets' type and the offsets, for the container and its elements.
     ensures exact { GivesBy (Holds (offset_type_of (is_wide data_type))) result
         (index_elements_of (is_wide data_type) offsets.now) }
 {

@@ -6,8 +6,8 @@ ghost use Rattle.zarrs_array_bytes.specs.Held.{items_of};
 ghost use Rattle.zarrs_array_bytes.specs.Offsets.{last_of};
 ghost use Rattle.zarrs_array_bytes.specs.Parts.{raw_and_offsets, variable_part};
 ghost use Rattle.zarrs_chain_meaning.specs.BytesStages.{in_memory};
-ghost use Rattle.zarrs_chain_meaning.specs.vlen.Vlen.{arranged, vlen_parts};
-ghost use Rattle.zarrs_chain_meaning.specs.Parts.{length_bytes, length_of};
+ghost use Rattle.zarrs_chain_meaning.specs.vlen.Vlen.{arranged, vlen_value_parts};
+ghost use Rattle.zarrs_chain_meaning.specs.Parts.{part_length_bytes, length_of};
 ghost use Rattle.zarrs_chain_meaning.specs.optional.OptionalParts.{both_lent};
 ghost use Rattle.zarrs_chain_meaning.specs.vlen.VlenSettings.{is_at_end};
 ghost use Rattle.zarrs_chain_meaning.specs.vlen.VlenSteps.{data_part as data_part_of};
@@ -25,7 +25,6 @@ const LENGTH_SIZE: usize = 8;
 /// How many bytes the index has, of the bytes that spell it and how many others there are.
 fn index_size(head: &[u8], others: usize) -> Result<usize, CodecError>
     requires len { length head.now ≡ 8 }
-    // Wide: the test, its error and the answer.
     ensures answer { result ≡ seen (λ _. length_of head.now)
         (demand (nat_le (length_of head.now) others) IndexLength) }
 {
@@ -38,7 +37,7 @@ fn index_size(head: &[u8], others: usize) -> Result<usize, CodecError>
 
 /// The parts where the index stands first.
 fn split_start(value: &[u8]) -> Result<(&[u8], &[u8]), CodecError>
-    ensures answer { seen both_lent result ≡ vlen_parts false value.now }
+    ensures answer { seen both_lent result ≡ vlen_value_parts false value.now }
 {
     if value.len() < LENGTH_SIZE {
         return Err(CodecError::InvalidBytesLength {
@@ -53,7 +52,7 @@ fn split_start(value: &[u8]) -> Result<(&[u8], &[u8]), CodecError>
 
 /// The parts where the index stands last.
 fn split_end(value: &[u8]) -> Result<(&[u8], &[u8]), CodecError>
-    ensures answer { seen both_lent result ≡ vlen_parts true value.now }
+    ensures answer { seen both_lent result ≡ vlen_value_parts true value.now }
 {
     if value.len() < LENGTH_SIZE {
         return Err(CodecError::InvalidBytesLength {
@@ -70,7 +69,7 @@ fn split_end(value: &[u8]) -> Result<(&[u8], &[u8]), CodecError>
 /// The index and the data of a value. Errors, the first that holds: `InvalidBytesLength` where it
 /// is shorter than the index's length; `IndexLength` where the index is longer than what is left.
 pub fn split(value: &[u8], location: VlenIndexLocation) -> Result<(&[u8], &[u8]), CodecError>
-    ensures answer { seen both_lent result ≡ vlen_parts (is_at_end location) value.now }
+    ensures answer { seen both_lent result ≡ vlen_value_parts (is_at_end location) value.now }
     ensures no_fault { is_fault result ≡ false }
 {
     match location {
@@ -155,16 +154,15 @@ fn joined(alloc: Global, first: &[u8], second: &[u8], third: &[u8]) -> Result<Ve
 }
 
 /// The value of an index and data. Errors: `OutOfMemory`.
-#[tactic(auto, unfolding(crate::specs::Parts::length_bytes))]
+#[tactic(auto, unfolding(crate::specs::Parts::part_length_bytes))]
 pub fn join(
     alloc: Global,
     index: &[u8],
     content: &[u8],
     location: VlenIndexLocation,
 ) -> Result<Vec<u8>, CodecError>
-    // Wide: the three parts, and where they stand.
     ensures answer { GivesItems result (in_memory (arranged (is_at_end location)
-        (length_bytes index.now) index.now content.now)) }
+        (part_length_bytes index.now) index.now content.now)) }
 {
     let head = (index.len() as u64).to_le_bytes();
     match location {

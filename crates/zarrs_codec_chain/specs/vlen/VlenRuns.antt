@@ -1,9 +1,9 @@
 -- Reading runs of places through a `vlen` codec: what the calls for that ask and give.
-use Rattle.std.specs.Prelude.{◌≡◌, ℕ, Option, option_map, List, Vec, Result, true, false}
-use Rattle.std.proofs.Common.{Global}
-use Rattle.zarrs_chunk.specs.Answer.{AnswersBy, GivesBy, GivesValue, is_fault, memory_or_fault, seen}
+use Rattle.std.specs.Prelude.{◌≡◌, ℕ, Option, List, Result, true, false}
+use Rattle.zarrs_chunk.specs.Answer.{AnswersBy, GivesValue, is_fault, memory_or_fault, seen}
 use Rattle.zarrs_chunk.specs.Runs.{joined_runs}
 use Rattle.zarrs_chunk.specs.declared.codec_error.CodecError.{CodecError}
+use Rattle.zarrs_data_type.specs.Element.{Chunk}
 use Rattle.zarrs_data_type.specs.ElementType.{ElementType}
 use Rattle.zarrs_data_type.specs.Form.{form_of}
 use Rattle.zarrs_array_bytes.specs.Held.{Held}
@@ -34,15 +34,9 @@ GivesForm f codec sizes type fill result =
 
 -- ---- by the whole value
 
--- a container of those at the places of these runs; of fill elements, where there is no value
-abbrev pub Picks : {B : Type 0} → BytesCodecs B → VlenCodec B → Option (Vec ℕ Global) → List ℕ → ElementType → List ℕ → List (ℕ × ℕ) → Result Held CodecError → Type 0
-Picks f codec value sizes type fill runs result =
-    GivesBy (Holds type) result (whole_read (codec_chunk f (plain_vlen codec)) sizes type fill (option_map (λ items. items.items) value) (joined_runs runs))
-
--- the same of what a handle keeps, which may fail (`state` says what a handle keeps)
-abbrev pub ReadsWhole : {H B : Type 0} → (H → StorageState) → BytesCodecs B → VlenCodec B → H → List ℕ → ElementType → List ℕ → List (ℕ × ℕ) → Result Held CodecError → Type 0
-ReadsWhole state f codec before sizes type fill runs result =
-    AnswersBy memory_or_fault (Holds type) result (whole_read (codec_chunk f (plain_vlen codec)) sizes type fill (state before).value (joined_runs runs))
+-- the elements at the places of these runs, of the chunk that the value stands for; fill elements, where there is no value
+abbrev pub vlen_whole_runs : {B : Type 0} → BytesCodecs B → VlenCodec B → List ℕ → ElementType → List ℕ → Option (List ℕ) → List (ℕ × ℕ) → Result Chunk CodecError
+vlen_whole_runs f codec sizes type fill value runs = whole_read (codec_chunk f (plain_vlen codec)) sizes type fill value (joined_runs runs)
 
 -- ---- of a plain `vlen`, by the offsets and the elements' bytes
 

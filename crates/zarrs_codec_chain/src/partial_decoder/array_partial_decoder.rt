@@ -5,7 +5,7 @@ ghost use Rattle.zarrs_chunk.specs.Indexer.{selection_of};
 ghost use Rattle.zarrs_array_bytes.specs.Tight.{IsTight};
 ghost use Rattle.zarrs_codec.specs.HandleCalls.{NeverFailsIf, Tells};
 ghost use Rattle.zarrs_chain_meaning.specs.Chain.{chain_reads};
-ghost use Rattle.zarrs_codec_chain.specs.ChunkRead.{PlansRead, decodes_parts, ReadsChunk};
+ghost use Rattle.zarrs_codec_chain.specs.ChunkRead.{PlansRead, decodes_parts, ReadsStoredChunk};
 ghost use Rattle.zarrs_codec_chain.specs.ChunkSource.{source_made};
 ghost use Rattle.zarrs_codec_chain.specs.ElementCode.{Chunk-set};
 ghost use Rattle.zarrs_codec_chain.specs.ChunkCalls.{WholeOnce};
@@ -41,11 +41,11 @@ pub struct ArrayPartialDecoder<'a, H: BytesPartialDecoderTraits, B: BytesToBytes
 }
 
 impl<'a, H: BytesPartialDecoderTraits, B: BytesToBytesCodecTraits> ArrayPartialDecoder<'a, H, B> {
-    ghost use Rattle.zarrs_codec_chain.specs.PartialDecoder.{decoder_held, form_of, handle_of, is_cached, DecoderLeaves, DecoderLeavesAlone, KeepsCache};
+    ghost use Rattle.zarrs_codec_chain.specs.PartialDecoder.{decoder_held, decoder_form, handle_of, is_cached, DecoderLeaves, DecoderLeavesAlone, KeepsCache};
 
     /// The type of the elements.
     pub fn data_type(&self) -> &DataType
-        ensures value { result.now ≡ (form_of self.now).type }
+        ensures value { result.now ≡ (decoder_form self.now).type }
     {
         self.coder.data_type()
     }
@@ -77,14 +77,12 @@ impl<'a, H: BytesPartialDecoderTraits, B: BytesToBytesCodecTraits> ArrayPartialD
         alloc: Global,
         indexer: &Indexer,
     ) -> Result<ArrayBytes<'static>, CodecError>
-        // Wide: no other clause says this, so it is written out.
-        ensures reads { ReadsChunk B.functions (form_of self.old) (H.state (handle_of self.old))
+        ensures reads { ReadsStoredChunk B.functions (decoder_form self.old) (H.state (handle_of self.old))
             (selection_of indexer.now) result }
-        ensures tight { IfOk result (IsTight (form_of self.old).type) }
+        ensures tight { IfOk result (IsTight (decoder_form self.old).type) }
         ensures no_fault_if_cached { NeverFailsIf (is_cached self.old) result }
         ensures alone { DecoderLeavesAlone self.old self.new }
-        // Wide: no other clause says this, so it is written out.
-        ensures counted { is_cached self.old ≡ false → WholeOnce H.calls (form_of self.old).chain
+        ensures counted { is_cached self.old ≡ false → WholeOnce H.calls (decoder_form self.old).chain
             (handle_of self.old) (handle_of self.new) result }
         ensures left { DecoderLeaves H.state H.lent self.old self.new result }
     {
@@ -124,7 +122,7 @@ impl<'a, H: BytesPartialDecoderTraits, B: BytesToBytesCodecTraits> ArrayPartialD
         alloc: Global,
         indexer: &Indexer,
     ) -> Result<Option<Vec<ByteRange>>, CodecError>
-        ensures plan { PlansRead B.functions (form_of self.now) (selection_of indexer.now) result }
+        ensures plan { PlansRead B.functions (decoder_form self.now) (selection_of indexer.now) result }
     {
         self.coder.planned_ranges(alloc, indexer)
     }
@@ -132,7 +130,7 @@ impl<'a, H: BytesPartialDecoderTraits, B: BytesToBytesCodecTraits> ArrayPartialD
     /// Whether a part is read without the rest: where all codecs of the chain decode a part, and the
     /// handle reads ranges by themselves.
     pub fn supports_partial_decode(&self) -> bool
-        ensures value { result ≡ decodes_parts B.reads_in_part (form_of self.now)
+        ensures value { result ≡ decodes_parts B.reads_in_part (decoder_form self.now)
             && H.reads_ranges }
     {
         self.coder.decodes_parts() && self.handle.supports_partial_decode()
@@ -149,9 +147,9 @@ impl<'a, H: BytesPartialDecoderTraits, B: BytesToBytesCodecTraits> ArrayPartialD
 
 impl<'a, H: BytesPartialDecoderTraits, B: BytesToBytesCodecTraits> ArrayPartialDecoderTraits
     for ArrayPartialDecoder<'a, H, B> {
-    ghost use Rattle.zarrs_codec_chain.specs.PartialDecoder.{chunk_reader, decoder_held, form_of, handle_of, is_cached};
+    ghost use Rattle.zarrs_codec_chain.specs.PartialDecoder.{chunk_reader, decoder_held, decoder_form, handle_of, is_cached};
 
-    ghost reader = { λ decoder. chunk_reader B.functions (form_of decoder) (is_cached decoder) (H.state (handle_of decoder)).sure (H.state (handle_of decoder)).value ((chain_reads B.reads_in_part (form_of decoder).chain).partial_decode && H.reads_ranges) };
+    ghost reader = { λ decoder. chunk_reader B.functions (decoder_form decoder) (is_cached decoder) (H.state (handle_of decoder)).sure (H.state (handle_of decoder)).value ((chain_reads B.reads_in_part (decoder_form decoder).chain).partial_decode && H.reads_ranges) };
 
     ghost state = { λ decoder. H.state (handle_of decoder) };
 
@@ -161,7 +159,7 @@ impl<'a, H: BytesPartialDecoderTraits, B: BytesToBytesCodecTraits> ArrayPartialD
 
     ghost use Rattle.zarrs_codec_chain.specs.CountLaws.{chunk_counts};
 
-    ghost counts = { λ decoder. chunk_counts B.functions (form_of decoder) (is_cached decoder) (H.state (handle_of decoder)).sure (H.state (handle_of decoder)).value ((chain_reads B.reads_in_part (form_of decoder).chain).partial_decode && H.reads_ranges) };
+    ghost counts = { λ decoder. chunk_counts B.functions (decoder_form decoder) (is_cached decoder) (H.state (handle_of decoder)).sure (H.state (handle_of decoder)).value ((chain_reads B.reads_in_part (decoder_form decoder).chain).partial_decode && H.reads_ranges) };
 
     fn data_type(&self) -> &DataType {
         ArrayPartialDecoder::data_type(self)

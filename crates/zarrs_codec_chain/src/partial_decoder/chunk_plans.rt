@@ -5,7 +5,7 @@ ghost use Rattle.zarrs_chunk.specs.Indexer.{selection_of};
 ghost use Rattle.zarrs_chunk.specs.Runs.{AreApart, places_in};
 ghost use Rattle.zarrs_chunk.specs.Tuples.{is_box_inside};
 ghost use Rattle.zarrs_chain.specs.ChainView.{plain_chain};
-ghost use Rattle.zarrs_codec_chain.specs.ChunkRead.{PlansRead, ordered_places, planned_region as planned_region_of, reads_places};
+ghost use Rattle.zarrs_codec_chain.specs.ChunkRead.{PlansRead, planned_order, planned_region as planned_region_of, reads_places};
 
 use crate::chunk_coder::ChunkCoder;
 use crate::partial_decoder::codec_read::{codec_in_place, planned_runs, plans_reads};
@@ -40,7 +40,6 @@ impl<'a, B: BytesToBytesCodecTraits> ChunkCoder<'a, B> {
     /// The box that the indexer selects, where its bytes are planned in the order in which they
     /// stand.
     fn planned_region<'i>(&self, indexer: &'i Indexer) -> Option<&'i ArraySubset>
-        // Wide: no other clause says this, so it is written out.
         ensures region { option_map (λ box. box.now) result
             ≡ planned_region_of (coder_form self.now) (selection_of indexer.now) }
         ensures region_kept { IfSome result (λ box. IsKeptRegion self.now indexer.now box.now) }
@@ -55,9 +54,8 @@ impl<'a, B: BytesToBytesCodecTraits> ChunkCoder<'a, B> {
     /// in the order in which their bytes are planned, as runs. Errors: those of `Indexer::check`;
     /// `OutOfMemory`.
     fn ordered_runs(&self, alloc: Global, indexer: &Indexer) -> Result<Vec<(u64, u64)>, CodecError>
-        // Wide: no other clause says this, so it is written out.
         ensures answer { Gives places_in result
-            (ordered_places (coder_form self.now) (selection_of indexer.now)) }
+            (planned_order (coder_form self.now) (selection_of indexer.now)) }
         ensures filled { IfOk result (λ runs. All (λ run. 0 < run.1) runs.items) }
         ensures inside { IfOk result (λ runs. AreInside self.now runs.items) }
         ensures apart { IfOk result (λ runs. AreApart runs.items) }
@@ -97,7 +95,6 @@ impl<'a, B: BytesToBytesCodecTraits> ChunkCoder<'a, B> {
 
 /// Whether a read asks for the bytes of its places alone.
 fn asks_for_places<B: BytesToBytesCodecTraits>(chain: &CodecChain<B>) -> bool
-    // Wide: no other clause says this, so it is written out.
     ensures value { result ≡ reads_places (plain_chain chain.now).bytes_to_bytes
         (plain_chain chain.now).array_to_bytes }
 {

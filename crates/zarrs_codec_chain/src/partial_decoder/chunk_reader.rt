@@ -9,8 +9,8 @@ ghost use Rattle.zarrs_chunk.specs.Tuples.{is_box_inside};
 ghost use Rattle.zarrs_array_bytes.specs.Tight.{IsTight};
 ghost use Rattle.zarrs_codec.specs.HandleCalls.{NeverFailsIf, Tells};
 ghost use Rattle.zarrs_codec.specs.StorageState.{after_reading};
-ghost use Rattle.zarrs_codec_chain.specs.ChunkRead.{decodes_parts, ReadsChunk};
-ghost use Rattle.zarrs_codec_chain.specs.ChunkSource.{held_by, is_kept, is_there};
+ghost use Rattle.zarrs_codec_chain.specs.ChunkRead.{decodes_parts, ReadsStoredChunk};
+ghost use Rattle.zarrs_codec_chain.specs.ChunkSource.{held_by, is_cache, is_source_stored};
 ghost use Rattle.zarrs_array_regions.specs.KeptRegions.{kept_region as kept_region_of};
 ghost use Rattle.zarrs_chain.specs.ChainView.{plain_chain};
 
@@ -27,7 +27,7 @@ use zarrs_chunk::{ArraySubset, CodecError, Indexer};
 use zarrs_codec::{BytesPartialDecoderTraits, BytesToBytesCodecTraits, CodecTraits};
 
 impl<'a, B: BytesToBytesCodecTraits> ChunkCoder<'a, B> {
-    ghost use Rattle.zarrs_codec_chain.specs.ChunkCoder.{IsFilledFrom, coder_form, coder_is_cached, IsKeptRegion, AreInside, AsksOnce, LeavesAlone, ReadsSelected, RefusedAtIndexer, SureSelected, IsInPlace, coder_keeps_regions, reader_places, reader_source};
+    ghost use Rattle.zarrs_codec_chain.specs.ChunkCoder.{IsFilledFrom, coder_form, coder_is_cached, IsKeptRegion, AreInside, CoderAsksOnce, LeavesAlone, ReadsSelected, RefusedAtIndexer, SureSelected, IsInPlace, coder_keeps_regions, reader_places, reader_source};
 
     /// Whether all codecs of the chain decode a part.
     pub(crate) fn decodes_parts(&self) -> bool
@@ -74,7 +74,6 @@ impl<'a, B: BytesToBytesCodecTraits> ChunkCoder<'a, B> {
 
     /// The box that the indexer selects, where it goes through the array-to-array codecs as a box.
     pub(crate) fn kept_region<'i>(&self, indexer: &'i Indexer) -> Option<&'i ArraySubset>
-        // Wide: no other clause says this, so it is written out.
         ensures region { option_map (λ box. box.now) result ≡ kept_region_of (plain_chain
             self.now.chain.now).array_to_array self.now.shape (selection_of indexer.now) }
         ensures region_kept { IfSome result (λ box. IsKeptRegion self.now indexer.now box.now) }
@@ -100,10 +99,10 @@ impl<'a, B: BytesToBytesCodecTraits> ChunkCoder<'a, B> {
         ensures tight { IfOk result (IsTight self.now.data_type) }
         ensures sure { SureSelected self.now (H.state handle.old) (subset_of region.now) result }
         ensures alone { LeavesAlone self.now handle.old handle.new }
-        ensures counted { AsksOnce H.calls self.now handle.old handle.new result }
+        ensures counted { CoderAsksOnce H.calls self.now handle.old handle.new result }
         ensures left { H.state handle.new ≡ after_reading result (H.state handle.old) }
         ensures same_reference { H.lent handle.new ≡ H.lent handle.old }
-        ensures no_fault_if_cached { NeverFailsIf (is_kept self.now.cache) result }
+        ensures no_fault_if_cached { NeverFailsIf (is_cache self.now.cache) result }
     {
         self.is_sound();
         let codecs = self.chain.array_to_array_codecs();
@@ -150,7 +149,7 @@ impl<'a, B: BytesToBytesCodecTraits> ChunkCoder<'a, B> {
         ensures indexer_first { RefusedAtIndexer self.now indexer.now result }
         ensures sure { SureSelected self.now (H.state handle.old)
             (selection_of indexer.now) result }
-        ensures counted { AsksOnce H.calls self.now handle.old handle.new result }
+        ensures counted { CoderAsksOnce H.calls self.now handle.old handle.new result }
         ensures left { H.state handle.new ≡ after_reading result (H.state handle.old) }
         ensures same_reference { H.lent handle.new ≡ H.lent handle.old }
     {
@@ -175,10 +174,10 @@ impl<'a, B: BytesToBytesCodecTraits> ChunkCoder<'a, B> {
         ensures sure { SureSelected self.now (H.state handle.old)
             (selection_of indexer.now) result }
         ensures alone { LeavesAlone self.now handle.old handle.new }
-        ensures counted { AsksOnce H.calls self.now handle.old handle.new result }
+        ensures counted { CoderAsksOnce H.calls self.now handle.old handle.new result }
         ensures left { H.state handle.new ≡ after_reading result (H.state handle.old) }
         ensures same_reference { H.lent handle.new ≡ H.lent handle.old }
-        ensures no_fault_if_cached { NeverFailsIf (is_kept self.now.cache) result }
+        ensures no_fault_if_cached { NeverFailsIf (is_cache self.now.cache) result }
     {
         if let Some(region) = self.kept_region(indexer) {
             return self.read_region(alloc, handle, region);
@@ -200,13 +199,12 @@ impl<'a, B: BytesToBytesCodecTraits> ChunkCoder<'a, B> {
         indexer: &Indexer,
     ) -> Result<ArrayBytes<'static>, CodecError>
         requires cache_filled { IsFilledFrom B.functions self.now (H.state handle.old).value }
-        // Wide: no other clause says this, so it is written out.
-        ensures reads { ReadsChunk B.functions (coder_form self.now) (H.state handle.old)
+        ensures reads { ReadsStoredChunk B.functions (coder_form self.now) (H.state handle.old)
             (selection_of indexer.now) result }
         ensures tight { IfOk result (IsTight self.now.data_type) }
         ensures no_fault_if_cached { NeverFailsIf (coder_is_cached self.now) result }
         ensures alone { LeavesAlone self.now handle.old handle.new }
-        ensures counted { AsksOnce H.calls self.now handle.old handle.new result }
+        ensures counted { CoderAsksOnce H.calls self.now handle.old handle.new result }
         ensures left { H.state handle.new ≡ after_reading result (H.state handle.old) }
         ensures same_reference { H.lent handle.new ≡ H.lent handle.old }
     {
@@ -220,12 +218,12 @@ impl<'a, B: BytesToBytesCodecTraits> ChunkCoder<'a, B> {
         handle: &mut H,
     ) -> Result<bool, CodecError>
         ensures answer { Tells result
-            (is_there (reader_source self.now (H.state handle.old).value)) }
+            (is_source_stored (reader_source self.now (H.state handle.old).value)) }
         ensures sure { NeverFailsIf (is_some (H.state handle.old).sure) result }
         ensures alone { LeavesAlone self.now handle.old handle.new }
         ensures left { H.state handle.new ≡ after_reading result (H.state handle.old) }
         ensures same_reference { H.lent handle.new ≡ H.lent handle.old }
-        ensures no_fault_if_cached { NeverFailsIf (is_kept self.now.cache) result }
+        ensures no_fault_if_cached { NeverFailsIf (is_cache self.now.cache) result }
     {
         match &self.cache {
             Cache::Handle => handle.exists(),

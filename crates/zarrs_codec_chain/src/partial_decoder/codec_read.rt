@@ -9,7 +9,7 @@ ghost use Rattle.zarrs_array_bytes.specs.Validity.{Holds};
 ghost use Rattle.zarrs_codec.specs.StorageState.{after_reading};
 ghost use Rattle.zarrs_chain_meaning.specs.Chain.{codec_reads as codec_reads_of};
 ghost use Rattle.zarrs_chain.specs.ChainView.{plain_chain, plain_codec};
-ghost use Rattle.zarrs_codec_chain.specs.ChunkRead.{ReadsRuns, SureRuns};
+ghost use Rattle.zarrs_codec_chain.specs.ChunkRead.{ChunkReadsRuns, SureRuns};
 ghost use Rattle.zarrs_codec_chain.specs.CodecPart.{codec_plans, codec_read, order_in_place, IsCodecPlan};
 ghost use Rattle.zarrs_codec_chain.specs.CodecRead.{Takes};
 
@@ -41,11 +41,9 @@ pub(crate) fn read_runs<H: BytesPartialDecoderTraits, B: BytesToBytesCodecTraits
     requires filled { All (λ run. 0 < run.1) runs.now }
     requires below { All (λ run. run.0 + run.1 ≤ product shape.now) runs.now }
     requires count { length (joined_runs runs.now) < 2 ^ 64 }
-    // Wide: three parameters of a form, beside the codec, the handle and the runs.
-    ensures answer { ReadsRuns B.functions (plain_codec codec.now)
+    ensures answer { ChunkReadsRuns B.functions (plain_codec codec.now)
         (form_of shape.now kind.now fill.now) (H.state handle.old) runs.now result }
     ensures tight { IfOk result (IsTight kind.now) }
-    // Wide: no other clause says this, so it is written out.
     ensures sure { SureRuns (plain_codec codec.now) (form_of shape.now kind.now fill.now)
         (H.state handle.old) runs.now result }
     ensures left { H.state handle.new ≡ after_reading result (H.state handle.old) }
@@ -78,7 +76,6 @@ pub(crate) fn read_runs_of_bytes<B: BytesToBytesCodecTraits>(
     requires filled { All (λ run. 0 < run.1) runs.now }
     requires below { All (λ run. run.0 + run.1 ≤ product shape.now) runs.now }
     requires count { length (joined_runs runs.now) < 2 ^ 64 }
-    // Wide: three parameters of a form, beside the codec, the bytes and the runs.
     ensures answer { GivesBy (Holds kind.now) result (codec_read B.functions (plain_codec codec.now)
         shape.now kind.now fill.now (option_map (λ v. v.now) bytes.entry) (joined_runs runs.now)) }
     ensures tight { IfOk result (IsTight kind.now) }
@@ -117,7 +114,6 @@ fn as_bytes<B>(codec: &ArrayToBytesCodec<B>) -> Option<&BytesCodec>
 
 /// The codec `bytes`, where the chain has no bytes-to-bytes codecs around it.
 pub(crate) fn codec_in_place<B>(chain: &CodecChain<B>) -> Option<&BytesCodec>
-    // Wide: no other clause says this, so it is written out.
     ensures value { option_map (λ v. v.now) result ≡ order_in_place
         (plain_chain chain.now).bytes_to_bytes (plain_chain chain.now).array_to_bytes }
 {
@@ -142,7 +138,6 @@ pub(crate) fn planned_runs<B: BytesToBytesCodecTraits>(
     requires filled { All (λ run. 0 < run.1) runs.now }
     requires below { All (λ run. run.0 + run.1 ≤ product shape.now) runs.now }
     requires apart { AreApart runs.now }
-    // Wide: no other clause says this, so it is written out.
     ensures plan { GivesBy (λ ranges _. IsCodecPlan (plain_codec codec.now) shape.now kind.now
         fill.now (joined_runs runs.now) ranges.items) result no_refusal }
     ensures filled { IfOk result (λ ranges. All (λ range. range.start < range.end) ranges.items) }

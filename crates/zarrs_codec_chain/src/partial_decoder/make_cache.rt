@@ -8,7 +8,7 @@ ghost use Rattle.zarrs_array_bytes.specs.Validity.{Holds};
 ghost use Rattle.zarrs_codec.specs.StorageState.{after_reading};
 ghost use Rattle.zarrs_chain_meaning.specs.Chain.{codec_reads as codec_reads_of};
 ghost use Rattle.zarrs_chain.specs.ChainView.{plain_chain};
-ghost use Rattle.zarrs_codec_chain.specs.ChunkSource.{bytes_left, cache_stage as cache_stage_of, has_cache, is_kept, kept_stage, stage_by, is_cache_of, is_stage_of, opened_chunk, upper_bytes, FilledOnce, FillsCache};
+ghost use Rattle.zarrs_codec_chain.specs.ChunkSource.{undecoded_codecs, cache_stage as cache_stage_of, has_cache, is_cache, kept_stage, stage_by, is_cache_of, is_stage_of, opened_chunk, upper_bytes, FilledOnce, FillsCache};
 ghost use Rattle.zarrs_codec_chain.specs.CacheTight.{CacheIsTight};
 ghost use Rattle.zarrs_codec_chain.specs.CodecRead.{CodecTakes};
 
@@ -28,7 +28,7 @@ use zarrs_data_type::{DataType, FillValue};
 /// How many of the first bytes-to-bytes codecs a cache leaves undecoded, where one of the codecs
 /// wants a cache.
 fn codecs_left<B: BytesToBytesCodecTraits>(codecs: &[B]) -> Option<usize>
-    ensures value { result ≡ bytes_left (map B.reads_in_part codecs.now) }
+    ensures value { result ≡ undecoded_codecs (map B.reads_in_part codecs.now) }
     ensures known { (left : ℕ) → result ≡ Some left → left ≤ length codecs.now }
 {
     match codecs {
@@ -123,7 +123,6 @@ pub(crate) fn chunk_below<B: BytesToBytesCodecTraits>(
     value: Vec<u8>,
 ) -> Result<ArrayBytes<'static>, CodecError>
     requires taken { CodecTakes B.functions chain.now encoded.now kind.now fill.now }
-    // Wide: three parameters of a form, beside the chain, its representation and the value.
     ensures answer { GivesBy (Holds kind.now) result (opened_chunk B.functions
         (plain_chain chain.now) encoded.now kind.now fill.now representation.now value.items) }
     ensures tight { IfOk result (IsTight kind.now) }
@@ -159,7 +158,6 @@ pub(crate) fn make_cache<H: BytesPartialDecoderTraits, B: BytesToBytesCodecTrait
 ) -> Result<Cache, CodecError>
     requires taken { CodecTakes B.functions chain.now encoded.now kind.now fill.now }
     requires stage { is_stage_of (plain_chain chain.now) stage ≡ true }
-    // Wide: three parameters of a form, beside the chain, the cache's stage and the handle.
     ensures answer { FillsCache B.functions (plain_chain chain.now) representation stage
         (form_of encoded.now kind.now fill.now) (H.state handle.old).value result }
     ensures fits { IfOk result
@@ -169,8 +167,8 @@ pub(crate) fn make_cache<H: BytesPartialDecoderTraits, B: BytesToBytesCodecTrait
     ensures left { H.state handle.new ≡ after_reading result (H.state handle.old) }
     ensures same_reference { H.lent handle.new ≡ H.lent handle.old }
     ensures counted { IfOk result
-        (λ cache. FilledOnce H.calls (is_kept cache) handle.old handle.new) }
-    ensures cached { IfOk result (λ cache. is_kept cache ≡ has_cache stage) }
+        (λ cache. FilledOnce H.calls (is_cache cache) handle.old handle.new) }
+    ensures cached { IfOk result (λ cache. is_cache cache ≡ has_cache stage) }
     ensures no_fault_if_uncached { stage ≡ CacheStage.Nowhere → is_fault result ≡ false }
 {
     match stage {

@@ -8,7 +8,7 @@ ghost use Rattle.zarrs_codec.specs.HandleCalls.{NeverFailsIf};
 ghost use Rattle.zarrs_codec.specs.StorageState.{after_reading};
 ghost use Rattle.zarrs_chain.specs.ChainView.{plain_chain};
 ghost use Rattle.zarrs_codec_chain.specs.ChunkCalls.{WholeOnce};
-ghost use Rattle.zarrs_codec_chain.specs.ChunkSource.{is_kept, bytes_above, chunk_below as chunk_source, is_cache_of};
+ghost use Rattle.zarrs_codec_chain.specs.ChunkSource.{is_cache, bytes_above, chunk_below as chunk_source, is_cache_of};
 ghost use Rattle.zarrs_chunk.specs.ChunkShape.{product};
 ghost use Rattle.zarrs_array_bytes.specs.Elements.{elements};
 ghost use Rattle.zarrs_codec_chain.specs.CacheTight.{CacheIsTight};
@@ -26,7 +26,7 @@ use zarrs_chunk::CodecError;
 use zarrs_codec::{BytesPartialDecoderTraits, BytesToBytesCodecTraits};
 
 impl<'a, B: BytesToBytesCodecTraits> ChunkCoder<'a, B> {
-    ghost use Rattle.zarrs_codec_chain.specs.ChunkCoder.{reader_reads_parts, AsksOnce, GivesOpened, SureSource, AreInside, LeavesAlone, ReadsStored, GivesSource, ReadsSource, reader_source};
+    ghost use Rattle.zarrs_codec_chain.specs.ChunkCoder.{reader_reads_parts, CoderAsksOnce, GivesOpened, SureSource, AreInside, LeavesAlone, ReadsStored, GivesSource, ReadsSource, reader_source};
 
     /// The elements at the places of these runs, by the bytes above so many of the first
     /// bytes-to-bytes codecs, or by none. Errors, the first that holds, `OutOfMemory` aside:
@@ -44,7 +44,6 @@ impl<'a, B: BytesToBytesCodecTraits> ChunkCoder<'a, B> {
         requires filled { All (λ run. 0 < run.1) runs.now }
         requires inside { AreInside self.now runs.now }
         requires count { length (joined_runs runs.now) < 2 ^ 64 }
-        // Wide: no other clause says this, so it is written out.
         ensures answer { GivesSource B.functions self.now
             (bytes_above below (option_map (λ v. items_of v) value.entry)) runs.now result }
         ensures tight { IfOk result (IsTight self.now.data_type) }
@@ -168,15 +167,12 @@ impl<'a, B: BytesToBytesCodecTraits> ChunkCoder<'a, B> {
         chunk: &Option<ArrayBytes<'static>>,
         runs: &[(u64, u64)],
     ) -> Result<ArrayBytes<'static>, CodecError>
-        // Wide: no other clause says this, so it is written out.
         requires fits { is_cache_of self.now.chain.now self.now.encoded self.now.data_type
             (Cache.Chunk chunk.now) ≡ true }
         requires inside { AreInside self.now runs.now }
         requires count { length (joined_runs runs.now) < 2 ^ 64 }
-        // Wide: no other clause says this, so it is written out.
         ensures answer { GivesSource B.functions self.now (chunk_source (option_map
             (elements self.now.data_type (product self.now.encoded)) chunk.now)) runs.now result }
-        // Wide: no other clause says this, so it is written out.
         ensures tight { CacheIsTight self.now.data_type (Cache.Chunk chunk.now)
             → IfOk result (IsTight self.now.data_type) }
     {
@@ -199,16 +195,15 @@ impl<'a, B: BytesToBytesCodecTraits> ChunkCoder<'a, B> {
         requires filled { All (λ run. 0 < run.1) runs.now }
         requires inside { AreInside self.now runs.now }
         requires count { length (joined_runs runs.now) < 2 ^ 64 }
-        // Wide: no other clause says this, so it is written out.
         ensures answer { ReadsSource B.functions self.now
             (reader_source self.now (H.state handle.old).value) runs.now result }
         ensures tight { IfOk result (IsTight self.now.data_type) }
         ensures sure { SureSource self.now (H.state handle.old) runs.now result }
         ensures alone { LeavesAlone self.now handle.old handle.new }
-        ensures counted { AsksOnce H.calls self.now handle.old handle.new result }
+        ensures counted { CoderAsksOnce H.calls self.now handle.old handle.new result }
         ensures left { H.state handle.new ≡ after_reading result (H.state handle.old) }
         ensures same_reference { H.lent handle.new ≡ H.lent handle.old }
-        ensures no_fault_if_cached { NeverFailsIf (is_kept self.now.cache) result }
+        ensures no_fault_if_cached { NeverFailsIf (is_cache self.now.cache) result }
     {
         match &self.cache {
             Cache::Handle => {

@@ -7,9 +7,9 @@ ghost use Rattle.zarrs_codec.specs.BytesToBytesCodec.{AreBytes};
 ghost use Rattle.zarrs_codec.specs.HandleCalls.{NeverFailsIf, Tells};
 ghost use Rattle.zarrs_chain_meaning.specs.Chain.{chain_reads, chain_writes};
 ghost use Rattle.zarrs_chain_meaning.specs.Laws.{IsChainOfMappings};
-ghost use Rattle.zarrs_codec_chain.specs.ChunkRead.{PlansRead, decodes_parts, ReadsChunk, form_in_place};
+ghost use Rattle.zarrs_codec_chain.specs.ChunkRead.{PlansRead, decodes_parts, ReadsStoredChunk, form_in_place};
 ghost use Rattle.zarrs_codec_chain.specs.ChunkWrite.{encodes_parts};
-ghost use Rattle.zarrs_codec_chain.specs.ChunkCalls.{WholeOnce};
+ghost use Rattle.zarrs_codec_chain.specs.ChunkCalls.{CountsEditThrough, WholeOnce};
 ghost use Rattle.zarrs_bytes.specs.PartialWrite.{FailsByWriting};
 
 use crate::chunk_coder::ChunkCoder;
@@ -40,8 +40,8 @@ pub struct ArrayPartialEncoder<'a, H: BytesPartialEncoderTraits, B: BytesToBytes
 }
 
 impl<'a, H: BytesPartialEncoderTraits, B: BytesToBytesCodecTraits> ArrayPartialEncoder<'a, H, B> {
-    ghost use Rattle.zarrs_codec_chain.specs.PartialDecoder.{form_of, handle_of, is_cached};
-    ghost use Rattle.zarrs_codec_chain.specs.PartialEncoder.{encoder_form, encoder_handle, EncoderReads, EncoderWrites, EncoderWritesOnce, EncoderLeaves, EncoderCounts};
+    ghost use Rattle.zarrs_codec_chain.specs.PartialDecoder.{decoder_form, handle_of, is_cached};
+    ghost use Rattle.zarrs_codec_chain.specs.PartialEncoder.{encoder_form, encoder_handle, EncoderReads, EncoderWrites, EncoderWritesOnce, EncoderLeaves};
 
     /// What the chain, the shape and the fill value are made of holds.
     pub(crate) fn is_sound(&self)
@@ -83,11 +83,9 @@ impl<'a, H: BytesPartialEncoderTraits, B: BytesToBytesCodecTraits> ArrayPartialE
         alloc: Global,
         indexer: &Indexer,
     ) -> Result<ArrayBytes<'static>, CodecError>
-        // Wide: no other clause says this, so it is written out.
-        ensures reads { ReadsChunk B.functions (encoder_form self.old)
+        ensures reads { ReadsStoredChunk B.functions (encoder_form self.old)
             (H.state (encoder_handle self.old)) (selection_of indexer.now) result }
         ensures tight { IfOk result (IsTight (encoder_form self.old).type) }
-        // Wide: no other clause says this, so it is written out.
         ensures counted { WholeOnce H.calls (encoder_form self.old).chain (encoder_handle self.old)
             (encoder_handle self.new) result }
         ensures left { EncoderReads H.state H.lent self.old self.new result }
@@ -171,10 +169,10 @@ impl<'a, H: BytesPartialEncoderTraits, B: BytesToBytesCodecTraits> ArrayPartialE
         elements: &ArrayBytes<'_>,
     ) -> Result<(), CodecError>
         ensures edits { EncoderLeaves H.state self.old self.new indexer.now elements.now result }
-        // Wide: no other clause says this, so it is written out.
         ensures unread { is_some (form_in_place (encoder_form self.old)) ≡ true
             → FailsByWriting H.state (encoder_handle self.old) (encoder_handle self.new) result }
-        ensures counted { EncoderCounts H.calls H.state self.old self.new indexer.now result }
+        ensures counted { CountsEditThrough H.calls H.state (encoder_form self.old) (selection_of
+            indexer.now) (encoder_handle self.old) (encoder_handle self.new) result }
         ensures left { EncoderWrites H.state H.lent H.atomic self.old self.new result }
     {
         self.coder.is_sound();
@@ -203,7 +201,7 @@ impl<'a, H: BytesPartialEncoderTraits, B: BytesToBytesCodecTraits> ArrayPartialE
     /// The decoder over the same handle. It has no cache either.
     pub fn into_decoder(self) -> ArrayPartialDecoder<'a, H, B>
         ensures over { handle_of result ≡ encoder_handle self.entry }
-        ensures form { form_of result ≡ encoder_form self.entry }
+        ensures form { decoder_form result ≡ encoder_form self.entry }
         ensures uncached { is_cached result ≡ false }
     {
         let ArrayPartialEncoder { handle, coder } = self;

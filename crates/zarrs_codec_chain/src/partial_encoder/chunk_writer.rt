@@ -5,7 +5,7 @@ ghost use Rattle.zarrs_codec_chain.specs.ChunkWrite.{encodes_parts};
 ghost use Rattle.zarrs_chunk.specs.Indexer.{selection_of};
 ghost use Rattle.zarrs_bytes.specs.PartialWrite.{FailsByWriting};
 ghost use Rattle.zarrs_codec_chain.specs.ChunkRead.{form_in_place};
-ghost use Rattle.zarrs_codec_chain.specs.ChunkCalls.{CountsEdit};
+ghost use Rattle.zarrs_codec_chain.specs.ChunkCalls.{CountsEditThrough};
 
 use crate::chunk_coder::ChunkCoder;
 use crate::partial_decoder::codec_read::codec_in_place;
@@ -16,7 +16,7 @@ use zarrs_codec::{BytesPartialEncoderTraits, BytesToBytesCodecTraits, CodecTrait
 
 impl<'a, B: BytesToBytesCodecTraits> ChunkCoder<'a, B> {
     ghost use Rattle.zarrs_codec_chain.specs.ChunkCoder.{coder_form};
-    ghost use Rattle.zarrs_codec_chain.specs.ChunkWriter.{Writes};
+    ghost use Rattle.zarrs_codec_chain.specs.ChunkWriter.{CoderWrites};
 
     /// Writes new elements at the places that the indexer selects. Errors: those of
     /// `ArrayPartialEncoder::partial_encode`.
@@ -27,13 +27,12 @@ impl<'a, B: BytesToBytesCodecTraits> ChunkCoder<'a, B> {
         indexer: &Indexer,
         new: &ArrayBytes<'_>,
     ) -> Result<(), CodecError>
-        ensures writes { Writes H.state self.now handle.old handle.new indexer.now new.now result }
-        // Wide: no other clause says this, so it is written out.
+        ensures writes { CoderWrites H.state self.now (form_in_place (coder_form self.now))
+            handle.old handle.new (selection_of indexer.now) new.now result }
         ensures unread { is_some (form_in_place (coder_form self.now)) ≡ true
             → FailsByWriting H.state handle.old handle.new result }
-        // Wide: the record and the state of the handle before and after.
-        ensures counted { CountsEdit H.calls H.state (coder_form self.now) (form_in_place
-            (coder_form self.now)) (selection_of indexer.now) handle.old handle.new result }
+        ensures counted { CountsEditThrough H.calls H.state (coder_form self.now)
+            (selection_of indexer.now) handle.old handle.new result }
         ensures left { HandleWrites H.state H.lent H.atomic handle.old handle.new result }
     {
         match codec_in_place(self.chain) {

@@ -67,7 +67,6 @@ pub fn run_edits<H: BytesPartialEncoderTraits, B: BytesToBytesCodecTraits>(
 ) -> EditOutcome
     ensures within { result.done ≤ length edits.now }
     ensures all_done { is_none result.refusal ≡ (result.done == length edits.now) }
-    // Wide: no other clause says this, so it is written out.
     ensures edits { RunsEdits B.functions (encoder_form encoder.old) H.atomic (H.state
         (encoder_handle encoder.old)) (H.state (encoder_handle encoder.new)) edits.now result }
     ensures encoder_kept { EncoderKeeps H.lent encoder.old encoder.new }

@@ -24,7 +24,7 @@ use zarrs_codec::{BytesPartialEncoderTraits, BytesToBytesCodecTraits};
 
 impl<'a, B: BytesToBytesCodecTraits> ChunkCoder<'a, B> {
     ghost use Rattle.zarrs_codec_chain.specs.ChunkCoder.{coder_form, coder_keeps_regions, coder_standing, reader_places};
-    ghost use Rattle.zarrs_codec_chain.specs.ChunkWriter.{new_check, WritesInPlace};
+    ghost use Rattle.zarrs_codec_chain.specs.ChunkWriter.{new_check, CoderWrites};
 
     /// Where new elements go in the chunk that the array-to-bytes codec gets, as runs, where there
     /// is one for each place that the indexer selects. Errors, the first that holds, `OutOfMemory`
@@ -35,7 +35,6 @@ impl<'a, B: BytesToBytesCodecTraits> ChunkCoder<'a, B> {
         indexer: &Indexer,
         new: &ArrayBytes<'_>,
     ) -> Result<Vec<(u64, u64)>, CodecError>
-        // Wide: no other clause says this, so it is written out.
         ensures answer { Gives places_in result
             (form_written (coder_form self.now) (selection_of indexer.now) new.now) }
         ensures checked { Gives (λ _. tt) result
@@ -88,7 +87,6 @@ impl<'a, B: BytesToBytesCodecTraits> ChunkCoder<'a, B> {
         requires inside { is_box_inside self.now.shape region.now.starts region.now.lengths ≡ true }
         requires filled { 0 < product region.now.lengths }
         requires region_kept { coder_keeps_regions self.now ≡ true }
-        // Wide: no other clause says this, so it is written out.
         ensures same_edit { IfOk result (λ it. LeavesThere B.functions (coder_form self.now)
             self.now.encoded codec.now (subset_of region.now) elements.now it.0.items it.1) }
         ensures checked { Gives (λ _. tt) result
@@ -129,11 +127,9 @@ impl<'a, B: BytesToBytesCodecTraits> ChunkCoder<'a, B> {
         requires inside { is_box_inside self.now.shape region.now.starts region.now.lengths ≡ true }
         requires filled { 0 < product region.now.lengths }
         requires region_kept { coder_keeps_regions self.now ≡ true }
-        // Wide: the handle before and after, the byte order, the region and the elements each count.
-        ensures writes { WritesInPlace H.state self.now codec.now handle.old handle.new
+        ensures writes { CoderWrites H.state self.now (Some codec.now) handle.old handle.new
             (subset_of region.now) elements.now result }
         ensures unread { FailsByWriting H.state handle.old handle.new result }
-        // Wide: the record and the state of the handle before and after, and the places.
         ensures counted { ReplacesPlaces H.calls H.state self.now.data_type
             (coder_standing self.now region.now) handle.old handle.new result }
         ensures left { HandleWrites H.state H.lent H.atomic handle.old handle.new result }
@@ -163,11 +159,9 @@ impl<'a, B: BytesToBytesCodecTraits> ChunkCoder<'a, B> {
         elements: &ArrayBytes<'_>,
     ) -> Result<(), CodecError>
         requires writes_in_place { form_in_place (coder_form self.now) ≡ Some codec.now }
-        // Wide: the handle before and after, the byte order, the places and the elements each count.
-        ensures writes { WritesInPlace H.state self.now codec.now handle.old handle.new
+        ensures writes { CoderWrites H.state self.now (Some codec.now) handle.old handle.new
             (selection_of indexer.now) elements.now result }
         ensures unread { FailsByWriting H.state handle.old handle.new result }
-        // Wide: the record and the state of the handle before and after.
         ensures counted { ReplacesSelected H.calls H.state (coder_form self.now)
             (selection_of indexer.now) handle.old handle.new result }
         ensures left { HandleWrites H.state H.lent H.atomic handle.old handle.new result }

@@ -45,7 +45,6 @@ fn checked_runs(
     data_type: &DataType,
     elements: &ArrayBytes<'_>,
 ) -> Result<Vec<(u64, u64)>, CodecError>
-    // Wide: no other clause says this, so it is written out.
     ensures answer { Gives places_in result
         (data_places shape.now data_type.now (selection_of indexer.now) elements.now) }
     ensures below { IfOk result (λ runs. EndWithin (product shape.now) runs.items) }
@@ -58,7 +57,7 @@ fn checked_runs(
 
 impl<'a, B: BytesToBytesCodecTraits> ChunkCoder<'a, B> {
     ghost use Rattle.zarrs_codec_chain.specs.ChunkCoder.{coder_form};
-    ghost use Rattle.zarrs_codec_chain.specs.ChunkWriter.{CountsRenewal, GivesEdited, WritesRuns};
+    ghost use Rattle.zarrs_codec_chain.specs.ChunkWriter.{CountsRenewal, GivesEdited, CoderWritesRuns};
 
     /// The chunk that an edit starts from: the one that the stored value stands for, or one of fill
     /// values. Errors: `Storage`; those of `CodecChain::decode`; `Overflow` where 64 bits don't
@@ -68,7 +67,6 @@ impl<'a, B: BytesToBytesCodecTraits> ChunkCoder<'a, B> {
         alloc: Global,
         handle: &mut H,
     ) -> Result<ArrayBytes<'static>, CodecError>
-        // Wide: no other clause says this, so it is written out.
         ensures answer { AnswersBy memory_or_fault (Holds self.now.data_type) result
             (started_chunk B.functions (coder_form self.now) (H.state handle.old).value) }
         ensures counted { MakesReads H.calls 1 handle.old handle.new result }
@@ -126,7 +124,6 @@ impl<'a, B: BytesToBytesCodecTraits> ChunkCoder<'a, B> {
     ) -> Result<ArrayBytesRaw<'static>, CodecError>
         requires below { RunsInside (coder_form self.now) runs.now }
         requires fit { FitsRuns (coder_form self.now) runs.now elements.now }
-        // Wide: no other clause says this, so it is written out.
         ensures answer { Answers memory_or_fault items_of result (value_left B.functions (coder_form
             self.now) None (H.state handle.old).value (joined_runs runs.now) elements.now) }
         ensures counted { MakesReads H.calls 1 handle.old handle.new result }
@@ -148,12 +145,11 @@ impl<'a, B: BytesToBytesCodecTraits> ChunkCoder<'a, B> {
     ) -> Result<(), CodecError>
         requires below { RunsInside (coder_form self.now) runs.now }
         requires fit { FitsRuns (coder_form self.now) runs.now new.now }
-        ensures answer { WritesRuns H.state self.now handle.old handle.new runs.now new.now result }
+        ensures answer { CoderWritesRuns H.state self.now handle.old handle.new runs.now new.now result }
         ensures counted { CountsRenewal H.calls H.state handle.old handle.new result }
         ensures one_write { OnOk result (LeftByWriting H.state handle.old handle.new result) }
         ensures refused { OnErr result (LeftByRefusal H.state handle.old handle.new result) }
         ensures kept_if_atomic { KeptIfAtomic H.atomic H.state handle.old handle.new result }
-        // Wide: no other clause says this, so it is written out.
         ensures unharmed { IfErr result
             (λ cause. memory_or_fault cause ≡ false → H.state handle.new ≡ H.state handle.old) }
         ensures same_reference { H.lent handle.new ≡ H.lent handle.old }
@@ -171,7 +167,6 @@ impl<'a, B: BytesToBytesCodecTraits> ChunkCoder<'a, B> {
         indexer: &Indexer,
         new: &ArrayBytes<'_>,
     ) -> Result<(), CodecError>
-        // Wide: no other clause says this, so it is written out.
         ensures writes { WritesChunk B.functions (coder_form self.now) None (H.state handle.old)
             (H.state handle.new) (selection_of indexer.now) new.now result }
         ensures counted { CountsRenewal H.calls H.state handle.old handle.new result }

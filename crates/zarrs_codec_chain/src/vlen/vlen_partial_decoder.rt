@@ -90,10 +90,9 @@ impl<B: BytesToBytesCodecTraits> VlenCodecPartialTraits<B> for VlenCodec<B> {
         data_type: &DataType,
         fill_value: &FillValue,
     ) -> Result<VlenPartialDecoder<'a, H, B>, Refused<H>>
-        // Wide: no other clause says this, so it is written out.
         ensures answer { GivesValue (outcome result) (seen (λ _. tt) (codec_representation
             B.functions (plain_vlen self.now) shape.now data_type.now fill_value.now)) }
-        // Wide: no other clause says this, so it is written out.
+        // Wide: a record, field by field.
         ensures form { IfOk result (λ it. vlen_form it ≡ record {
           codec = plain_vlen self.now;
           sizes
@@ -140,7 +139,6 @@ impl<'a, H: BytesPartialDecoderTraits, B: BytesToBytesCodecTraits> VlenPartialDe
         alloc: Global,
         indexer: &Indexer,
     ) -> Result<ArrayBytes<'static>, CodecError>
-        // Wide: no other clause says this, so it is written out.
         ensures reads { ReadsVlen B.functions (vlen_form self.old)
             (H.state (vlen_handle_of self.old)) (selection_of indexer.now) result }
         ensures tight { IfOk result (IsTight (vlen_form self.old).type) }

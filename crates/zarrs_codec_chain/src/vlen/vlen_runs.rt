@@ -1,16 +1,18 @@
 //! Reading runs of places through a `vlen`: of a plain one by the offsets and the elements' bytes alone,
 //! of any other by the whole value.
-ghost use Rattle.std.specs.Prelude.{◌≡◌, ◌<◌, ◌≤◌, ◌+◌, ◌^◌, Ok, IfOk, All, length, true};
+ghost use Rattle.std.specs.Prelude.{◌≡◌, ◌<◌, ◌≤◌, ◌+◌, ◌^◌, Ok, IfOk, All, length, option_map, true};
+ghost use Rattle.zarrs_chunk.specs.Answer.{AnswersBy, GivesBy, memory_or_fault};
 ghost use Rattle.zarrs_chunk.specs.ChunkShape.{product};
 ghost use Rattle.zarrs_chunk.specs.Runs.{joined_runs};
 ghost use Rattle.zarrs_data_type.specs.ElementType.{is_variable};
 ghost use Rattle.zarrs_data_type.specs.FillValue.{fill_fits};
 ghost use Rattle.zarrs_data_type.specs.Form.{form_of};
 ghost use Rattle.zarrs_array_bytes.specs.Tight.{IsTight};
+ghost use Rattle.zarrs_array_bytes.specs.Validity.{Holds};
 ghost use Rattle.zarrs_codec.specs.StorageState.{after_reading};
 ghost use Rattle.zarrs_chain.specs.ChainView.{plain_vlen};
-ghost use Rattle.zarrs_codec_chain.specs.ChunkRead.{ReadsRuns, SureRuns};
-ghost use Rattle.zarrs_codec_chain.specs.vlen.VlenRuns.{VlenTakes, Picks, ReadsWhole, ReadsPlain, SurePlain};
+ghost use Rattle.zarrs_codec_chain.specs.ChunkRead.{ChunkReadsRuns, SureRuns};
+ghost use Rattle.zarrs_codec_chain.specs.vlen.VlenRuns.{VlenTakes, vlen_whole_runs, ReadsPlain, SurePlain};
 ghost use Rattle.zarrs_chain_meaning.specs.Chain.{codec_reads};
 
 use crate::partial_decoder::fill_runs::fill_runs;
@@ -40,7 +42,8 @@ fn runs_of_value<B: BytesToBytesCodecTraits>(
     requires counted { product shape.now < 2 ^ 64 }
     requires inside { All (λ run. run.0 + run.1 ≤ product shape.now) runs.now }
     requires count { length (joined_runs runs.now) < 2 ^ 64 }
-    ensures answer { Picks B.functions codec.now value shape.now kind.now fill.now runs.now result }
+    ensures answer { GivesBy (Holds kind.now) result (vlen_whole_runs B.functions codec.now
+        shape.now kind.now fill.now (option_map (λ items. items.items) value) runs.now) }
     ensures tight { IfOk result (IsTight kind.now) }
 {
     match value {
@@ -96,7 +99,6 @@ fn plain_runs<H: BytesPartialDecoderTraits>(
     requires counted { product shape.now < 2 ^ 64 }
     requires inside { All (λ run. run.0 + run.1 ≤ product shape.now) runs.now }
     requires count { length (joined_runs runs.now) < 2 ^ 64 }
-    // Wide: no other clause says this, so it is written out.
     ensures answer { ReadsPlain H.state codec handle.old
         (product shape.now) kind.now fill.now runs.now result }
     ensures tight { IfOk result (IsTight kind.now) }
@@ -124,9 +126,8 @@ fn whole_runs<H: BytesPartialDecoderTraits, B: BytesToBytesCodecTraits>(
     requires counted { product shape.now < 2 ^ 64 }
     requires inside { All (λ run. run.0 + run.1 ≤ product shape.now) runs.now }
     requires count { length (joined_runs runs.now) < 2 ^ 64 }
-    // Wide: the codec, the handle, the chunk's sizes, type and fill value, the runs: each counts.
-    ensures answer { ReadsWhole H.state B.functions codec.now handle.old
-        shape.now kind.now fill.now runs.now result }
+    ensures answer { AnswersBy memory_or_fault (Holds kind.now) result (vlen_whole_runs B.functions
+        codec.now shape.now kind.now fill.now (H.state handle.old).value runs.now) }
     ensures tight { IfOk result (IsTight kind.now) }
     ensures left { H.state handle.new ≡ after_reading result (H.state handle.old) }
     ensures same_reference { H.lent handle.new ≡ H.lent handle.old }
@@ -151,11 +152,9 @@ pub(crate) fn vlen_runs<H: BytesPartialDecoderTraits, B: BytesToBytesCodecTraits
     requires taken { VlenTakes B.functions codec.now shape.now kind.now fill.now }
     requires inside { All (λ run. run.0 + run.1 ≤ product shape.now) runs.now }
     requires count { length (joined_runs runs.now) < 2 ^ 64 }
-    // Wide: the codec, the handle, the chunk's sizes, type and fill value, the runs: each counts.
-    ensures answer { ReadsRuns B.functions (plain_vlen codec.now)
+    ensures answer { ChunkReadsRuns B.functions (plain_vlen codec.now)
         (form_of shape.now kind.now fill.now) (H.state handle.old) runs.now result }
     ensures tight { IfOk result (IsTight kind.now) }
-    // Wide: no other clause says this, so it is written out.
     ensures sure { (codec_reads (plain_vlen codec.now)).partial_decode ≡ true → SureRuns (plain_vlen
         codec.now) (form_of shape.now kind.now fill.now) (H.state handle.old) runs.now result }
     ensures left { H.state handle.new ≡ after_reading result (H.state handle.old) }

@@ -2,9 +2,9 @@ use Rattle.std.proofs.Common.{◌≡◌, IfOk, ap, subst}
 use Rattle.zarrs_chunk.specs.Indexer.{selection_of}
 use Rattle.zarrs_array_bytes.specs.Tight.{IsTight}
 use Rattle.zarrs_json.specs.HeaderRead.{header_seen}
-use Rattle.zarrs_codec_chain.specs.PartialDecoder.{form_of, handle_of, decoder_source}
+use Rattle.zarrs_codec_chain.specs.PartialDecoder.{decoder_form, handle_of, decoder_source}
 use Rattle.zarrs_lent_handles.specs.PiecesHandle.{pieces_state}
-use Rattle.zarrs_json.specs.Header.{form_of as header_form, Form}
+use Rattle.zarrs_json.specs.Header.{header_form, HeaderForm}
 use Rattle.zarrs_c_calls.proofs.FetchedLemmas.{part_answered, part_stopped}
 use Rattle.zarrs_c_calls.proofs.LackingLemmas.{surely_read}
 use Rattle.zarrs_c_calls.proofs.fetched.read_pieces_part.Goals as goal
@@ -24,14 +24,14 @@ returns-in-Ok-clause-answer c =
     let chunk = header_form (header_seen c.args.form.now) in
     let value = (pieces_state c.args.handle).value in
     let over : (pieces_state (handle_of c.in-Ok.decoder)).value ≡ value = ap (λ s. s.value) c.in-Ok.ensures.over_state in
-    part_answered chunk (form_of c.in-Ok.decoder) value (pieces_state (handle_of c.in-Ok.decoder)).value (selection_of c.args.indexer.now) c.partial_decode.result (decoder_source c.in-Ok.decoder value) c.in-Ok.ensures.form over c.in-Ok.ensures.answer
+    part_answered chunk (decoder_form c.in-Ok.decoder) value (pieces_state (handle_of c.in-Ok.decoder)).value (selection_of c.args.indexer.now) c.partial_decode.result (decoder_source c.in-Ok.decoder value) c.in-Ok.ensures.form over c.in-Ok.ensures.answer
     c.partial_decode.ensures.reads.exact
 
 pub returns-in-Ok-clause-sure : goal.returns-in-Ok-clause-sure
 returns-in-Ok-clause-sure c = λ asks.
     let chunk = header_form (header_seen c.args.form.now) in
-    surely_read chunk (form_of c.in-Ok.decoder) (pieces_state c.args.handle) (pieces_state (handle_of c.in-Ok.decoder)) (selection_of c.args.indexer.now) c.partial_decode.result c.in-Ok.ensures.form c.in-Ok.ensures.over_state c.partial_decode.ensures.reads
+    surely_read chunk (decoder_form c.in-Ok.decoder) (pieces_state c.args.handle) (pieces_state (handle_of c.in-Ok.decoder)) (selection_of c.args.indexer.now) c.partial_decode.result c.in-Ok.ensures.form c.in-Ok.ensures.over_state c.partial_decode.ensures.reads
 
 pub returns-in-Ok-clause-tight : goal.returns-in-Ok-clause-tight
 returns-in-Ok-clause-tight c =
-    subst (λ (form : Form). IfOk c.partial_decode.result (IsTight form.type)) c.in-Ok.ensures.form c.partial_decode.ensures.tight
+    subst (λ (form : HeaderForm). IfOk c.partial_decode.result (IsTight form.type)) c.in-Ok.ensures.form c.partial_decode.ensures.tight

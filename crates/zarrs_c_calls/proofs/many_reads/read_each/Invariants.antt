@@ -1,6 +1,6 @@
 use Rattle.std.proofs.Common.{◌≡◌}
 use Rattle.zarrs_json.specs.HeaderRead.{header_seen}
-use Rattle.zarrs_codec_chain.specs.PartialDecoder.{form_of}
+use Rattle.zarrs_codec_chain.specs.PartialDecoder.{decoder_form}
 use Rattle.zarrs_c_calls.specs.EachRead.{decoder_value}
 use Rattle.zarrs_c_calls.specs.Reads.{form_seen}
 use Rattle.zarrs_c_calls.proofs.ManyLemmas.{ReadsOn}
@@ -11,5 +11,5 @@ abbrev pub invariant-loop-size : goal.invariant-loop-size
 invariant-loop-size l = record {
   reads : ReadsOn (header_seen l.form) (decoder_value l.fn.decoder) l.sizes l.numbers l.answers.items l.size-index l.left;
   value : decoder_value l.decoder ≡ decoder_value l.fn.decoder;
-  form : form_of l.decoder ≡ form_seen l.form;
+  form : decoder_form l.decoder ≡ form_seen l.form;
 }

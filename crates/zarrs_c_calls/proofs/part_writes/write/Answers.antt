@@ -5,14 +5,14 @@ use Rattle.zarrs_chunk.specs.Indexer.{selection_of}
 use Rattle.zarrs_codec.specs.MemoryHandle.{handle_value}
 use Rattle.zarrs_json.specs.HeaderRead.{header_seen}
 use Rattle.zarrs_c_calls.specs.Buffers.{buffers}
-use Rattle.zarrs_c_calls.specs.Reads.{stored_bytes}
+use Rattle.zarrs_c_calls.specs.Reads.{lent_stored}
 use Rattle.zarrs_c_calls.proofs.WrittenLemmas.{written_due, write_refused}
 use Rattle.zarrs_c_calls.proofs.part_writes.write.Goals as goal
 
 pub returns : goal.returns
 returns c =
     let edit = c.args.edit.now in
-    let stored = stored_bytes c.args.stored in
+    let stored = lent_stored c.args.stored in
     let before = handle_value c.in_ok-handle.handle in
     let same : before ≡ stored = cc (c.in_ok-handle.ensures.answer) in
     record {
@@ -23,7 +23,7 @@ returns c =
 pub returns-in_err-write_part : goal.returns-in_err-write_part
 returns-in_err-write_part c =
     let edit = c.args.edit.now in
-    let stored = stored_bytes c.args.stored in
+    let stored = lent_stored c.args.stored in
     let before = handle_value c.in_ok-handle.handle in
     let same : before ≡ stored = cc (c.in_ok-handle.ensures.answer) in
     let p = err_from_is_err_and c.from_residual-in_err-write_part.result c.from_residual-in_err-write_part.ensures.1 in

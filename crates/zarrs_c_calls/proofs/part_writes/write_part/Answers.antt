@@ -5,12 +5,12 @@ use Rattle.zarrs_json.specs.HeaderRead.{header_seen}
 use Rattle.zarrs_codec_chain.specs.PartialEncoder.{encoder_form, encoder_handle}
 use Rattle.zarrs_json.specs.KnownBytesCodec.{known_codecs}
 use Rattle.zarrs_codec_chain.proofs.MadeCoders.{write_quiet, written_made, written_unmade}
-use Rattle.zarrs_json.specs.Header.{form_of}
+use Rattle.zarrs_json.specs.Header.{header_form}
 use Rattle.zarrs_c_calls.proofs.part_writes.write_part.Goals as goal
 
 pub returns-in-Err : goal.returns-in-Err
 returns-in-Err c =
-    let chunk = form_of (header_seen c.args.form.now) in
+    let chunk = header_form (header_seen c.args.form.now) in
     let before = handle_value c.args.handle.now in
     let selection = selection_of c.args.indexer.now in
     let new = c.args.new.now in
@@ -20,7 +20,7 @@ returns-in-Err c =
 
 pub returns-in-Ok : goal.returns-in-Ok
 returns-in-Ok c =
-    let chunk = form_of (header_seen c.args.form.now) in
+    let chunk = header_form (header_seen c.args.form.now) in
     let before = handle_value c.args.handle.now in
     let selection = selection_of c.args.indexer.now in
     let new = c.args.new.now in

@@ -1,6 +1,6 @@
 use Rattle.std.proofs.Common.{◌≡◌, ◌+◌, ◌≤◌, ◌++◌, length, ap, sym, ◌∙◌, arith}
 use Rattle.zarrs_array_bytes.specs.Update.{with_items_at}
-use Rattle.zarrs_c_calls.specs.Buffers.{crossed, under_mask}
+use Rattle.zarrs_c_calls.specs.Buffers.{crossed, masked_buffers}
 use Rattle.zarrs_c_calls.proofs.CrossedLemmas.{crossed_masked}
 use Rattle.zarrs_c_calls.proofs.ListLemmas.{items_twice}
 use Rattle.zarrs_c_calls.proofs.tell.+write_masks.Goals as goal
@@ -12,7 +12,7 @@ returns-in-Ok t c =
     let inside = c.in-Ok.inner.now in
     let mask = c.in-Ok.mask.now in
     let more = (crossed inside).masks in
-    let is : crossed held ≡ under_mask mask (crossed inside) = crossed_masked held (inside, mask) c.in-Ok.ensures.answer in
+    let is : crossed held ≡ masked_buffers mask (crossed inside) = crossed_masked held (inside, mask) c.in-Ok.ensures.answer in
     let all : (crossed held).masks ≡ mask ++ more = ap (λ b. b.masks) is in
     let room : c.args.at + length (mask ++ more) ≤ length old = omega (arith, ap length all, c.requires.inside) in
     record {

@@ -2,9 +2,9 @@ use Rattle.std.proofs.Common.{◌≡◌, ◌++◌, drop, map}
 use Rattle.serde_json.specs.View.{items_view}
 use Rattle.zarrs_chunk.specs.Answer.{seen}
 use Rattle.zarrs_metadata.specs.MetadataV3.{metadata_seen}
-use Rattle.zarrs_json.specs.Codecs.{metadata_in}
+use Rattle.zarrs_json.specs.Codecs.{metadatas_shown}
 use Rattle.zarrs_json.proofs.codecs.metadata_in.Given as goal
 
 -- the metadata so far and those to come are all
 abbrev pub invariant-loop-item : goal.invariant-loop-item
-invariant-loop-item l = seen (λ others. map metadata_seen l.list.items ++ others) (metadata_in (items_view (drop l.item-index l.item-items))) ≡ metadata_in (items_view l.item-items)
+invariant-loop-item l = seen (λ others. map metadata_seen l.list.items ++ others) (metadatas_shown (items_view (drop l.item-index l.item-items))) ≡ metadatas_shown (items_view l.item-items)

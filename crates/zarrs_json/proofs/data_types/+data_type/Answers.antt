@@ -6,7 +6,7 @@ use Rattle.serde_json.proofs.Views.{view-Object}
 use Rattle.zarrs_chunk.specs.Answer.{Answers}
 use Rattle.zarrs_data_type.specs.ElementType.{ElementType}
 use Rattle.zarrs_json.specs.DataType.{type_in}
-use Rattle.zarrs_json.specs.Refusal.{wants_memory}
+use Rattle.zarrs_json.specs.Refusal.{refusal_memory}
 use Rattle.zarrs_json.specs.declared.refusal.Refusal.{Refusal}
 use Rattle.zarrs_json.proofs.TypeLemmas.{type_in-optional, type_in-components, only_member-depth}
 use Rattle.zarrs_json.proofs.data_types.+data_type.Goals as goal
@@ -23,7 +23,7 @@ returns-in-Some t c =
     let members = members_view c.in-Object.members.entries in
     let whole : view c.args.tree.now ≡ object members = ap view c.in-Object.is ∙ view-Object c.in-Object.members in
     record {
-      answer = subst (λ (y : Result ElementType Refusal). Answers {V = ElementType} wants_memory (λ type. type) c.optional.result y)
+      answer = subst (λ (y : Result ElementType Refusal). Answers {V = ElementType} refusal_memory (λ type. type) c.optional.result y)
           (sym (ap type_in whole ∙ type_in-optional members (view c.in-Some.inner.now) (sym c.in-Some.ensures.value)))
           (c.optional.ensures.answer (type_in (view c.in-Some.inner.now)) c.data_type.ensures.answer);
     }
@@ -33,7 +33,7 @@ returns-in-None t c =
     let members = members_view c.in-Object.members.entries in
     let whole : view c.args.tree.now ≡ object members = ap view c.in-Object.is ∙ view-Object c.in-Object.members in
     record {
-      answer = subst (λ (y : Result ElementType Refusal). Answers {V = ElementType} wants_memory (λ type. type) c.several.result y)
+      answer = subst (λ (y : Result ElementType Refusal). Answers {V = ElementType} refusal_memory (λ type. type) c.several.result y)
           (sym (ap type_in whole ∙ type_in-components members (sym c.in-None.ensures.value)))
           c.several.ensures.answer;
     }

@@ -8,7 +8,7 @@ use Rattle.zarrs_codec.specs.ByteSpan.{ByteSpan}
 use Rattle.zarrs_codec.specs.StorageState.{value_or_empty}
 use Rattle.zarrs_bytes.proofs.Coding.{ok}
 use Rattle.zarrs_chain_meaning.proofs.ArraySteps.{ok_is}
-use Rattle.zarrs_plain_vlen.specs.Elements.{blank_element}
+use Rattle.zarrs_plain_vlen.specs.Elements.{element_zeros}
 use Rattle.zarrs_plain_vlen.specs.VlenRead.{element_numbers}
 use Rattle.zarrs_plain_vlen.proofs.ElementReads.{unread, all_there, ranges_inside, read, read_long}
 use Rattle.zarrs_plain_vlen.proofs.elements.read_bytes.Goals as goal
@@ -69,5 +69,5 @@ returns-clause-lengths g c =
     let there = all_there value content c.args.offsets.now runs size sized ordered c.requires.inside (sym c.if-not-are_there.ensures.value) in
     let numbers : range_indices c.in_ok-ranges.ranges.items ≡ element_numbers content.start c.args.offsets.now (joined_runs runs) = c.in_ok-ranges.ensures.numbers ∙ ap (λ (s : ℕ). element_numbers s c.args.offsets.now (joined_runs runs)) c.start-start.ensures.value in
     let long = read_long value content c.args.offsets.now runs size sized ordered c.requires.inside c.in_ok-ranges.ranges.items there numbers c.in_ok-ranges.ensures.filled in
-    found_from memory_or_fault (λ bytes. bytes.items) c.read_inside.result (ok (bytes_in_ranges value c.as_slice.result.now)) (λ (items : List ℕ). length items ≡ length (flat_map (blank_element c.args.offsets.now) (joined_runs runs))) c.read_inside.ensures.answer
+    found_from memory_or_fault (λ bytes. bytes.items) c.read_inside.result (ok (bytes_in_ranges value c.as_slice.result.now)) (λ (items : List ℕ). length items ≡ length (flat_map (element_zeros c.args.offsets.now) (joined_runs runs))) c.read_inside.ensures.answer
     (λ items e. ap length (sym (ok_is (bytes_in_ranges value c.as_slice.result.now) items e) ∙ ap (λ (rs : List ByteSpan). bytes_in_ranges value rs) c.as_slice.ensures.value) ∙ long)

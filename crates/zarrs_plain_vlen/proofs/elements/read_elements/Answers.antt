@@ -8,7 +8,7 @@ use Rattle.zarrs_chunk.specs.Answer.{AnswersBy, memory_or_fault}
 use Rattle.zarrs_chunk.specs.Runs.{joined_runs}
 use Rattle.zarrs_array_bytes.specs.Validity.{Holds}
 use Rattle.zarrs_codec.specs.StorageState.{value_or_empty}
-use Rattle.zarrs_plain_vlen.specs.Elements.{blank_element}
+use Rattle.zarrs_plain_vlen.specs.Elements.{element_zeros}
 use Rattle.zarrs_plain_vlen.specs.VlenLayout.{span_bytes}
 use Rattle.zarrs_plain_vlen.specs.VlenRead.{elements_read}
 use Rattle.zarrs_plain_vlen.proofs.ElementBytes.{gathered_rises, gathered_ends, gathered_flush}
@@ -17,11 +17,11 @@ use Rattle.zarrs_plain_vlen.proofs.elements.read_elements.Goals as goal
 
 pub variable-requires-clause-rising : goal.variable-requires-clause-rising
 variable-requires-clause-rising g c =
-    gathered_rises (blank_element c.args.offsets.now) (joined_runs c.args.runs.now) c.in_ok-ends.ends.items c.in_ok-ends.ensures.ends
+    gathered_rises (element_zeros c.args.offsets.now) (joined_runs c.args.runs.now) c.in_ok-ends.ends.items c.in_ok-ends.ensures.ends
 
 pub variable-requires-clause-ending : goal.variable-requires-clause-ending
 variable-requires-clause-ending g c =
-    gathered_ends (blank_element c.args.offsets.now) (joined_runs c.args.runs.now) c.in_ok-bytes.bytes.items c.in_ok-ends.ends.items c.in_ok-bytes.ensures.lengths c.in_ok-ends.ensures.ends
+    gathered_ends (element_zeros c.args.offsets.now) (joined_runs c.args.runs.now) c.in_ok-bytes.bytes.items c.in_ok-ends.ends.items c.in_ok-bytes.ensures.lengths c.in_ok-ends.ensures.ends
 
 pub returns-clause-answer : goal.returns-clause-answer
 returns-clause-answer g c =
@@ -35,5 +35,5 @@ returns-clause-tight g c =
     let type = c.args.data_type.now in
     let items = c.in_ok-bytes.bytes.items in
     let offsets = c.in_ok-ends.ends.items in
-    let flush = gathered_flush (blank_element c.args.offsets.now) (joined_runs c.args.runs.now) items offsets c.in_ok-bytes.ensures.lengths c.in_ok-ends.ensures.ends in
+    let flush = gathered_flush (element_zeros c.args.offsets.now) (joined_runs c.args.runs.now) items offsets c.in_ok-bytes.ensures.lengths c.in_ok-ends.ensures.ends in
     subst (λ (r : Result Held CodecError). IfOk r (IsTight type)) (sym c.variable.ensures.made) (vlen_tight type (owned_bytes items) offsets flush)

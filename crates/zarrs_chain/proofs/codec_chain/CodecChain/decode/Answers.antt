@@ -16,4 +16,5 @@ returns g c = record {
     no_fault = c.chain_decode.ensures.exact.no_fault;
   };
   tight = c.chain_decode.ensures.tight;
+  kept = c.chain_decode.ensures.kept;
 }

@@ -15,4 +15,5 @@ returns g c = record {
     exact = c.chain_encode.ensures.exact.is;
     no_fault = c.chain_encode.ensures.exact.no_fault;
   };
+  kept = c.chain_encode.ensures.kept;
 }
