@@ -43,7 +43,7 @@ class OuterCodec:
             raise BytesCodec(f"{self.name}: {error}") from error
 
 
-def _wrong(key: str, value: Any) -> NoReturn:
+def wrong(key: str, value: Any) -> NoReturn:
     """Raises the refusal of a key that has this value, or of one that is missing."""
     said = "is missing" if value is _MISSING else f"is {reprlib.repr(value)}"
     error = InvalidConfiguration(f"{key} {said}")
@@ -55,7 +55,7 @@ def _integer(configuration: dict[str, Any], key: str, low: int, high: int, defau
     """The whole number of a key, between two."""
     value = configuration.get(key, default)
     if type(value) is not int or not low <= value <= high:
-        _wrong(key, value)
+        wrong(key, value)
     return value
 
 
@@ -63,7 +63,7 @@ def _one_of(configuration: dict[str, Any], key: str, values: Any, default: Any =
     """The value of a key, which is one of these."""
     value = configuration.get(key, default)
     if not any(value is one or (type(value) is type(one) and value == one) for one in values):
-        _wrong(key, value)
+        wrong(key, value)
     return value
 
 
@@ -159,7 +159,7 @@ def _made(metadata: Any) -> OuterCodec | None:
         return None
     configuration = metadata.get("configuration", {}) if isinstance(metadata, dict) else {}
     if not isinstance(configuration, dict):
-        _wrong("configuration", configuration)
+        wrong("configuration", configuration)
     try:
         return make(configuration)
     except ImportError:

@@ -36,8 +36,7 @@ class Chunks:
         self._threads = threads
         self.cache = Cache(cache)
         self._is_plain = kind.is_plain
-        first = (0,) * len(chain.shape)
-        self._is_whole = not kind.is_plain or chain.planned_ranges(first) is None
+        self._is_whole = chain._is_read_whole
         representation, size = chain.representation
         # how many bytes each chunk's file has, where that is always the same
         self._file_size = size if representation == "fixed" and not chain.unproved else None

@@ -20,8 +20,8 @@ from ._fill_values import fill_json
 from ._indexing import Outer, Points, is_list
 from ._metadata import made, metadata_of, parsed, usual_codecs
 from ._selections import box
+from ._sharding import chain_of
 from ._types import AnyArray, Shape
-from .chain import Chain
 from .refusals import Refused
 
 # A chunk's numbers, the places in it, and those in the answer.
@@ -60,7 +60,8 @@ class Array:
     written is broadcast as numpy does.
 
     Reading touches the chunks that have elements of the answer, and of each, where its chain plans its reads,
-    the bytes that these elements need; a chunk that isn't there has fill values. Values that are needed whole
+    the bytes that these elements need; of a shard (`sharding_indexed`, whose chain is a `ShardedChain`) the index
+    and the inner chunks with such elements; a chunk that isn't there has fill values. Values that are needed whole
     are kept, `cache` bytes at most, behind the codecs that Python runs, for as long as the file is the same.
     Writing replaces whole files, each by a rename of one that is on the disk as a whole, with the mode that the
     file had, so a reader sees a chunk as it was or as it is; two writers of one chunk must take turns. `threads`
@@ -92,7 +93,7 @@ class Array:
         try:
             found = metadata_of(path)
             said, self.shape, self.chunks = found.said, found.shape, found.chunks
-            self.chain = Chain(said["codecs"], self.chunks, said["data_type"], said["fill_value"])
+            self.chain = chain_of(said["codecs"], self.chunks, said["data_type"], said["fill_value"])
         except Refused as error:
             error.path = path
             raise
@@ -138,7 +139,7 @@ class Array:
         shape, chunks = tuple(map(operator.index, shape)), tuple(map(operator.index, chunks))
         kind = data_type_of(data_type)
         codecs = usual_codecs(kind) if codecs is None else list(codecs)
-        first: Any = Chain(codecs, chunks, data_type, fill_value).read(None, (0,) * len(chunks))
+        first: Any = chain_of(codecs, chunks, data_type, fill_value).read(None, (0,) * len(chunks))
         metadata = made(shape, chunks, data_type, fill_json(kind, first), codecs)
         if attributes is not None:
             metadata["attributes"] = attributes
@@ -202,8 +203,8 @@ class Array:
         Python's codecs  []
         bytes            3
         """
+        unproved = self.chain.unproved
         names = [codec if isinstance(codec, str) else codec["name"] for codec in self.chain.codecs]
-        count = len(names) - len(self.chain.unproved)
         return Info(
             {
                 "folder": os.fspath(self.folder),
@@ -211,8 +212,8 @@ class Array:
                 "chunks": self.chunks,
                 "data type": self.metadata["data_type"],
                 "fill value": self.metadata["fill_value"],
-                "codecs": names[:count],
-                "Python's codecs": names[count:],
+                "codecs": [name for name in names if name not in unproved],
+                "Python's codecs": list(unproved),
                 "bytes": self.nbytes,
             }
         )

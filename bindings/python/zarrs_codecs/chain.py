@@ -149,6 +149,11 @@ class Chain:
         checked(library.zarrs_representation(self._header, self._length, at(kind), at(size)))
         return Representation(_REPRESENTATIONS[kind.value], None if kind.value == 2 else size.value)
 
+    @cached_property
+    def _is_read_whole(self) -> bool:
+        """Whether a read of a file takes all of it."""
+        return not self._type.is_plain or self.planned_ranges((0,) * len(self.shape)) is None
+
     @property
     def unproved(self) -> tuple[str, ...]:
         """The names of the codecs that Python runs behind those of the library, the first one first.

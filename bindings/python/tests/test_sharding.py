@@ -1,0 +1,211 @@
+"""Shards: worked values of the codec `sharding_indexed`, random ones beside numpy, what a read asks for, and damage."""
+
+import gzip
+import pickle
+
+import numpy as np
+import pytest
+from samples import (
+    LITTLE,
+    VLEN,
+    RecordingFile,
+    make_array,
+    optional,
+    same,
+    same_masked,
+    some,
+    some_index,
+    some_rows,
+    some_texts,
+    transpose,
+)
+
+import zarrs_codecs as z
+from zarrs_codecs import Array
+from zarrs_codecs._sharding import ShardedChain
+
+GZIP = {"name": "gzip", "configuration": {"level": 1}}
+PACKED = {"name": "packbits", "configuration": {"last_bit": 3}}
+
+
+def sharded(chunk_shape, codecs, index_codecs=(LITTLE,), **more):
+    said = {"chunk_shape": list(chunk_shape), "codecs": list(codecs), "index_codecs": list(index_codecs), **more}
+    return [{"name": "sharding_indexed", "configuration": said}]
+
+
+def test_a_value_with_its_index_behind():
+    chain = ShardedChain(sharded([2, 2], ["bytes", "crc32c"], [LITTLE, "crc32c"]), (4, 4), "uint8", 0)
+    chunk = np.array([[1, 2, 0, 0], [3, 4, 0, 0], [0, 0, 0, 0], [0, 0, 0, 9]], "u1")
+    value = chain.encode(chunk)
+    assert bytes(value).hex() == (
+        "01020304f48c3029000000090b90d53000000000000000000800000000000000ffffffffffffffffffffffffffffffff"
+        "ffffffffffffffffffffffffffffffff080000000000000008000000000000006729498b"
+    )
+    same(chain.decode(value), chunk)
+    same(chain.read(value, np.s_[2:, 2:]), chunk[2:, 2:])
+    written = chain.write(None, (3, 3), 9)
+    assert bytes(written).hex() == (
+        "000000090b90d530ffffffffffffffffffffffffffffffffffffffffffffffffffffffffffffffffffffffffffffffff"
+        "ffffffffffffffff00000000000000000800000000000000469ca9c0"
+    )
+    assert chain.unproved == ("sharding_indexed",) and chain.representation == ("bounded", 4 * 8 + 68)
+
+
+def test_a_value_with_its_index_before():
+    chain = ShardedChain(sharded([2, 4], ["bytes"], index_location="start"), (4, 4), "uint8", 255)
+    chunk = np.array([[255] * 4, [255] * 4, [1, 2, 3, 4], [5, 6, 7, 8]], "u1")
+    value = chain.encode(chunk)
+    assert bytes(value).hex() == (
+        "ffffffffffffffffffffffffffffffff200000000000000008000000000000000102030405060708"
+    )
+    same(chain.read(value, [[3, 0], [0, 0], [2, 3]]), np.array([5, 255, 4], "u1"))
+    damaged = value.copy()
+    damaged[24] = 9
+    with pytest.raises(z.InvalidByteRange, match="inner chunk 1"):
+        chain.decode(damaged)
+    same(chain.read(damaged, [[0, 0]]), np.array([255], "u1"))
+    with pytest.raises(z.InvalidBytesLength):
+        chain.decode(b"\0")
+
+
+def test_shards_in_shards():
+    inside = sharded([1], [LITTLE])
+    chain = ShardedChain(sharded([2], inside), (4,), "uint16", 0)
+    value = chain.encode([0, 1, 0, 0])
+    assert bytes(value).hex() == (
+        "0100ffffffffffffffffffffffffffffffff0000000000000000020000000000000000000000000000002200000000000000"
+        "ffffffffffffffffffffffffffffffff"
+    )
+    same(chain.decode(value), np.array([0, 1, 0, 0], "u2"))
+    same(chain.read(value, np.s_[::-1]), np.array([0, 0, 1, 0], "u2"))
+    assert chain.unproved == ("sharding_indexed", "sharding_indexed")
+
+
+@pytest.mark.parametrize(
+    "shape, codecs, fill, refusal",
+    [
+        ((4, 4), sharded([2], ["bytes"]), 0, z.IncompatibleDimensionality),
+        ((4, 4), sharded([3, 2], ["bytes"]), 0, z.IndivisibleShape),
+        ((4, 4), sharded([0, 2], ["bytes"]), 0, z.ZeroSize),
+        ((4, 4), sharded([2, 2], ["bytes"], sharded([1, 1, 2], [LITTLE])), 0, z.IndexNotFixed),
+        ((4, 4), sharded([2, 2], ["bytes"], [LITTLE, GZIP]), 0, z.IndexNotFixed),
+        ((4, 4), sharded([2, 2], [PACKED]), 255, z.InvalidFillValue),
+        ((4, 4), sharded([2, 2], ["bytes"], index_location="middle"), 0, z.InvalidConfiguration),
+        ((4, 4), sharded([2, -2], ["bytes"]), 0, z.InvalidConfiguration),
+        ((4, 4), sharded([2, 2], [transpose([0])]), 0, z.MissingArrayToBytes),
+        ((4, 4), sharded([2, 2], ["adler32", "bytes"]), 0, z.UnknownName),
+        ((4, 4), sharded([2, 2], ["bytes"], ["bytes"]), 0, z.EndiannessMissing),
+        ((4, 4), [{"name": "sharding_indexed"}], 0, z.InvalidConfiguration),
+    ],
+)
+def test_what_is_refused(shape, codecs, fill, refusal, tmp_path):
+    with pytest.raises(refusal) as refused:
+        make_array(tmp_path / "a", shape, shape, "uint8", codecs, fill)
+    assert refused.value.codec == (0, "sharding_indexed") and refused.value.path == tmp_path / "a" / "zarr.json"
+
+
+def test_a_refusal_says_where():
+    with pytest.raises(z.UnknownName, match=r"by codec 0, 'sharding_indexed', in its codecs\[1\], 'adler32'"):
+        ShardedChain(sharded([2], ["bytes", "adler32"]), (4,), "uint8")
+
+
+def test_lossy_inner_chunks_are_left_out_by_their_normal_forms():
+    chain = ShardedChain(sharded([2], [PACKED]), (4,), "uint8", 1)
+    assert bytes(chain.encode([0x11, 0xF1, 1, 2])) == bytes(chain.encode([1, 1, 1, 2]))
+    same(chain.decode(chain.encode([0x11, 0xF1, 1, 2])), np.array([1, 1, 1, 2], "u1"))
+
+
+INSIDE = [
+    ("int16", [transpose([1, 0]), LITTLE, GZIP], -3),
+    ("float64", [LITTLE, "crc32c"], "NaN"),
+    ("bool", ["packbits", GZIP], True),
+    ("string", ["vlen-utf8", GZIP], "?"),
+    ("string", [VLEN], ""),
+    ({"optional": "int16"}, [optional(LITTLE)], None),
+]
+
+
+@pytest.mark.parametrize("location", ["start", "end"])
+@pytest.mark.parametrize("name, codecs, fill", INSIDE)
+def test_as_numpy_does(name, codecs, fill, location, tmp_path, rng):
+    """Random reads and writes of an array of shards, and of numpy's array beside it."""
+    codecs = sharded([2, 3], codecs, [LITTLE, "crc32c"], index_location=location)
+    array = Array.create(tmp_path / "a", (9, 13), (4, 6), name, fill_value=fill, codecs=codecs)
+    beside = array[...]
+    alike = same_masked if isinstance(name, dict) else same
+    for _ in range(40):
+        index = some_index(rng, array.shape)
+        if rng.integers(2):
+            shape = np.shape(beside[index])
+            new = some_texts(rng, shape) if name == "string" else some(rng, "int16", np.dtype("i2"), shape)
+            new = new if name in ("string", "int16") or isinstance(name, dict) else new.astype(array.dtype)
+            new = beside[index] if rng.integers(4) == 0 else new[()]
+            array[index] = new
+            beside[index] = new
+        alike(array[index], beside[index])
+        rows = some_rows(rng, array.shape, 7)
+        alike(array.vindex[rows[:, 0], rows[:, 1]], beside[rows[:, 0], rows[:, 1]])
+    alike(Array(tmp_path / "a")[...], beside)
+    alike(pickle.loads(pickle.dumps(array))[...], beside)
+
+
+def test_a_read_asks_for_the_index_and_its_inner_chunks(rng):
+    chain = ShardedChain(sharded([4, 4], ["bytes", GZIP]), (16, 16), "uint8", 7)
+    chunk = some(rng, "uint8", np.dtype("u1"), (16, 16)).copy()
+    chunk[4:8, 4:8] = 7
+    value = chain.encode(chunk)
+    file = RecordingFile(value)
+    same(chain.read_from(file, np.s_[3:6, 5:6]), chunk[3:6, 5:6])
+    first, last = (np.frombuffer(bytes(value[-256:]), "<u8").reshape(4, 4, 2)[at, 1].tolist() for at in (0, 1))
+    assert last == [2**64 - 1] * 2
+    index = set(range(value.size - 256, value.size))
+    assert file.seen == index | set(range(first[0], sum(first)))
+
+
+def test_inner_chunks_in_any_order_with_gaps_and_twice():
+    chain = ShardedChain(sharded([2], ["bytes"]), (6,), "uint8", 0)
+    parts = b"\7\7zz\1\2x"
+    index = np.array([[4, 2], [0, 2], [4, 2]], "<u8").tobytes()
+    same(chain.decode(parts + index), np.array([1, 2, 7, 7, 1, 2], "u1"))
+    written = chain.write(parts + index, 0, 9)
+    assert bytes(written[:6]) == b"\x09\2\7\7\1\2"
+
+
+def test_damage_of_each_byte():
+    chain = ShardedChain(sharded([2], ["bytes", "crc32c"], [LITTLE, "crc32c"]), (6,), "uint8", 0)
+    value = chain.encode([1, 2, 0, 0, 3, 4])
+    for place in range(value.size):
+        damaged = value.copy()
+        damaged[place] ^= 1
+        with pytest.raises(z.BytesCodec):
+            chain.decode(damaged)
+    for size in range(value.size):
+        with pytest.raises((z.InvalidBytesLength, z.BytesCodec)):
+            chain.decode(value[:size])
+
+
+def test_a_write_leaves_the_bytes_of_other_inner_chunks():
+    chain = ShardedChain(sharded([2], ["bytes", GZIP]), (4,), "uint8", 0)
+    other = gzip.compress(b"\5\6", 9, mtime=1)
+    index = np.array([[0, len(other)], [2**64 - 1] * 2], "<u8").tobytes()
+    written = bytes(chain.write(other + index, 3, 8))
+    assert written.startswith(other)
+    same(chain.decode(written), np.array([5, 6, 0, 8], "u1"))
+    with pytest.raises(z.NotInPlace):
+        held = bytearray(written)
+        chain.write(held, 3, 8, out=held)
+
+
+def test_refusals_of_files_say_which(tmp_path):
+    codecs = sharded([2], ["bytes", "crc32c"])
+    array = Array.create(tmp_path / "a", (4,), (4,), "uint8", codecs=codecs)
+    array[...] = [1, 2, 3, 4]
+    path = array.chunk_path((0,))
+    stored = bytearray(path.read_bytes())
+    stored[0] ^= 1
+    path.write_bytes(stored)
+    same(array[2:], np.array([3, 4], "u1"))
+    with pytest.raises(z.BytesCodec, match="inner chunk 0") as refused:
+        array[:]
+    assert refused.value.path == path
+    assert array.info["Python's codecs"] == ["sharding_indexed"] and array.info["codecs"] == []

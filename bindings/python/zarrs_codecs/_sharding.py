@@ -1,0 +1,433 @@
+"""The codec `sharding_indexed`, which Python runs over chains of the library. Nothing about it is proved."""
+
+import itertools
+import math
+import operator
+from collections.abc import Iterable, Iterator, Sequence
+from functools import cached_property
+from typing import Any, NamedTuple
+
+import numpy as np
+from numpy.typing import ArrayLike
+
+from ._bytes_codecs import wrong
+from ._data_types import DataType
+from ._data_types import data_type as data_type_of
+from ._elements import empty, held, mask_of, put, spread
+from ._files import Source
+from ._header import json_of
+from ._selections import Rows, Selection, select
+from ._types import AnyArray, Bytes, Shape
+from .chain import Chain, Representation
+from .refusals import (
+    IncompatibleDimensionality,
+    IndexNotFixed,
+    IndivisibleShape,
+    InvalidByteRange,
+    InvalidBytesLength,
+    InvalidFillValue,
+    NotInPlace,
+    Refused,
+    ZeroSize,
+)
+
+NAME = "sharding_indexed"
+# What the index has for an inner chunk that isn't stored.
+_ABSENT = (1 << 64) - 1
+
+
+class _Configuration(NamedTuple):
+    """What a configuration says."""
+
+    chunk_shape: Shape
+    codecs: list[Any]
+    index_codecs: list[Any]
+    index_is_last: bool
+
+
+class Piece(NamedTuple):
+    """The elements of a selection that are in one inner chunk: the chunk's number, where they are in it, and where
+    in the answer."""
+
+    number: int
+    inside: Any
+    there: Any
+
+
+def is_sharded(codecs: Sequence[Any]) -> bool:
+    """Whether these codecs are `sharding_indexed` alone."""
+    return len(codecs) == 1 and isinstance(codecs[0], dict) and codecs[0].get("name") == NAME
+
+
+def chain_of(codecs: Sequence[Any], shape: Sequence[int], data_type: Any, fill_value: Any = None) -> Chain:
+    """The chain of these codecs: the library's, or the one that Python runs where they are `sharding_indexed`."""
+    if isinstance(codecs, list) and is_sharded(codecs):
+        return ShardedChain(codecs, shape, data_type, fill_value)
+    return Chain(codecs, shape, data_type, fill_value)
+
+
+def _configuration(codec: dict[str, Any]) -> _Configuration:
+    """What a metadata of the codec says. Raises `InvalidConfiguration`, and `ZeroSize` of a size."""
+    said = codec.get("configuration", {})
+    if not isinstance(said, dict):
+        wrong("configuration", said)
+    sizes = said.get("chunk_shape")
+    if not isinstance(sizes, list) or any(type(size) is not int or not 0 <= size < 1 << 64 for size in sizes):
+        wrong("chunk_shape", sizes)
+    for key in ("codecs", "index_codecs"):
+        if not isinstance(said.get(key), list):
+            wrong(key, said.get(key))
+    location = said.get("index_location", "end")
+    if location not in ("start", "end"):
+        wrong("index_location", location)
+    if 0 in sizes:
+        error = ZeroSize("ZeroSize")
+        error.key = "chunk_shape"
+        raise error
+    return _Configuration(tuple(sizes), said["codecs"], said["index_codecs"], location == "end")
+
+
+def _on_axis(on_axis: range, size: int) -> list[tuple[int, range, slice]]:
+    """The inner chunks that rising places touch on an axis: each one's number, the places in it, and where they
+    are among all of them."""
+    found = []
+    first = 0
+    while first < len(on_axis):
+        number = on_axis[first] // size
+        last = first + len(range(on_axis[first], min(on_axis.stop, (number + 1) * size), on_axis.step))
+        start = number * size
+        inside = range(on_axis[first] - start, on_axis[last - 1] - start + 1, on_axis.step)
+        found.append((number, inside, slice(first, last)))
+        first = last
+    return found
+
+
+class ShardedChain(Chain):
+    """A chunk that is a shard: it is cut into inner chunks, each encoded by a chain of its own, and an index says
+    where each of them is in the value.
+
+    Python cuts the chunk, reads and writes the index's numbers and joins the values; the inner chunks and the index
+    are encoded and decoded by the library. `unproved` begins with the codec's name for it. An inner chunk of fill
+    values alone isn't stored. What a read needs of a value is the index and the inner chunks with elements of the
+    answer, which may have Python's codecs; a write makes a value of the inner chunks as they are afterwards, in
+    the order of their numbers, and leaves the bytes of those that it doesn't touch. Raises what `Chain` does, and
+    of the inner chains what making and calling them raises.
+    """
+
+    def __init__(
+        self, codecs: Sequence[Any], shape: Sequence[int], data_type: Any, fill_value: Any = None
+    ) -> None:
+        self._text = json_of(list(codecs))
+        self.shape = tuple(map(operator.index, shape))
+        self.data_type = data_type
+        self.fill_value = fill_value
+        self._type: DataType = data_type_of(data_type)
+        self.dtype = self._type.dtype
+        self._outer = []
+        try:
+            said = _configuration(self.codecs[0])
+            self._chunk_shape, self._is_last = said.chunk_shape, said.index_is_last
+            self._grid = self._grid_of(said.chunk_shape)
+            self._made_chains(said)
+        except Refused as error:
+            self._locate(error)
+            raise
+        self._fill: Any = self._chunk.read(None, (0,) * len(self.shape))
+
+    def _grid_of(self, sizes: Shape) -> Shape:
+        """How many inner chunks there are on each axis."""
+        if len(sizes) != len(self.shape):
+            raise IncompatibleDimensionality("IncompatibleDimensionality")
+        if any(whole % size for whole, size in zip(self.shape, sizes, strict=True)):
+            raise IndivisibleShape("IndivisibleShape")
+        return tuple(whole // size for whole, size in zip(self.shape, sizes, strict=True))
+
+    def _made_chains(self, said: _Configuration) -> None:
+        """Makes the chain of each inner chunk, and that of the index."""
+        self._chunk = self._inside("codecs", said.codecs, said.chunk_shape, self.data_type, self.fill_value)
+        # a codec that keeps some bits alone has a normal form
+        self._keeps_all = "packbits" not in json_of(said.codecs)
+        if not self._keeps_all:
+            fill = self._full(self._chunk.read(None, (0,) * len(self.shape)))
+            if not self._is_same(self._chunk.decode(self._chunk._encode(fill)), fill):
+                raise InvalidFillValue("InvalidFillValue")
+        self._index = self._inside("index_codecs", said.index_codecs, (*self._grid, 2), "uint64", 0)
+        kind, size = self._index.representation
+        if kind != "fixed" or size is None or self._index.unproved:
+            raise IndexNotFixed("IndexNotFixed")
+        self._index_size = size
+
+    def _inside(self, key: str, codecs: list[Any], shape: Shape, data_type: Any, fill_value: Any) -> Chain:
+        """The chain of a key; a refusal says where it stands."""
+        try:
+            return chain_of(codecs, shape, data_type, fill_value)
+        except Refused as error:
+            if error.codec is not None:
+                error.inner = ((key, *error.codec), *error.inner)
+            elif error.key is None:
+                error.key = key
+            error.codec = 0, NAME
+            raise
+
+    def _locate(self, error: Refused) -> None:
+        """Puts into a refusal that it is of this codec."""
+        if error.codec is None:
+            error.codec = 0, NAME
+
+    def __repr__(self) -> str:
+        return f"ShardedChain({self.codecs!r}, {self.shape}, {self.data_type!r}, {self.fill_value!r})"
+
+    def __reduce__(self) -> tuple[Any, ...]:
+        return ShardedChain, (self.codecs, self.shape, self.data_type, self.fill_value)
+
+    def check(self) -> None:
+        """Raises the refusal of these codecs for such chunks, if there is one; so does making a chain."""
+        self._chunk.check()
+        self._index.check()
+
+    @cached_property
+    def representation(self) -> Representation:
+        """How many bytes a value has: at most those of all inner chunks and the index, where these are bounded."""
+        size = self._chunk.representation.size
+        if size is None or self._chunk.unproved:
+            return Representation("unbounded", None)
+        return Representation("bounded", size * math.prod(self._grid) + self._index_size)
+
+    @cached_property
+    def _is_read_whole(self) -> bool:
+        return False
+
+    @property
+    def unproved(self) -> tuple[str, ...]:
+        """The codec's name, and those of the codecs that Python runs on inner chunks."""
+        return NAME, *self._chunk.unproved
+
+    # -- the index, and the inner chunks of a value
+
+    def _index_range(self, length: int) -> tuple[int, int]:
+        """Where the index stands in a value of so many bytes."""
+        if length < self._index_size:
+            raise InvalidBytesLength(f"{length} bytes, where the index has {self._index_size}")
+        return (length - self._index_size, length) if self._is_last else (0, self._index_size)
+
+    def _entries(self, index: Any) -> AnyArray:
+        """The first byte of each inner chunk, and how many there are."""
+        entries: AnyArray = self._index.decode(index).reshape(-1, 2)
+        return entries
+
+    def _range(self, entries: AnyArray, number: int, length: int) -> tuple[int, int] | None:
+        """The bytes of an inner chunk in a value of so many; None where it isn't stored."""
+        begin, size = map(int, entries[number])
+        if begin == size == _ABSENT:
+            return None
+        if begin + size > length:
+            raise InvalidByteRange(f"inner chunk {number} ends at {begin + size}, behind {length} bytes")
+        return begin, begin + size
+
+    def _stored(self, value: Any) -> list[Any]:
+        """The stored bytes of each inner chunk of a value, None of those that aren't there."""
+        view = memoryview(value).cast("B")
+        begin, end = self._index_range(len(view))
+        entries = self._entries(view[begin:end])
+        ranges = (self._range(entries, number, len(view)) for number in range(len(entries)))
+        return [None if one is None else view[one[0] : one[1]] for one in ranges]
+
+    def _joined(self, stored: Iterable[Any]) -> Bytes:
+        """The value of stored inner chunks, in the order of their numbers."""
+        entries = np.full((math.prod(self._grid), 2), _ABSENT, np.uint64)
+        at, parts = 0 if self._is_last else self._index_size, []
+        for number, part in enumerate(stored):
+            if part is not None:
+                entries[number] = at, len(part)
+                parts.append(np.frombuffer(part, np.uint8))
+                at += len(part)
+        index = self._index.encode(entries.reshape(*self._grid, 2))
+        return np.concatenate([*parts, index] if self._is_last else [index, *parts])
+
+    def _full(self, element: Any) -> AnyArray:
+        """An inner chunk that has one element everywhere."""
+        elements = empty(self._type, self._chunk_shape)
+        elements[...] = element
+        return elements
+
+    def _is_same(self, one: AnyArray, other: AnyArray) -> bool:
+        """Whether two inner chunks have the same elements, bit by bit."""
+        absent = mask_of(one)
+        if (absent != mask_of(other)).any():
+            return False
+        one, other = (np.asarray(np.ma.getdata(each)) for each in (one, other))
+        if self.dtype == object:
+            return bool((absent | (one == other)).all())
+        bits = [np.ascontiguousarray(each).view(f"V{self.dtype.itemsize}") for each in (one, other)]
+        return bool((absent | (bits[0] == bits[1])).all())
+
+    def _part(self, elements: AnyArray) -> Bytes | None:
+        """What is stored of an inner chunk; None where it has fill values alone."""
+        full = self._full(self._fill)
+        if self._is_same(elements, full):
+            return None
+        value = self._chunk._encode(elements)
+        if not self._keeps_all and self._is_same(self._chunk.decode(value), full):
+            return None
+        return value
+
+    def _places(self) -> Iterator[tuple[slice, ...]]:
+        """Where the inner chunks are in the chunk, in the order of their numbers."""
+        on_axes = (
+            [slice(at * size, (at + 1) * size) for at in range(count)]
+            for count, size in zip(self._grid, self._chunk_shape, strict=True)
+        )
+        yield from itertools.product(*on_axes)
+
+    # -- whole chunks
+
+    def _encode(self, elements: AnyArray) -> Bytes:
+        """The value of elements that the type holds, of this shape."""
+        return self._joined([self._part(elements[(*place, ...)]) for place in self._places()])
+
+    def decode(self, value: Any, out: AnyArray | None = None) -> AnyArray:
+        """The chunk that a value stands for, an array of this shape; in `out` where it is given."""
+        elements = empty(self._type, self.shape)
+        for number, (place, part) in enumerate(zip(self._places(), self._stored(value), strict=True)):
+            elements[(*place, ...)] = self._fill if part is None else self._opened(number, part)
+        return put(elements, out)
+
+    def _opened(self, number: int, part: Any, inside: Any = None) -> AnyArray:
+        """The elements of a stored inner chunk, or those that a selection means; a refusal says which it is."""
+        try:
+            return self._chunk.decode(part) if inside is None else self._chunk._read_inner(self._chunk._inner(part), inside)
+        except Refused as error:
+            if error.args and f"inner chunk {number}" not in str(error.args[0]):
+                error.args = (f"{error.args[0]}, of inner chunk {number}", *error.args[1:])
+            raise
+
+    def reencode(self, value: Any, codecs: Sequence[Any]) -> Bytes:
+        """The value, an array of bytes, that other codecs write for the chunk that a value stands for."""
+        other = chain_of(list(codecs), self.shape, self.data_type, self.fill_value)
+        return other._encode(self.decode(value))
+
+    # -- parts of chunks
+
+    def _pieces(self, chosen: Selection) -> list[Piece]:
+        """The elements of a selection, inner chunk by inner chunk, in the order of their numbers."""
+        if isinstance(chosen, Rows):
+            sizes = np.array(self._chunk_shape, np.uint64)
+            grid = chosen.rows // sizes if chosen.rows.size else chosen.rows
+            inside = chosen.rows - grid * sizes
+            numbers = np.zeros(len(grid), np.int64)
+            for axis, count in enumerate(self._grid):
+                numbers = numbers * count + grid[:, axis].astype(np.int64)
+            places = ((int(number), np.nonzero(numbers == number)[0]) for number in np.unique(numbers))
+            return [Piece(number, inside[there], there) for number, there in places]
+        on_axes = [_on_axis(one, size) for one, size in zip(chosen.on_axes, self._chunk_shape, strict=True)]
+        found = []
+        for each in itertools.product(*on_axes):
+            number = 0
+            for (at, _, _), count in zip(each, self._grid, strict=True):
+                number = number * count + at
+            inside_box = tuple(slice(one.start, one.stop, one.step) for _, one, _ in each)
+            found.append(Piece(number, (*inside_box, ...), (*(there for _, _, there in each), ...)))
+        return found
+
+    def _read_pieces(self, chosen: Selection, source: "_Value", out: AnyArray | None) -> AnyArray:
+        """The elements of a selection, in numpy's shape of it."""
+        self._check_rows(chosen)
+        elements = empty(self._type, chosen.shape)
+        length = source.length()
+        entries = self._entries(source.piece(*self._index_range(length)))
+        for number, inside, there in self._pieces(chosen):
+            where = self._range(entries, number, length)
+            if where is None:
+                elements[there] = self._fill
+            else:
+                elements[there] = self._opened(number, source.piece(*where), inside)
+        return put(elements if chosen.after is None else elements[chosen.after], out)
+
+    def _check_rows(self, chosen: Selection) -> None:
+        """Raises `OutOfBounds` where a list has an index outside: the library says so of a chunk of fill values."""
+        if isinstance(chosen, Rows) and chosen.rows.size and (chosen.rows >= np.array(self.shape, np.uint64)).any():
+            Chain(["bytes"], self.shape, "uint8").read(None, chosen.rows)
+
+    def _filled(self, chosen: Selection, out: AnyArray | None) -> AnyArray:
+        """Fill values at a selection."""
+        self._check_rows(chosen)
+        elements = empty(self._type, chosen.shape)
+        elements[...] = self._fill
+        return put(elements if chosen.after is None else elements[chosen.after], out)
+
+    def read(self, value: Any, selection: Any, out: AnyArray | None = None) -> AnyArray:
+        """The elements that a selection means, as `Chain.read` answers them: of a value, by its index and those of
+        its inner chunks alone that have some of them; of None, fill values."""
+        return self._read_inner(value, selection, out)
+
+    def _read_inner(self, inner: Any, selection: Any, out: AnyArray | None = None) -> AnyArray:
+        chosen = select(selection, self.shape)
+        if inner is None:
+            return self._filled(chosen, out)
+        return self._read_pieces(chosen, _Held(inner), out)
+
+    def read_many(self, value: Any, selections: Iterable[Any]) -> list[AnyArray]:
+        """The elements of each of several selections, a list of what `read` answers one after another."""
+        return [self.read(value, selection) for selection in selections]
+
+    def read_from(self, file: Any, selection: Any, out: AnyArray | None = None) -> AnyArray:
+        """The elements that a selection means of the value that a file has, as `read` answers them: it asks for the
+        index, and then for each inner chunk with some of them."""
+        return self._read_pieces(select(selection, self.shape), _Opened(Source(file)), out)
+
+    def planned_ranges(self, selection: Any) -> None:
+        """None: which bytes a read needs is known once it has the index."""
+        select(selection, self.shape)
+
+    def _edit(self, value: Any, meant: Selection, elements: AnyArray) -> None:
+        raise NotInPlace("NotInPlace")
+
+    def _write(self, inner: Any, meant: Selection, elements: AnyArray) -> Bytes:
+        """The value that is left of a value, or of None, where elements are written at a selection."""
+        self._check_rows(meant)
+        new = spread(self._type, elements, meant.shape, meant.after)
+        stored: list[Any] = [None] * math.prod(self._grid) if inner is None else self._stored(inner)
+        for number, inside, there in self._pieces(meant):
+            part = stored[number]
+            old = self._full(self._fill) if part is None else self._opened(number, part)
+            old[tuple(inside.T) if isinstance(meant, Rows) else inside] = new[there]
+            stored[number] = self._part(old)
+        return self._joined(stored)
+
+
+class _Value:
+    """Where a value's bytes are."""
+
+    def length(self) -> int:
+        """How many bytes it has."""
+        raise NotImplementedError
+
+    def piece(self, begin: int, end: int) -> Any:
+        """The bytes of a range."""
+        raise NotImplementedError
+
+
+class _Held(_Value):
+    """A value that is in memory."""
+
+    def __init__(self, value: Any) -> None:
+        self._view = memoryview(value).cast("B")
+
+    def length(self) -> int:
+        return len(self._view)
+
+    def piece(self, begin: int, end: int) -> Any:
+        return self._view[begin:end]
+
+
+class _Opened(_Value):
+    """A value that a file has."""
+
+    def __init__(self, source: Source) -> None:
+        self._source = source
+
+    def length(self) -> int:
+        return self._source.length()
+
+    def piece(self, begin: int, end: int) -> Any:
+        return self._source.pieces(np.array([[begin, end]], np.uint64))
