@@ -55,14 +55,14 @@ pub fn update_array_bytes(
 /// counts. Elements of one size are written into the old bytes where those are owned, a run at a
 /// time. Errors, the first that applies, `OutOfMemory` aside: those of `validate` of the old elements
 /// at `count`; those of `validate_data` of the new ones at the number of the runs' places.
-pub fn update_runs(
+pub fn update_runs<'b>(
     alloc: Global,
     array: ArrayBytes<'_>,
     count: u64,
     runs: &[(u64, u64)],
     new: &ArrayBytes<'_>,
     data_type: &DataType,
-) -> Result<ArrayBytes<'static>, CodecError>
+) -> Result<ArrayBytes<'b>, CodecError>
     requires inside { All (λ run. run.0 + run.1 ≤ count) runs.now }
     ensures answer { GivesBy (Holds data_type.now) result
         (update_at_places data_type.now count (joined_runs runs.now) array.entry new.now) }
