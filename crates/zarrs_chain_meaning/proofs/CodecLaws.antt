@@ -10,7 +10,7 @@ use Rattle.zarrs_codec.specs.CoordinateMap.{CoordinateMap, origins, moved_chunk}
 use Rattle.zarrs_codec.specs.declared.bytes_representation.BytesRepresentation.{BytesRepresentation}
 use Rattle.zarrs_bytes.specs.BytesCodec.{IsChunk}
 use Rattle.zarrs_packbits.specs.Laws.{HasBytes}
-use Rattle.zarrs_chain_meaning.specs.PlainChain.{PlainCodec, bytes_codec, packbits_codec, vlen_v2_codec, vlen_codec, optional_codec, PlainChain}
+use Rattle.zarrs_chain_meaning.specs.PlainChain.{PlainCodec, bytes_codec, packbits_codec, vlen_v2_codec, vlen_codec, optional_codec, sharding_codec, PlainChain}
 use Rattle.zarrs_chain_meaning.specs.Meaning.{through}
 use Rattle.zarrs_chain_meaning.specs.CodecMeaning.{meaning, chain_meaning, HasMappings, codec_normal_element, normal_form, codec_representation, chain_representation, codec_value, chain_value, codec_chunk, chain_chunk, CodecStands, ChainStands, CodecWritten, ChainWritten}
 use Rattle.zarrs_chain_meaning.specs.Laws.{IsChainOfMappings}
@@ -29,6 +29,7 @@ use Rattle.zarrs_chain_meaning.proofs.PlainLaws.{bytes_laws, packbits_laws}
 use Rattle.zarrs_chain_meaning.proofs.VlenV2Laws.{vlen_v2_laws}
 use Rattle.zarrs_chain_meaning.proofs.VlenLaws.{vlen_laws}
 use Rattle.zarrs_chain_meaning.proofs.OptionalLaws.{optional_laws}
+use Rattle.zarrs_chain_meaning.proofs.ShardingLaws.{shard_laws}
 use Rattle.zarrs_chunk.specs.Answer.{checked_u64}
 use Rattle.zarrs_chain_meaning.proofs.NestedRoom.{HasFill, HasRoom}
 
@@ -40,6 +41,7 @@ codec_laws (packbits_codec settings) = packbits_laws settings
 codec_laws (vlen_v2_codec codec) = vlen_v2_laws codec
 codec_laws (vlen_codec ia ix ib da dx db wide at_end) = vlen_laws wide at_end (through ia (meaning ix) ib) (through da (meaning dx) db) (through_laws ia (meaning ix) ib (codec_laws ix)) (through_laws da (meaning dx) db (codec_laws dx))
 codec_laws (optional_codec ma mx mb da dx db) = optional_laws (through ma (meaning mx) mb) (through da (meaning dx) db) (through_laws ma (meaning mx) mb (codec_laws mx)) (through_laws da (meaning dx) db (codec_laws dx))
+codec_laws (sharding_codec sa sx sb ia ix ib shape at_end) = shard_laws shape at_end (through sa (meaning sx) sb) (through ia (meaning ix) ib) (through_laws sa (meaning sx) sb (codec_laws sx)) (through_laws ia (meaning ix) ib (codec_laws ix))
 
 -- and every chain
 pub chain_laws : {B : Type 0} (chain : PlainChain B) → IsLawfulChain (chain_meaning chain)

@@ -29,7 +29,7 @@ use Rattle.zarrs_data_type.specs.ElementType.{ElementType}
 use Rattle.zarrs_chain_meaning.proofs.ChainSteps.{around_long}
 use Rattle.zarrs_chunk.specs.Answer.{checked_u64}
 use Rattle.zarrs_chunk.specs.ChunkShape.{product}
-use Rattle.zarrs_chain_meaning.proofs.NestedRoom.{HasFill, HasRoom, around_room}
+use Rattle.zarrs_chain_meaning.proofs.NestedRoom.{HasFill, HasRoom, around_room, around_fits}
 
 -- What is kept of elements: one of the type, the same when it is kept again, none of none, and flags as they are. A value stands for one chunk and for a chunk one value is written, as many bytes as was stated, which of more elements are no fewer; it stands for the normal form, and is what is written for that. And the functions answer what stands and what is written.
 pub record IsLawfulCodec {B : Type 0} (m : Meaning B) : Type 0 where
@@ -74,6 +74,7 @@ pub record IsLawfulChain {B : Type 0} (m : Meaning B) : Type 0 where
   pub reads : (f : BytesCodecs B) → m.Mapped → Reads (m.Stands f) (m.chunk f)
   pub long : (f : BytesCodecs B) (sizes : List ℕ) (type : ElementType) (fill value : List ℕ) (chunk : Chunk) → m.chunk f sizes type fill value ≡ Ok chunk → length chunk ≡ product sizes
   pub room : (f : BytesCodecs B) → m.Mapped → HasRoom (m.representation f)
+  pub fits : (f : BytesCodecs B) → HasFill (m.representation f)
 
 -- a chain keeps them whose array-to-bytes codec does
 pub through_laws : {B : Type 0} (arrays : List ArrayMapping) (inner : Meaning B) (outer : List B) → IsLawfulCodec inner → IsLawfulChain (through arrays inner outer)
@@ -96,4 +97,5 @@ through_laws arrays inner outer laws = record {
   reads = λ f has. reading.through_read f arrays (inner.representation f) (inner.Stands f) (inner.chunk f) outer has.0 (laws.reads f has.1);
   long = λ f. around_long f arrays (inner.representation f) (inner.chunk f) outer;
   room = λ f has. around_room f arrays (inner.representation f) outer has.0 (laws.room f has.1);
+  fits = λ f. around_fits f arrays (inner.representation f) outer (laws.fits f);
 }

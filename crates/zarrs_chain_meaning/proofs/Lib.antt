@@ -25,6 +25,13 @@ pub mod PlainLaws
 pub mod VlenV2Laws
 pub mod VlenLaws
 pub mod OptionalLaws
+pub mod InnerChunks
+pub mod ShardGrid
+pub mod ShardStands
+pub mod ShardNormal
+pub mod ShardReads
+pub mod ShardSizes
+pub mod ShardingLaws
 pub mod CodecLaws
 pub mod ChainCounts
 pub mod HeldBytes

@@ -1,5 +1,5 @@
 -- What is written of a chain makes an equal one.
-use Rattle.std.proofs.Common.{◌≡◌, ◌∙◌, List, [], ◌∷◌, ◌++◌, Ok, Err, Bool, true, false, Option, Some, None, map, refl, ap, sym, append_assoc, append-nil}
+use Rattle.std.proofs.Common.{◌≡◌, ◌∙◌, ◌<◌, ℕ, List, [], ◌∷◌, ◌++◌, Ok, Err, Bool, true, false, Option, Some, None, map, refl, ap, sym, append_assoc, append-nil}
 use Rattle.std.specs.Prelude.{Result, not, All, IfOk}
 use Rattle.std.proofs.lemmas.Bool.{false≢true}
 use Rattle.std.proofs.lemmas.List.Elements.{All-head, All-tail}
@@ -13,25 +13,28 @@ use Rattle.zarrs_metadata.specs.Metadata.{Metadata, has_no_float}
 use Rattle.zarrs_metadata.specs.MetadataList.{have_no_float}
 use Rattle.zarrs_metadata.specs.OptionalConfiguration.{OptionalChains, read_optional, write_optional}
 use Rattle.zarrs_metadata.specs.ReshapeConfiguration.{read_reshape, write_reshape}
+use Rattle.zarrs_metadata.specs.ShardingConfiguration.{ShardingParts, read_sharding, write_sharding}
 use Rattle.zarrs_metadata.specs.TransposeConfiguration.{read_transpose, write_transpose}
 use Rattle.zarrs_metadata.specs.VlenConfiguration.{VlenParts, read_vlen, write_vlen}
 use Rattle.zarrs_metadata.specs.declared.plugin_create_error.PluginCreateError.{PluginCreateError}
 use Rattle.zarrs_metadata.specs.declared.plugin_create_error.PluginCreateError.TheVariants.{InvalidConfiguration}
-use Rattle.zarrs_metadata.proofs.ReadBack.{transpose-reads_back, reshape-reads_back, bytes-reads_back, optional-reads_back, vlen-reads_back}
+use Rattle.zarrs_metadata.proofs.ReadBack.{transpose-reads_back, reshape-reads_back, bytes-reads_back, optional-reads_back, vlen-reads_back, sharding-reads_back}
 use Rattle.zarrs_array_to_array.specs.ArrayToArrayCodec.{ArrayMapping, transpose, reshape, squeeze, IsMapping}
 use Rattle.zarrs_array_to_array.specs.MappingMetadata.{mapping_configuration}
 use Rattle.zarrs_array_to_array.proofs.MadeAgain.{mappings_made_again}
+use Rattle.zarrs_array_to_array.proofs.Transposition.{shape_of-positive}
 use Rattle.zarrs_packbits.specs.PackBitsSettings.{PackBitsSettings, is_reversed}
 use Rattle.zarrs_packbits.specs.SettingsMetadata.{read_settings, write_settings}
 use Rattle.zarrs_packbits.proofs.MadeAgain.{made_again}
 use Rattle.zarrs_vlen_v2.specs.declared.vlen_v2_codec.VlenV2Codec.{VlenV2Codec}
 use Rattle.zarrs_vlen_v2.specs.declared.vlen_v2_codec.VlenV2Codec.TheVariants.{Utf8, Bytes}
+use Rattle.zarrs_chain_meaning.specs.sharding.ShardingSettings.{is_index_at_end, shard_index_place}
 use Rattle.zarrs_chain_meaning.specs.vlen.VlenSettings.{is_wide, is_at_end, offset_type_of, index_place}
 use Rattle.zarrs_chain_meaning.specs.Laws.{IsChainOfMappings}
 use Rattle.zarrs_chain_meaning.specs.CodecMeaning.{HasMappings, meaning}
 use Rattle.zarrs_chain_meaning.specs.MadeAgain.{IsMadeAgain, HasRanges, HasOuter, HasBytesCodecs, ChainsAreMadeAgain}
-use Rattle.zarrs_chain_meaning.specs.MadeChain.{array_made, to_bytes_made, outer_made, vlen_of_parts, optional_of_chains, asked_maker, made_by_name, codec_made, joined, gathered, finished, chain_made}
-use Rattle.zarrs_chain_meaning.specs.PlainChain.{PlainCodec, bytes_codec, packbits_codec, vlen_v2_codec, vlen_codec, optional_codec, PlainChain, vlen_codec_of, optional_codec_of}
+use Rattle.zarrs_chain_meaning.specs.MadeChain.{array_made, to_bytes_made, outer_made, vlen_of_parts, optional_of_chains, sharding_of_parts, asked_maker, made_by_name, codec_made, joined, gathered, finished, chain_made}
+use Rattle.zarrs_chain_meaning.specs.PlainChain.{PlainCodec, bytes_codec, packbits_codec, vlen_v2_codec, vlen_codec, optional_codec, sharding_codec, PlainChain, vlen_codec_of, optional_codec_of, sharding_codec_of}
 use Rattle.zarrs_chain_meaning.specs.WrittenMetadata.{codec_configuration, to_bytes_metadata, chain_metadatas}
 use Rattle.zarrs_chain_meaning.specs.MetadataFacts.{mapping_metadata, listed}
 use Rattle.zarrs_chain_meaning.proofs.MadeAlike.{chain_made_at}
@@ -62,6 +65,9 @@ float-vlen ms h = rw h refl
 
 float-optional : (ms : Members) → members_have_float ms ≡ true → read_optional ms ≡ Err InvalidConfiguration
 float-optional ms h = rw h refl
+
+float-sharding : (ms : Members) → members_have_float ms ≡ true → read_sharding ms ≡ Err InvalidConfiguration
+float-sharding ms h = rw h refl
 
 clean-mapping : (codec : ArrayMapping) → IsMapping codec → has_no_float (Some (mapping_configuration codec)) ≡ true
 clean-mapping (transpose order) h = clean (members_have_float (write_transpose order)) (read_transpose (write_transpose order)) order (float-transpose (write_transpose order)) (transpose-reads_back order h)
@@ -132,6 +138,10 @@ at_end-again : (at_end : Bool) → is_at_end (index_place at_end) ≡ at_end
 at_end-again false = refl
 at_end-again true = refl
 
+index_place-again : (at_end : Bool) → is_index_at_end (shard_index_place at_end) ≡ at_end
+index_place-again false = refl
+index_place-again true = refl
+
 -- what is written of a codec has no float, and makes the codec again
 record IsAgain {B : Type 0} (described : B → Metadata) (makes : Metadata → Result (Option B) PluginCreateError) (codec : PlainCodec B) : Type 0 where
   pub clean : has_no_float (Some (codec_configuration described codec)) ≡ true
@@ -183,6 +193,18 @@ optional-again described makes ma mx mb da dx db mask content =
           ∙ ap (λ r. seen to_bytes_made (r >>= (λ c. Ok (optional_codec_of (record { array_to_array = ma; array_to_bytes = mx; bytes_to_bytes = mb }) c)))) content.made;
     }
 
+sharding-again : {B : Type 0} (described : B → Metadata) (makes : Metadata → Result (Option B) PluginCreateError) (sa : List ArrayMapping) (sx : PlainCodec B) (sb : List B) (ia : List ArrayMapping) (ix : PlainCodec B) (ib : List B) (shape : List ℕ) (at_end : Bool)
+    → All (λ size. 0 < size) shape → IsChainAgain described makes sa sx sb → IsChainAgain described makes ia ix ib → IsAgain described makes (sharding_codec sa sx sb ia ix ib shape at_end)
+sharding-again described makes sa sx sb ia ix ib shape at_end positive inner index =
+    let parts : ShardingParts = record { chunk_shape = shape; codecs = listed described sa (to_bytes_metadata described sx) sb; index_codecs = listed described ia (to_bytes_metadata described ix) ib; index_location = shard_index_place at_end } in
+    let read = sharding-reads_back parts (shape_of-positive shape positive) inner.clean index.clean in record {
+      clean = clean (members_have_float (write_sharding parts)) (read_sharding (write_sharding parts)) parts (float-sharding (write_sharding parts)) read;
+      made = ap (λ r. seen to_bytes_made (r >>= sharding_of_parts (chain_made makes))) read
+          ∙ ap (λ r. seen to_bytes_made (r >>= (λ c. chain_made makes parts.index_codecs >>= (λ i. Ok (sharding_codec_of c i shape (is_index_at_end (shard_index_place at_end))))))) inner.made
+          ∙ ap (λ r. seen to_bytes_made (r >>= (λ i. Ok (sharding_codec_of (record { array_to_array = sa; array_to_bytes = sx; bytes_to_bytes = sb }) i shape (is_index_at_end (shard_index_place at_end)))))) index.made
+          ∙ ap (λ e. Ok (to_bytes_made (sharding_codec sa sx sb ia ix ib shape e))) (index_place-again at_end);
+    }
+
 codec-again : {B : Type 0} (described : B → Metadata) (makes : Metadata → Result (Option B) PluginCreateError) (codec : PlainCodec B) → HasMappings codec → HasRanges codec → HasOuter (IsMadeAgain described makes) codec → IsAgain described makes codec
 unfolding meaning
 codec-again described makes (bytes_codec order) m r o =
@@ -197,6 +219,10 @@ codec-again described makes (optional_codec ma mx mb da dx db) m r o =
     optional-again described makes ma mx mb da dx db
     (chain-again described makes ma mx mb m.0.0 (codec-again described makes mx m.0.1 r.0 o.0.0) o.0.1)
     (chain-again described makes da dx db m.1.0 (codec-again described makes dx m.1.1 r.1 o.1.0) o.1.1)
+codec-again described makes (sharding_codec sa sx sb ia ix ib shape at_end) m r o =
+    sharding-again described makes sa sx sb ia ix ib shape at_end m.0
+    (chain-again described makes sa sx sb m.1.0 (codec-again described makes sx m.1.1 r.0 o.0.0) o.0.1)
+    (chain-again described makes ia ix ib m.2.0 (codec-again described makes ix m.2.1 r.1 o.1.0) o.1.1)
 
 pub chains_made_again : {B : Type 0} → ChainsAreMadeAgain B
 chains_made_again described makes chain h =

@@ -3,17 +3,19 @@ use Rattle.std.proofs.Common.{◌≡◌, ◌∙◌, ℕ, zero, suc, ◌<◌, ◌
 use Rattle.std.specs.Prelude.{Result}
 use Rattle.zarrs_chunk.specs.Answer.{◌>>=◌, seen}
 use Rattle.zarrs_chain_meaning.specs.declared.codec_name.KnownCodec.{KnownCodec}
-use Rattle.zarrs_chain_meaning.specs.declared.codec_name.KnownCodec.TheVariants.{Transpose, Reshape, Squeeze, Bytes, PackBits, VlenV2, Vlen, Optional}
+use Rattle.zarrs_chain_meaning.specs.declared.codec_name.KnownCodec.TheVariants.{Transpose, Reshape, Squeeze, Bytes, PackBits, VlenV2, Vlen, Optional, Sharding}
 use Rattle.zarrs_metadata.specs.CodecMetadata.{made_of}
 use Rattle.zarrs_metadata.specs.Metadata.{Metadata}
 use Rattle.zarrs_metadata.specs.OptionalConfiguration.{OptionalChains, read_optional}
+use Rattle.zarrs_metadata.specs.ShardingConfiguration.{ShardingParts, read_sharding}
 use Rattle.zarrs_metadata.specs.VlenConfiguration.{VlenParts, read_vlen}
 use Rattle.zarrs_metadata.specs.declared.plugin_create_error.PluginCreateError.{PluginCreateError}
+use Rattle.zarrs_chain_meaning.specs.sharding.ShardingSettings.{is_index_at_end}
 use Rattle.zarrs_chain_meaning.specs.vlen.VlenSettings.{is_wide, is_at_end}
-use Rattle.zarrs_chain_meaning.specs.CodecNames.{codec_named, is_vlen_name, is_optional_name}
-use Rattle.zarrs_chain_meaning.specs.MadeChain.{to_bytes_made, Gathered, location_or_start, vlen_of_parts, optional_of_chains, made_by_name, codec_made, joined, gathered, finished, nothing_gathered, depth_of, depth_all, chain_in, chain_made, chain_made_by}
-use Rattle.zarrs_chain_meaning.specs.PlainChain.{PlainChain, vlen_codec_of, optional_codec_of}
-use Rattle.zarrs_chain_meaning.proofs.MetadataDepth.{VlenWithin, vlen_within, OptionalWithin, optional_within}
+use Rattle.zarrs_chain_meaning.specs.CodecNames.{codec_named, is_vlen_name, is_optional_name, is_sharding_name}
+use Rattle.zarrs_chain_meaning.specs.MadeChain.{to_bytes_made, Gathered, location_or_start, vlen_of_parts, optional_of_chains, sharding_of_parts, made_by_name, codec_made, joined, gathered, finished, nothing_gathered, depth_of, depth_all, chain_in, chain_made, chain_made_by}
+use Rattle.zarrs_chain_meaning.specs.PlainChain.{PlainChain, vlen_codec_of, optional_codec_of, sharding_codec_of}
+use Rattle.zarrs_chain_meaning.proofs.MetadataDepth.{VlenWithin, vlen_within, OptionalWithin, optional_within, ShardingWithin, sharding_within}
 
 -- steps that go on alike
 same_steps : {E A C : Type 0} (r : Result A E) (h k : A → Result C E) → IfOk r (λ a. h a ≡ k a) → (r >>= h) ≡ (r >>= k)
@@ -42,6 +44,11 @@ chains-alike f g bound alike chains within =
     ap (λ r. r >>= (λ mask. f chains.data_codecs >>= (λ content. Ok (optional_codec_of mask content)))) (alike chains.mask_codecs within.0)
     ∙ ap (λ r. g chains.mask_codecs >>= (λ mask. r >>= (λ content. Ok (optional_codec_of mask content)))) (alike chains.data_codecs within.1)
 
+inner-alike : {B : Type 0} (f g : List Metadata → Result (PlainChain B) PluginCreateError) (bound : ℕ) → AreAlike f g bound → (parts : ShardingParts) → ShardingWithin bound parts → sharding_of_parts f parts ≡ sharding_of_parts g parts
+inner-alike f g bound alike parts within =
+    ap (λ r. r >>= (λ inner. f parts.index_codecs >>= (λ index. Ok (sharding_codec_of inner index parts.chunk_shape (is_index_at_end parts.index_location))))) (alike parts.codecs within.0)
+    ∙ ap (λ r. g parts.codecs >>= (λ inner. r >>= (λ index. Ok (sharding_codec_of inner index parts.chunk_shape (is_index_at_end parts.index_location))))) (alike parts.index_codecs within.1)
+
 below : {B : Type 0} (f g : List Metadata → Result (PlainChain B) PluginCreateError) (depth bound : ℕ) → depth ≤ bound → AreAlike f g bound → AreAlike f g depth
 below f g depth bound le alike = λ xs h. alike xs (omega (arith, h, le))
 
@@ -56,6 +63,8 @@ named-alike f g makes m alike (Some Vlen) =
     ap (λ r. seen to_bytes_made r) (same_steps (made_of is_vlen_name read_vlen m) (vlen_of_parts f) (vlen_of_parts g) (weaker (made_of is_vlen_name read_vlen m) (VlenWithin (depth_of m)) (λ parts. vlen_of_parts f parts ≡ vlen_of_parts g parts) (parts-alike f g (depth_of m) alike) (vlen_within m)))
 named-alike f g makes m alike (Some Optional) =
     ap (λ r. seen to_bytes_made r) (same_steps (made_of is_optional_name read_optional m) (optional_of_chains f) (optional_of_chains g) (weaker (made_of is_optional_name read_optional m) (OptionalWithin (depth_of m)) (λ chains. optional_of_chains f chains ≡ optional_of_chains g chains) (chains-alike f g (depth_of m) alike) (optional_within m)))
+named-alike f g makes m alike (Some Sharding) =
+    ap (λ r. seen to_bytes_made r) (same_steps (made_of is_sharding_name read_sharding m) (sharding_of_parts f) (sharding_of_parts g) (weaker (made_of is_sharding_name read_sharding m) (ShardingWithin (depth_of m)) (λ parts. sharding_of_parts f parts ≡ sharding_of_parts g parts) (inner-alike f g (depth_of m) alike) (sharding_within m)))
 named-alike f g makes m alike None = refl
 
 gathered-alike : {B : Type 0} (f g : List Metadata → Result (PlainChain B) PluginCreateError) (makes : Metadata → Result (Option B) PluginCreateError) (bound : ℕ) → AreAlike f g bound → (ms : List Metadata) (so_far : Gathered B) → depth_all ms ≤ bound → gathered f makes ms so_far ≡ gathered g makes ms so_far

@@ -1,24 +1,29 @@
 -- What is read of a configuration is less deep than the configuration.
 use Rattle.std.proofs.Common.{ℕ, suc, ◌<◌, ◌≤◌, max, List, Ok, Err, Bool, Option, Some, None, IfSome, IfOk, Ordering, Less, Equal, Greater, codes, subst, arith}
-use Rattle.std.specs.Prelude.{Result, option_and_then}
+use Rattle.std.specs.Prelude.{Result, option_and_then, ok_or}
 use Rattle.std.specs.Ordering.{nat_cmp, match_ordering}
 use Rattle.std.specs.Cmp.Lexicographic.{slice_cmp}
 use Rattle.serde_json.specs.Data.{Data, null, boolean, number, string, array, object, Items, no_items, item, Members, no_members, member, depth, items_depth, members_depth}
 use Rattle.serde_json.specs.Find.{get_member, as_array, as_object, as_bool, as_str}
 use Rattle.zarrs_chunk.specs.Answer.{◌>>=◌, Answers, demand}
+use Rattle.zarrs_chunk.specs.ChunkShape.{shape_of}
 use Rattle.zarrs_metadata.specs.CodecMetadata.{made_of, members_of}
 use Rattle.zarrs_metadata.specs.Metadata.{Metadata, metadata_of, unless_false}
 use Rattle.zarrs_metadata.specs.MetadataList.{metadata_among, metadata_at}
 use Rattle.zarrs_metadata.specs.OptionalConfiguration.{OptionalChains, optional_seen, read_optional}
 use Rattle.zarrs_metadata.specs.PluginCreateError.{plugin_memory}
-use Rattle.zarrs_metadata.specs.Trees.{needed, optional_key, without_floats}
+use Rattle.zarrs_metadata.specs.ShardingConfiguration.{ShardingParts, sharding_seen, read_sharding, shard_index_in}
+use Rattle.zarrs_metadata.specs.Trees.{needed, optional_key, without_floats, number_list}
 use Rattle.zarrs_metadata.specs.VlenConfiguration.{VlenParts, vlen_seen, read_vlen, index_data_type_in, index_location_in}
+use Rattle.zarrs_metadata.specs.declared.codec.sharding.ShardingIndexLocation.{ShardingIndexLocation}
 use Rattle.zarrs_metadata.specs.declared.codec.vlen.VlenIndexDataType.{VlenIndexDataType}
 use Rattle.zarrs_metadata.specs.declared.codec.vlen.VlenIndexLocation.{VlenIndexLocation}
 use Rattle.zarrs_metadata.specs.declared.configuration.optional.OptionalCodecConfiguration.{OptionalCodecConfiguration}
+use Rattle.zarrs_metadata.specs.declared.configuration.sharding.ShardingCodecConfiguration.{ShardingCodecConfiguration}
 use Rattle.zarrs_metadata.specs.declared.configuration.vlen.VlenCodecConfiguration.{VlenCodecConfiguration}
 use Rattle.zarrs_metadata.specs.declared.plugin_create_error.PluginCreateError.{PluginCreateError}
-use Rattle.zarrs_chain_meaning.specs.CodecNames.{is_vlen_name, is_optional_name}
+use Rattle.zarrs_metadata.specs.declared.plugin_create_error.PluginCreateError.TheVariants.{ZeroSize}
+use Rattle.zarrs_chain_meaning.specs.CodecNames.{is_vlen_name, is_optional_name, is_sharding_name}
 use Rattle.zarrs_chain_meaning.specs.MadeChain.{depth_of, depth_all}
 
 bind : {E A B : Type 0} (r : Result A E) (f : A → Result B E) (P : A → Type 0) (Q : B → Type 0) → IfOk r P → ((a : A) → P a → IfOk (f a) Q) → IfOk (r >>= f) Q
@@ -161,3 +166,37 @@ optional_mask_within (Err e) m h = tt
 pub optional_data_within : (result : Result OptionalCodecConfiguration PluginCreateError) (m : Metadata) → Answers plugin_memory optional_seen result (made_of is_optional_name read_optional m) → IfOk result (λ c. depth_all (optional_seen c).data_codecs < depth_of m)
 optional_data_within (Ok c) m h = (subst (λ (r : Result OptionalChains PluginCreateError). IfOk r (OptionalWithin (depth_of m))) h (optional_within m)).1
 optional_data_within (Err e) m h = tt
+
+-- ---- sharding_indexed
+
+abbrev pub ShardingWithin : ℕ → ShardingParts → Type 0
+ShardingWithin n parts = (depth_all parts.codecs < n) × (depth_all parts.index_codecs < n)
+
+sharding-read : (clean : Result (Unit {0}) PluginCreateError) (tree : Result Data PluginCreateError) (sizes : Data → Result (List ℕ) PluginCreateError) (inner index : Result (List Metadata) PluginCreateError) (location : Result ShardingIndexLocation PluginCreateError) (shape : List ℕ → Result (List ℕ) PluginCreateError) (n : ℕ)
+    → IfOk inner (λ xs. depth_all xs < n) → IfOk index (λ xs. depth_all xs < n)
+    → IfOk (clean >>= (λ _. tree >>= (λ t. sizes t >>= (λ s. inner >>= (λ x. index >>= (λ i. location >>= (λ l. shape s >>= (λ c. Ok (record { chunk_shape = c; codecs = x; index_codecs = i; index_location = l }))))))))) (ShardingWithin n)
+sharding-read clean tree sizes inner index location shape n first second =
+    bind clean _ (λ _. Unit {0}) (ShardingWithin n) (any clean) (λ u _.
+    bind tree _ (λ _. Unit {0}) (ShardingWithin n) (any tree) (λ t _.
+    bind (sizes t) _ (λ _. Unit {0}) (ShardingWithin n) (any (sizes t)) (λ s _.
+    bind inner _ (λ xs. depth_all xs < n) (ShardingWithin n) first (λ x inside.
+    bind index _ (λ xs. depth_all xs < n) (ShardingWithin n) second (λ i within.
+    bind location _ (λ _. Unit {0}) (ShardingWithin n) (any location) (λ l _.
+    bind (shape s) _ (λ _. Unit {0}) (ShardingWithin n) (any (shape s)) (λ c _.
+    let pair : ShardingWithin n (record { chunk_shape = c; codecs = x; index_codecs = i; index_location = l }) = (inside, within) in pair)))))))
+
+sharding-depth : (ms : Members) → IfOk (read_sharding ms) (ShardingWithin (members_depth ms))
+sharding-depth ms =
+    sharding-read (without_floats ms) (needed (get_member (codes "chunk_shape") ms)) number_list (metadata_at (codes "codecs") ms) (metadata_at (codes "index_codecs") ms) (shard_index_in (get_member (codes "index_location") ms)) (λ sizes. ok_or (shape_of sizes) ZeroSize) (members_depth ms)
+    (metadata_at-depth (codes "codecs") ms) (metadata_at-depth (codes "index_codecs") ms)
+
+pub sharding_within : (m : Metadata) → IfOk (made_of is_sharding_name read_sharding m) (ShardingWithin (depth_of m))
+sharding_within m = bind (demand (is_sharding_name m.name) _) _ (λ _. Unit {0}) (ShardingWithin (depth_of m)) (any _) (λ named _. sharding-depth (members_of m.configuration))
+
+pub sharding_inner_within : (result : Result ShardingCodecConfiguration PluginCreateError) (m : Metadata) → Answers plugin_memory sharding_seen result (made_of is_sharding_name read_sharding m) → IfOk result (λ c. depth_all (sharding_seen c).codecs < depth_of m)
+sharding_inner_within (Ok c) m h = (subst (λ (r : Result ShardingParts PluginCreateError). IfOk r (ShardingWithin (depth_of m))) h (sharding_within m)).0
+sharding_inner_within (Err e) m h = tt
+
+pub sharding_index_within : (result : Result ShardingCodecConfiguration PluginCreateError) (m : Metadata) → Answers plugin_memory sharding_seen result (made_of is_sharding_name read_sharding m) → IfOk result (λ c. depth_all (sharding_seen c).index_codecs < depth_of m)
+sharding_index_within (Ok c) m h = (subst (λ (r : Result ShardingParts PluginCreateError). IfOk r (ShardingWithin (depth_of m))) h (sharding_within m)).1
+sharding_index_within (Err e) m h = tt

@@ -50,7 +50,7 @@ memory_test : (test : Bool) (xs ys : List ℕ) → (if test then ok xs else err 
 memory_test true xs ys e = (refl, sym (ok_is xs ys e))
 memory_test false xs ys e = absurd cc
 
-in_memory_so : (xs ys : List ℕ) → in_memory xs ≡ Ok ys → (length xs < 2 ^ 64) × (ys ≡ xs)
+pub in_memory_so : (xs ys : List ℕ) → in_memory xs ≡ Ok ys → (length xs < 2 ^ 64) × (ys ≡ xs)
 in_memory_so xs ys e =
     let t = memory_test (nat_lt (length xs) (2 ^ 64)) xs ys e in
     (grind (arith, nat_tests, t.0), t.1)
@@ -74,7 +74,7 @@ unfolding offset_bytes
 offset_is true offset = refl
 offset_is false offset = refl
 
-offsets_are : (wide : Bool) (offsets : List ℕ) → AreElements (offset_type wide) (offset_elements wide offsets)
+pub offsets_are : (wide : Bool) (offsets : List ℕ) → AreElements (offset_type wide) (offset_elements wide offsets)
 offsets_are wide [] = All-nil (IsElement (offset_type wide))
 offsets_are wide (offset ∷ offsets) = All-cons (IsElement (offset_type wide)) (plain (offset_bytes wide offset)) (offset_elements wide offsets) (offset_is wide offset) (offsets_are wide offsets)
 
@@ -88,7 +88,7 @@ offset_same wide keep k offset h =
     let kept = keep (offset_type wide) (plain (offset_bytes wide offset)) in
     fixed_plain (if wide then 64 else 32) 1 false kept (k (offset_type wide) (plain (offset_bytes wide offset)) (offset_is wide offset)) ∙ ap plain (same_numbers (bytes_of kept) (offset_bytes wide offset) h)
 
-offsets_same : (wide : Bool) (keep : Keeping) → KeepsTypes keep → (offsets : List ℕ) → is_same_bytes (map (keep (offset_type wide)) (offset_elements wide offsets)) (offset_elements wide offsets) ≡ true
+pub offsets_same : (wide : Bool) (keep : Keeping) → KeepsTypes keep → (offsets : List ℕ) → is_same_bytes (map (keep (offset_type wide)) (offset_elements wide offsets)) (offset_elements wide offsets) ≡ true
     → map (keep (offset_type wide)) (offset_elements wide offsets) ≡ offset_elements wide offsets
 offsets_same wide keep k [] h = refl
 offsets_same wide keep k (offset ∷ offsets) h =

@@ -145,7 +145,7 @@ tested false false m n h t = tt
 test_smaller : (m n : ℕ) → m ≤ n → nat_lt n (2 ^ 64) ≡ true → nat_lt m (2 ^ 64) ≡ true
 test_smaller m n h t = grind (arith, nat_tests)
 
-bounded_grows : (m n : ℕ) → m ≤ n → IsAtMost (bounded m) (bounded n)
+pub bounded_grows : (m n : ℕ) → m ≤ n → IsAtMost (bounded m) (bounded n)
 bounded_grows m n h = tested (nat_lt m (2 ^ 64)) (nat_lt n (2 ^ 64)) m n h (test_smaller m n h)
 
 pub unbounded_most : (r : BytesRepresentation) → IsAtMost r UnboundedSize

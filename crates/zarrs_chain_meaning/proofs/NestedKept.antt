@@ -150,7 +150,7 @@ tested_keeps : (test : Bool) (n : ℕ) (value : List ℕ) → length value ≤ n
 tested_keeps true n value h = h
 tested_keeps false n value h = tt
 
-bounded_keeps : (n : ℕ) (value : List ℕ) → length value ≤ n → KeepsTo (bounded n) value
+pub bounded_keeps : (n : ℕ) (value : List ℕ) → length value ≤ n → KeepsTo (bounded n) value
 bounded_keeps n value h = tested_keeps (nat_lt n (2 ^ 64)) n value h
 
 -- no more elements are present than there are

@@ -130,3 +130,9 @@ around_room f arrays measure outer mappings room sizes type fill r positive smal
     let i = bind_ok (measure m.0.encoded type fill) _ r m.2 in
     let h : IsCoordinateMap sizes m.0 = arrays_are_map arrays sizes type m.0 mappings positive m.1 in
     subst (λ (n : ℕ). sizes_fit type n ≡ Ok tt) h.count (room m.0.encoded type fill i.0 (h.positive positive) (subst (λ (n : ℕ). n + 1 < 2 ^ 64) (sym h.count) small) i.1)
+
+pub around_fits : {B : Type 0} (f : BytesCodecs B) (arrays : List ArrayMapping) (measure : Measure) (outer : List B) → HasFill measure → HasFill (around_representation f arrays measure outer)
+around_fits f arrays measure outer law sizes type fill r e =
+    let m = bind_ok (arrays_map type arrays sizes) _ r e in
+    let i = bind_ok (measure m.0.encoded type fill) _ r m.2 in
+    law m.0.encoded type fill i.0 i.1

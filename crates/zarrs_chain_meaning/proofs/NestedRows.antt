@@ -29,7 +29,7 @@ index_small true index items lt = omega (arith, lt, length-append items (index +
 
 -- ---- offsets
 
-offset_again : (wide : Bool) (offset : ℕ) → offset < 2 ^ 64 → offset_fits wide offset ≡ true → offset_of wide (offset_bytes wide offset) ≡ offset
+pub offset_again : (wide : Bool) (offset : ℕ) → offset < 2 ^ 64 → offset_fits wide offset ≡ true → offset_of wide (offset_bytes wide offset) ≡ offset
 unfolding offset_of offset_bytes
 offset_again true offset lt h = from_le_bytes-to_le_bytes_8 offset lt
 offset_again false offset lt h = from_le_bytes-to_le_bytes_4 offset (from_lt_test offset (2 ^ 32) h)

@@ -112,7 +112,7 @@ arrays_are_map arrays sizes type m mappings positive e = chain_map arrays sizes 
 
 -- ---- sizes of rows
 
-abbrev is_positive : ℕ → Type 0
+abbrev pub is_positive : ℕ → Type 0
 is_positive size = 0 < size
 
 pub row_positive : (count : ℕ) → 0 < count → All (λ size. 0 < size) (count ∷ [])

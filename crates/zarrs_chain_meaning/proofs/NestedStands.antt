@@ -27,7 +27,7 @@ StandsOnce stand =
 
 -- ---- parts of lists
 
-back_same : (a b c d : List ℕ) → length b ≡ length d → a ++ b ≡ c ++ d → (a ≡ c) × (b ≡ d)
+pub back_same : (a b c d : List ℕ) → length b ≡ length d → a ++ b ≡ c ++ d → (a ≡ c) × (b ≡ d)
 back_same a b c d l e =
     let total = ap length e in
     front_same a b c d (omega (arith, length-append a b, length-append c d, total)) e

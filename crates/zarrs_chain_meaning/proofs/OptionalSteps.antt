@@ -122,7 +122,7 @@ mask_value f chain sizes mask fill raw same long small =
     } in
     held_value_is f chain sizes flag_type fill (flen raw) (byte_elements raw.items) holds (count ∙ all ∙ long) ∙ ap (λ (xs : List ℕ). chain_value f chain sizes flag_type fill (byte_elements xs)) same
 
-counted_small : (n : ℕ) → checked_u64 n ≡ Ok n → n < 2 ^ 64
+pub counted_small : (n : ℕ) → checked_u64 n ≡ Ok n → n < 2 ^ 64
 counted_small n e = (checked_ok n n e).0
 
 pub mask_answers : {B X : Type 0} (view : X → List ℕ) (result : Result X CodecError) (f : BytesCodecs B) (chain : PlainChain B) (sizes fill : List ℕ) (raw : Raw) → length raw.items ≡ product sizes → checked_u64 (product sizes) ≡ Ok (product sizes)

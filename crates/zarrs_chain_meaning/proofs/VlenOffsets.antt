@@ -103,12 +103,17 @@ rows_joined : (wide : Bool) (first : ℕ) (offsets : List ℕ) → bytes_from wi
 rows_joined wide first [] = refl
 rows_joined wide first (offset ∷ offsets) = ap (λ (xs : List ℕ). offset_bytes wide (offset - first) ++ xs) (rows_joined wide first offsets)
 
+-- the bytes of numbers hold them, counted from any one
+pub holds_from : (wide : Bool) (first : ℕ) (numbers : List ℕ) (raw : Raw) → raw.items ≡ bytes_from wide first numbers → length raw.items < 2 ^ 64
+    → Holds (offset_type wide) (flen raw) (offset_elements wide (map (λ number. number - first) numbers))
+holds_from wide first numbers raw is small =
+    let parts = map (offset_bytes wide) (map (λ number. number - first) numbers) in
+    subst (Holds (offset_type wide) (flen raw)) (map-map plain (offset_bytes wide) (map (λ number. number - first) numbers))
+    (Holds-pieces None (width_of wide) 1 false raw parts (rows_sized wide (map (λ number. number - first) numbers)) (is ∙ rows_joined wide first numbers) small)
+
 holds_offsets : (wide : Bool) (offsets : List ℕ) (raw : Raw) → raw.items ≡ bytes_from wide (slice_index offsets 0) offsets → length raw.items < 2 ^ 64
     → Holds (offset_type wide) (flen raw) (offset_elements wide (from_first offsets))
-holds_offsets wide offsets raw is small =
-    let parts = map (offset_bytes wide) (from_first offsets) in
-    subst (Holds (offset_type wide) (flen raw)) (map-map plain (offset_bytes wide) (from_first offsets))
-    (Holds-pieces None (width_of wide) 1 false raw parts (rows_sized wide (from_first offsets)) (is ∙ rows_joined wide (slice_index offsets 0) offsets) small)
+holds_offsets wide offsets raw is small = holds_from wide (slice_index offsets 0) offsets raw is small
 
 index_test : (test : Bool) (wide : Bool) (offsets : List ℕ) (raw : Raw) → (demand test OffsetTooLarge >>= λ _. ok (bytes_from wide (slice_index offsets 0) offsets)) ≡ ok raw.items → length raw.items < 2 ^ 64
     → IsOkAnd (demand test OffsetTooLarge >>= λ _. ok (offset_elements wide (from_first offsets))) (Holds (offset_type wide) (flen raw))

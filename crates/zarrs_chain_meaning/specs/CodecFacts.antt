@@ -6,7 +6,7 @@ use Rattle.zarrs_codec.specs.declared.capabilities.PartialDecoderCapability.{Par
 use Rattle.zarrs_codec.specs.declared.capabilities.PartialEncoderCapability.{PartialEncoderCapability}
 use Rattle.zarrs_array_to_array.specs.ArrayToArrayCodec.{ArrayMapping}
 use Rattle.zarrs_packbits.specs.PackBitsSettings.{PackBitsSettings, packed_layout}
-use Rattle.zarrs_chain_meaning.specs.PlainChain.{PlainCodec, bytes_codec, packbits_codec, vlen_v2_codec, vlen_codec, optional_codec}
+use Rattle.zarrs_chain_meaning.specs.PlainChain.{PlainCodec, bytes_codec, packbits_codec, vlen_v2_codec, vlen_codec, optional_codec, sharding_codec}
 use Rattle.zarrs_chain_meaning.specs.vlen.PlainForm.{PlainForm, form_of_chains}
 
 -- What is read and what is written in part. Of `bytes` its byte order; of a plain `vlen` its form. Of `packbits`: it takes chunks of a form.
@@ -56,3 +56,4 @@ facts (packbits_codec settings) = packbits_facts settings
 facts (vlen_v2_codec codec) = whole_facts
 facts (vlen_codec ia ix ib da dx db wide at_end) = vlen_facts wide at_end (if_alone ia (facts ix).order ib) (if_alone da (facts dx).order db)
 facts (optional_codec ma mx mb da dx db) = whole_facts
+facts (sharding_codec sa sx sb ia ix ib shape at_end) = whole_facts

@@ -2,8 +2,9 @@
 use Rattle.std.specs.Prelude.{Ok, map, Option}
 use Rattle.zarrs_bytes.specs.BytesCodec.{bytes_length, BytesStands, BytesWritten, spelling, bytes_chunk}
 use Rattle.zarrs_chain_meaning.specs.Meaning.{Measure, Encoder, Decoder, Standing, Keeping, Meaning, through}
-use Rattle.zarrs_chain_meaning.specs.PlainChain.{PlainCodec, bytes_codec, packbits_codec, vlen_v2_codec, vlen_codec, optional_codec, PlainChain}
+use Rattle.zarrs_chain_meaning.specs.PlainChain.{PlainCodec, bytes_codec, packbits_codec, vlen_v2_codec, vlen_codec, optional_codec, sharding_codec, PlainChain}
 use Rattle.zarrs_chain_meaning.specs.optional.Optional.{optional_meaning}
+use Rattle.zarrs_chain_meaning.specs.sharding.Sharding.{shard_meaning}
 use Rattle.zarrs_chain_meaning.specs.vlen.Vlen.{vlen_meaning}
 use Rattle.zarrs_chain_meaning.specs.vlen_v2.VlenV2.{vlen_v2_meaning}
 use Rattle.zarrs_chunk.specs.Answer.{◌>>=◌, seen}
@@ -50,6 +51,7 @@ meaning (packbits_codec settings) = packbits_meaning settings
 meaning (vlen_v2_codec codec) = vlen_v2_meaning codec
 meaning (vlen_codec ia ix ib da dx db wide at_end) = vlen_meaning wide at_end (through ia (meaning ix) ib) (through da (meaning dx) db)
 meaning (optional_codec ma mx mb da dx db) = optional_meaning (through ma (meaning mx) mb) (through da (meaning dx) db)
+meaning (sharding_codec sa sx sb ia ix ib shape at_end) = shard_meaning shape at_end (through sa (meaning sx) sb) (through ia (meaning ix) ib)
 
 -- what a chain means
 abbrev pub chain_meaning : {B : Type 0} → PlainChain B → Meaning B

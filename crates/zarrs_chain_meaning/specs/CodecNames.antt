@@ -2,7 +2,7 @@
 use Rattle.std.specs.Prelude.{ℕ, Bool, ◌||◌, List, Option, Some, None, codes, if◌then◌else◌}
 use Rattle.std.specs.Str.{bytes_eq}
 use Rattle.zarrs_chain_meaning.specs.declared.codec_name.KnownCodec.{KnownCodec}
-use Rattle.zarrs_chain_meaning.specs.declared.codec_name.KnownCodec.TheVariants.{Transpose, Reshape, Squeeze, Bytes, PackBits, VlenV2, Vlen, Optional}
+use Rattle.zarrs_chain_meaning.specs.declared.codec_name.KnownCodec.TheVariants.{Transpose, Reshape, Squeeze, Bytes, PackBits, VlenV2, Vlen, Optional, Sharding}
 use Rattle.zarrs_metadata.specs.CodecMetadata.{is_transpose_name, is_reshape_name, is_squeeze_name, is_bytes_name, is_packbits_name}
 use Rattle.zarrs_vlen_v2.specs.VlenV2Metadata.{is_vlen_v2_name}
 
@@ -21,6 +21,13 @@ abbrev pub is_optional_name : List ℕ → Bool
 is_optional_name name =
     bytes_eq name optional_name || bytes_eq name (codes "optional") || bytes_eq name (codes "https://codec.zarrs.dev/array_to_bytes/optional")
 
+-- sharding_indexed
+abbrev pub sharding_name : List ℕ
+sharding_name = codes "sharding_indexed"
+
+abbrev pub is_sharding_name : List ℕ → Bool
+is_sharding_name name = bytes_eq name sharding_name
+
 -- the codec that is known by a name
 abbrev pub codec_named : List ℕ → Option KnownCodec
 codec_named name =
@@ -32,4 +39,5 @@ codec_named name =
     else if is_vlen_v2_name name then Some VlenV2
     else if is_vlen_name name then Some Vlen
     else if is_optional_name name then Some Optional
+    else if is_sharding_name name then Some Sharding
     else None

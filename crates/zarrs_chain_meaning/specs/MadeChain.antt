@@ -2,12 +2,13 @@
 use Rattle.std.specs.Prelude.{ℕ, ◌<◌, zero, suc, max, Bool, true, false, not, List, [], ◌∷◌, ◌++◌, Option, Some, None, is_some, ok_or, Result, Ok, Err}
 use Rattle.zarrs_chunk.specs.Answer.{◌>>=◌, demand, seen}
 use Rattle.zarrs_chain_meaning.specs.declared.codec_name.KnownCodec.{KnownCodec}
-use Rattle.zarrs_chain_meaning.specs.declared.codec_name.KnownCodec.TheVariants.{Transpose, Reshape, Squeeze, Bytes, PackBits, VlenV2, Vlen, Optional}
+use Rattle.zarrs_chain_meaning.specs.declared.codec_name.KnownCodec.TheVariants.{Transpose, Reshape, Squeeze, Bytes, PackBits, VlenV2, Vlen, Optional, Sharding}
 use Rattle.zarrs_metadata.specs.CodecMetadata.{made_of, members_of, bytes_made}
 use Rattle.zarrs_metadata.specs.Data.{members_depth}
 use Rattle.zarrs_metadata.specs.Metadata.{Metadata}
 use Rattle.zarrs_metadata.specs.MetadataV3.{metadata_seen}
 use Rattle.zarrs_metadata.specs.OptionalConfiguration.{OptionalChains, read_optional}
+use Rattle.zarrs_metadata.specs.ShardingConfiguration.{ShardingParts, read_sharding}
 use Rattle.zarrs_metadata.specs.VlenConfiguration.{VlenParts, read_vlen}
 use Rattle.zarrs_metadata.specs.declared.codec.vlen.VlenIndexLocation.{VlenIndexLocation}
 use Rattle.zarrs_metadata.specs.declared.codec.vlen.VlenIndexLocation.TheVariants.{Start}
@@ -18,9 +19,10 @@ use Rattle.zarrs_array_to_array.specs.ArrayToArrayCodec.{ArrayMapping}
 use Rattle.zarrs_array_to_array.specs.MappingMetadata.{mapping_made}
 use Rattle.zarrs_packbits.specs.SettingsMetadata.{settings_made}
 use Rattle.zarrs_vlen_v2.specs.VlenV2Metadata.{vlen_v2_made}
+use Rattle.zarrs_chain_meaning.specs.sharding.ShardingSettings.{is_index_at_end}
 use Rattle.zarrs_chain_meaning.specs.vlen.VlenSettings.{is_wide, is_at_end}
-use Rattle.zarrs_chain_meaning.specs.CodecNames.{is_vlen_name, is_optional_name, codec_named}
-use Rattle.zarrs_chain_meaning.specs.PlainChain.{PlainCodec, bytes_codec, packbits_codec, vlen_v2_codec, PlainChain, vlen_codec_of, optional_codec_of}
+use Rattle.zarrs_chain_meaning.specs.CodecNames.{is_vlen_name, is_optional_name, is_sharding_name, codec_named}
+use Rattle.zarrs_chain_meaning.specs.PlainChain.{PlainCodec, bytes_codec, packbits_codec, vlen_v2_codec, PlainChain, vlen_codec_of, optional_codec_of, sharding_codec_of}
 
 -- A codec that a metadata makes: one of chunks to chunks, one of chunks to bytes, one of bytes to bytes.
 pub data CodecMade (B : Type 0) : Type 0 where
@@ -55,6 +57,13 @@ optional_of_chains inside chains = do
   content ← inside chains.data_codecs
   Ok (optional_codec_of mask content)
 
+-- the codec of a configuration of `sharding_indexed`: the errors of the chain of inner chunks come first
+abbrev pub sharding_of_parts : {B : Type 0} → (List Metadata → Result (PlainChain B) PluginCreateError) → ShardingParts → Result (PlainCodec B) PluginCreateError
+sharding_of_parts inside parts = do
+  inner ← inside parts.codecs
+  index ← inside parts.index_codecs
+  Ok (sharding_codec_of inner index parts.chunk_shape (is_index_at_end parts.index_location))
+
 -- the configuration of a metadata of `vlen`: another name is rejected before it is looked at
 abbrev pub read_as_vlen : Metadata → Result VlenParts PluginCreateError
 read_as_vlen metadata = made_of is_vlen_name read_vlen metadata
@@ -62,6 +71,10 @@ read_as_vlen metadata = made_of is_vlen_name read_vlen metadata
 -- and of one of `optional`
 abbrev pub read_as_optional : Metadata → Result OptionalChains PluginCreateError
 read_as_optional metadata = made_of is_optional_name read_optional metadata
+
+-- and of one of `sharding_indexed`
+abbrev pub read_as_sharding : Metadata → Result ShardingParts PluginCreateError
+read_as_sharding metadata = made_of is_sharding_name read_sharding metadata
 
 -- the codec `vlen` of a metadata: its name, its configuration, its chains
 abbrev pub vlen_made_by : {B : Type 0} → (List Metadata → Result (PlainChain B) PluginCreateError) → Metadata → Result (PlainCodec B) PluginCreateError
@@ -74,6 +87,12 @@ abbrev pub optional_made_by : {B : Type 0} → (List Metadata → Result (PlainC
 optional_made_by inside metadata = do
   chains ← read_as_optional metadata
   optional_of_chains inside chains
+
+-- the codec `sharding_indexed` of a metadata, likewise
+abbrev pub sharding_made_by : {B : Type 0} → (List Metadata → Result (PlainChain B) PluginCreateError) → Metadata → Result (PlainCodec B) PluginCreateError
+sharding_made_by inside metadata = do
+  parts ← read_as_sharding metadata
+  sharding_of_parts inside parts
 
 -- ---- one codec
 
@@ -93,6 +112,7 @@ made_by_name (Some PackBits) inside makes metadata = seen (λ settings. to_bytes
 made_by_name (Some VlenV2) inside makes metadata = seen (λ codec. to_bytes_made (vlen_v2_codec codec)) (vlen_v2_made metadata)
 made_by_name (Some Vlen) inside makes metadata = seen to_bytes_made (vlen_made_by inside metadata)
 made_by_name (Some Optional) inside makes metadata = seen to_bytes_made (optional_made_by inside metadata)
+made_by_name (Some Sharding) inside makes metadata = seen to_bytes_made (sharding_made_by inside metadata)
 made_by_name None inside makes metadata = asked_maker (makes metadata)
 
 -- what a metadata makes, or the first cause why it makes nothing

@@ -5,6 +5,7 @@ use Rattle.zarrs_metadata.specs.CodecMetadata.{codec_metadata, bytes_name, packb
 use Rattle.zarrs_metadata.specs.Data.{Members}
 use Rattle.zarrs_metadata.specs.Metadata.{Metadata}
 use Rattle.zarrs_metadata.specs.OptionalConfiguration.{write_optional}
+use Rattle.zarrs_metadata.specs.ShardingConfiguration.{write_sharding}
 use Rattle.zarrs_metadata.specs.VlenConfiguration.{write_vlen}
 use Rattle.zarrs_data_type.specs.declared.endianness.Endianness.{Endianness}
 use Rattle.zarrs_array_to_array.specs.ArrayToArrayCodec.{ArrayMapping}
@@ -13,8 +14,9 @@ use Rattle.zarrs_packbits.specs.PackBitsSettings.{PackBitsSettings, is_reversed}
 use Rattle.zarrs_packbits.specs.SettingsMetadata.{write_settings}
 use Rattle.zarrs_vlen_v2.specs.VlenV2Metadata.{vlen_v2_name, write_vlen_v2}
 use Rattle.zarrs_vlen_v2.specs.declared.vlen_v2_codec.VlenV2Codec.{VlenV2Codec}
-use Rattle.zarrs_chain_meaning.specs.CodecNames.{vlen_name, optional_name}
-use Rattle.zarrs_chain_meaning.specs.PlainChain.{PlainCodec, bytes_codec, packbits_codec, vlen_v2_codec, vlen_codec, optional_codec}
+use Rattle.zarrs_chain_meaning.specs.CodecNames.{vlen_name, optional_name, sharding_name}
+use Rattle.zarrs_chain_meaning.specs.PlainChain.{PlainCodec, bytes_codec, packbits_codec, vlen_v2_codec, vlen_codec, optional_codec, sharding_codec}
+use Rattle.zarrs_chain_meaning.specs.sharding.ShardingSettings.{shard_index_place}
 use Rattle.zarrs_chain_meaning.specs.vlen.VlenSettings.{offset_type_of, index_place}
 
 -- The name and the configuration, where `described` writes bytes-to-bytes codecs. The bits that are kept, in all chains inside too, are ranges; and something holds of each bytes-to-bytes codec of all chains inside.
@@ -103,6 +105,20 @@ optional_metadata_facts mask content = record {
   Outer = λ P. mask.Outer P × content.Outer P;
 }
 
+-- those of `sharding_indexed`: its configuration has the place of the index
+abbrev pub sharding_metadata_facts : {B : Type 0} → List ℕ → Bool → ChainFacts B → ChainFacts B → MetadataFacts B
+sharding_metadata_facts shape at_end inner index = record {
+  name = sharding_name;
+  configuration = λ described. write_sharding (record {
+    chunk_shape = shape;
+    codecs = inner.metadatas described;
+    index_codecs = index.metadatas described;
+    index_location = shard_index_place at_end;
+  });
+  Ranges = inner.Ranges × index.Ranges;
+  Outer = λ P. inner.Outer P × index.Outer P;
+}
+
 -- those of an array-to-bytes codec: the one definition that goes by all of them
 abbrev pub metadata_facts : {B : Type 0} → PlainCodec B → MetadataFacts B
 metadata_facts (bytes_codec order) = bytes_metadata_facts order
@@ -110,3 +126,4 @@ metadata_facts (packbits_codec settings) = packbits_metadata_facts settings
 metadata_facts (vlen_v2_codec codec) = vlen_v2_metadata_facts codec
 metadata_facts (vlen_codec ia ix ib da dx db wide at_end) = vlen_metadata_facts wide at_end (facts_through ia (metadata_facts ix) ib) (facts_through da (metadata_facts dx) db)
 metadata_facts (optional_codec ma mx mb da dx db) = optional_metadata_facts (facts_through ma (metadata_facts mx) mb) (facts_through da (metadata_facts dx) db)
+metadata_facts (sharding_codec sa sx sb ia ix ib shape at_end) = sharding_metadata_facts shape at_end (facts_through sa (metadata_facts sx) sb) (facts_through ia (metadata_facts ix) ib)

@@ -1,5 +1,5 @@
 -- Chains of codecs as plain data.
-use Rattle.std.specs.Prelude.{Bool, Option, List}
+use Rattle.std.specs.Prelude.{ℕ, Bool, Option, List}
 use Rattle.zarrs_data_type.specs.declared.endianness.Endianness.{Endianness}
 use Rattle.zarrs_array_to_array.specs.ArrayToArrayCodec.{ArrayMapping}
 use Rattle.zarrs_packbits.specs.PackBitsSettings.{PackBitsSettings}
@@ -17,6 +17,8 @@ pub data PlainCodec (B : Type 0) : Type 0 where
   vlen_codec : List ArrayMapping → PlainCodec B → List B → List ArrayMapping → PlainCodec B → List B → Bool → Bool → PlainCodec B
   -- the mask chain, the data chain
   optional_codec : List ArrayMapping → PlainCodec B → List B → List ArrayMapping → PlainCodec B → List B → PlainCodec B
+  -- the chain of each inner chunk, the index chain, the shape of the inner chunks, whether the index stands at the end
+  sharding_codec : List ArrayMapping → PlainCodec B → List B → List ArrayMapping → PlainCodec B → List B → List ℕ → Bool → PlainCodec B
 
 -- array-to-array codecs, one array-to-bytes codec, bytes-to-bytes codecs
 pub record PlainChain (B : Type 0) : Type 0 where
@@ -38,3 +40,8 @@ with_location at_end codec = codec
 abbrev pub optional_codec_of : {B : Type 0} → PlainChain B → PlainChain B → PlainCodec B
 optional_codec_of mask content =
     optional_codec mask.array_to_array mask.array_to_bytes mask.bytes_to_bytes content.array_to_array content.array_to_bytes content.bytes_to_bytes
+
+-- `sharding_indexed` with these chains inside, of inner chunks and of the index
+abbrev pub sharding_codec_of : {B : Type 0} → PlainChain B → PlainChain B → List ℕ → Bool → PlainCodec B
+sharding_codec_of inner index shape at_end =
+    sharding_codec inner.array_to_array inner.array_to_bytes inner.bytes_to_bytes index.array_to_array index.array_to_bytes index.bytes_to_bytes shape at_end

@@ -1,7 +1,7 @@
 //! The names of the codecs: in metadata, and those of `vlen` and `optional` in errors.
 ghost use Rattle.std.specs.Prelude.{◌≡◌};
 ghost use Rattle.zarrs_metadata.specs.CodecMetadata.{is_bytes_name, is_squeeze_name};
-ghost use Rattle.zarrs_chain_meaning.specs.CodecNames.{is_vlen_name, is_optional_name, codec_named as codec_named_of};
+ghost use Rattle.zarrs_chain_meaning.specs.CodecNames.{is_vlen_name, is_optional_name, is_sharding_name, codec_named as codec_named_of};
 
 use zarrs_chunk::CodecName;
 use zarrs_vlen_v2::VlenV2Codec;
@@ -35,6 +35,8 @@ pub enum KnownCodec {
     Vlen,
     /// `zarrs.optional`.
     Optional,
+    /// `sharding_indexed`.
+    Sharding,
 }
 
 /// Whether the codec `squeeze` is known by this name.
@@ -67,6 +69,13 @@ pub fn is_optional(name: &str) -> bool
         || name == "https://codec.zarrs.dev/array_to_bytes/optional"
 }
 
+/// Whether the codec `sharding_indexed` is known by this name.
+pub fn is_sharding(name: &str) -> bool
+    ensures value { result ≡ is_sharding_name name.now }
+{
+    name == "sharding_indexed"
+}
+
 /// The codec that is known by this name.
 pub fn codec_named(name: &str) -> Option<KnownCodec>
     ensures value { result ≡ codec_named_of name.now }
@@ -94,6 +103,9 @@ pub fn codec_named(name: &str) -> Option<KnownCodec>
     }
     if is_optional(name) {
         return Some(KnownCodec::Optional);
+    }
+    if is_sharding(name) {
+        return Some(KnownCodec::Sharding);
     }
     None
 }

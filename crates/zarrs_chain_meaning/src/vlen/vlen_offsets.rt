@@ -105,6 +105,13 @@ fn narrow_items(alloc: Global, offsets: &[usize], first: usize) -> Result<Vec<u8
     Ok(items)
 }
 
+/// The bytes of numbers in any order, as numbers of eight bytes.
+pub fn number_items(alloc: Global, numbers: &[usize]) -> Result<Vec<u8>, AllocError>
+    ensures value { IfOk result (λ items. items.items ≡ bytes_from true 0 numbers.now) }
+{
+    wide_items(alloc, numbers, 0)
+}
+
 /// The bytes of offsets, counted from the first of them. Errors, the first that holds:
 /// `OffsetTooLarge` where the last doesn't fit its type; `OutOfMemory`.
 pub fn offset_items(
