@@ -41,6 +41,7 @@ use Rattle.zarrs_chain_meaning.proofs.NestedParts.{vlen_cut}
 use Rattle.zarrs_chain_meaning.proofs.VlenOffsets.{numbers_in, numbers_long, zero_fits, fixed_held, rises_are}
 use Rattle.zarrs_chain_meaning.proofs.OptionalSteps.{chunk_long, part_long}
 use Rattle.zarrs_chain_meaning.proofs.ChainSteps.{next_err, held_chunk}
+use Rattle.zarrs_chain.proofs.ShardForms.{small_counted}
 
 -- the bytes, so many, that a data part stands for through a chain
 abbrev pub content_bytes : {B : Type 0} → BytesCodecs B → PlainChain B → ℕ → List ℕ → Result (List ℕ) CodecError
@@ -76,7 +77,7 @@ offsets_found f chain wide count part held raw numbers some h is read =
 -- ---- the data
 
 -- the bytes of single bytes
-bytes_in : (raw : Raw) (chunk : Chunk) → Holds byte_type (flen raw) chunk → all_bytes chunk ≡ raw.items
+pub bytes_in : (raw : Raw) (chunk : Chunk) → Holds byte_type (flen raw) chunk → all_bytes chunk ≡ raw.items
 bytes_in raw chunk h =
     let count = length chunk in
     let parts = pieces 1 count raw.items in
@@ -210,7 +211,7 @@ same_answer : {A : Type 0} (r expected : Result A CodecError) → r ≡ expected
 same_answer (Ok x) expected e = sym e
 same_answer (Err error) expected e = λ _. sym e
 
-bytes_there : (held : Held) (items : List ℕ) → ok items ≡ seen (λ (raw : Raw). raw.items) (fixed_part held) → (raw : Raw) × (fixed_part held ≡ Ok raw) × (items ≡ raw.items)
+pub bytes_there : (held : Held) (items : List ℕ) → ok items ≡ seen (λ (raw : Raw). raw.items) (fixed_part held) → (raw : Raw) × (fixed_part held ≡ Ok raw) × (items ≡ raw.items)
 bytes_there (flen raw) items e = (raw, refl, ok_is items raw.items e)
 bytes_there (vlen raw offsets) items e = absurd cc
 bytes_there (masked inner mask) items e = absurd cc
@@ -235,14 +236,11 @@ past_parts : {B : Type 0} (f : BytesCodecs B) (codec : PlainCodec B) (index cont
 past_parts f codec index content wide at_end sizes type fill value i d e h =
     read_is f codec index content wide at_end sizes type fill value e ∙ next_answer (vlen_value_parts at_end value) (i, d) _ (sym h)
 
-counted_so : (n : ℕ) → n < 2 ^ 64 → checked_u64 n ≡ Ok n
-counted_so n l = let t : nat_lt n (2 ^ 64) ≡ true = grind (arith, nat_tests) in rw t refl
-
 past_count : {B : Type 0} (f : BytesCodecs B) (codec : PlainCodec B) (index content : PlainChain B) (wide at_end : Bool) (sizes : List ℕ) (type : ElementType) (fill value i d : List ℕ)
     → codec ≡ vlen_codec_of index content wide at_end → ok (i, d) ≡ vlen_value_parts at_end value → product sizes + 1 < 2 ^ 64
     → codec_chunk f codec sizes type fill value ≡ index_offsets f index wide (product sizes + 1) i >>= (λ offsets. content_bytes f content (last_of offsets) d >>= λ items. ok (slices (product sizes) offsets items))
 past_count f codec index content wide at_end sizes type fill value i d e h l =
-    past_parts f codec index content wide at_end sizes type fill value i d e h ∙ next_answer (checked_u64 (product sizes + 1)) (product sizes + 1) _ (counted_so (product sizes + 1) l)
+    past_parts f codec index content wide at_end sizes type fill value i d e h ∙ next_answer (checked_u64 (product sizes + 1)) (product sizes + 1) _ (small_counted (product sizes + 1) l)
 
 pub read_index_refused : {B : Type 0} (f : BytesCodecs B) (codec : PlainCodec B) (index content : PlainChain B) (wide at_end : Bool) (sizes : List ℕ) (type : ElementType) (fill value i d : List ℕ) (error : CodecError)
     → codec ≡ vlen_codec_of index content wide at_end → ok (i, d) ≡ vlen_value_parts at_end value → product sizes + 1 < 2 ^ 64 → index_offsets f index wide (product sizes + 1) i ≡ Err error → codec_chunk f codec sizes type fill value ≡ Err error

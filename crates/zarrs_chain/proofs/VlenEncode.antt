@@ -327,7 +327,7 @@ content_at view result f chain raw held fill small made e h =
 
 -- ---- the value
 
-variable_is : (held : Held) (raw : Raw) (offsets : List ℕ) → variable_part held ≡ Ok (raw, offsets) → held ≡ vlen raw offsets
+pub variable_is : (held : Held) (raw : Raw) (offsets : List ℕ) → variable_part held ≡ Ok (raw, offsets) → held ≡ vlen raw offsets
 variable_is (flen other) raw offsets e = absurd cc
 variable_is (vlen other others) raw offsets e =
     let p : (other, others) ≡ (raw, offsets) = ok_is (other, others) (raw, offsets) e in

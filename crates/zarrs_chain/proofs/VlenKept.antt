@@ -15,7 +15,7 @@ use Rattle.zarrs_array_bytes.specs.Held.{Held, Raw, flen, vlen, masked}
 use Rattle.zarrs_array_bytes.specs.Parts.{fixed_part}
 use Rattle.zarrs_array_bytes.specs.Pieces.{pieces}
 use Rattle.zarrs_array_bytes.specs.Tight.{from_first}
-use Rattle.zarrs_array_bytes.specs.Validity.{Holds}
+use Rattle.zarrs_array_bytes.specs.Validity.{Holds, validity}
 use Rattle.zarrs_array_bytes.proofs.Pieces.{elements-pieces, pieces-suc}
 use Rattle.zarrs_array_bytes.proofs.ValidLemmas.{both_ok, fixed_fits}
 use Rattle.zarrs_packbits.specs.NormalForm.{normal_chunk}
@@ -25,14 +25,15 @@ use Rattle.zarrs_packbits.specs.PackBitsSettings.{PackBitsSettings, packed_layou
 use Rattle.zarrs_packbits.proofs.CodecLaws.{written_stands}
 use Rattle.zarrs_vlen_v2.specs.declared.vlen_v2_codec.VlenV2Codec.{VlenV2Codec}
 use Rattle.zarrs_chain_meaning.specs.vlen.Vlen.{is_same_bytes, offset_bytes, offset_elements, offset_type}
-use Rattle.zarrs_chain_meaning.specs.CodecMeaning.{meaning}
+use Rattle.zarrs_chain_meaning.specs.CodecMeaning.{meaning, codec_normal_element, normal_form}
 use Rattle.zarrs_chain.specs.ChainView.{plain_codec, plain_vlen_at, plain_optional_at}
-use Rattle.zarrs_chain_meaning.specs.PlainChain.{PlainChain, bytes_codec, packbits_codec, vlen_v2_codec, vlen_codec_of, optional_codec_of}
+use Rattle.zarrs_chain_meaning.specs.PlainChain.{PlainChain, PlainCodec, bytes_codec, packbits_codec, vlen_v2_codec, vlen_codec_of, optional_codec_of}
 use Rattle.zarrs_chain_meaning.specs.vlen.VlenSteps.{lent_bytes, written_offsets, keeps_offsets, TakesOffsets}
 use Rattle.zarrs_chain.specs.declared.array_to_bytes_codec.ArrayToBytesCodec.{ArrayToBytesCodec}
 use Rattle.zarrs_chain.specs.declared.array_to_bytes_codec.ArrayToBytesCodec.TheVariants.{Bytes, PackBits, VlenV2, Vlen, Optional}
 use Rattle.zarrs_chain.specs.declared.optional.optional_codec.OptionalCodec.{OptionalCodec}
 use Rattle.zarrs_chain.specs.declared.vlen.vlen_codec.VlenCodec.{VlenCodec}
+use Rattle.zarrs_chain.specs.sharding.ShardingCalls.{KeepsAll}
 use Rattle.zarrs_chain_meaning.specs.Chain.{row_sizes}
 use Rattle.zarrs_chain_meaning.proofs.VlenOffsets.{index_holds, elements_long}
 use Rattle.zarrs_bytes.proofs.Coding.{ok}
@@ -45,7 +46,7 @@ and_nested : (a b c : Bool) → (a && b) && c ≡ a && (b && c)
 and_nested true b c = refl
 and_nested false b c = refl
 
-joined_same : (xs ys us vs : List ℕ) → length xs ≡ length us → pointwise nat_eq (xs ++ ys) (us ++ vs) ≡ pointwise nat_eq xs us && pointwise nat_eq ys vs
+pub joined_same : (xs ys us vs : List ℕ) → length xs ≡ length us → pointwise nat_eq (xs ++ ys) (us ++ vs) ≡ pointwise nat_eq xs us && pointwise nat_eq ys vs
 joined_same [] ys [] vs e = refl
 joined_same [] ys (u ∷ us) vs e = absurd (omega (arith, e))
 joined_same (x ∷ xs) ys [] vs e = absurd (omega (arith, e))
@@ -119,7 +120,7 @@ no_error chunk same error e = absurd cc
 
 -- ---- offsets
 
-map_same : (keep : Element → Element) (chunk : Chunk) → ((element : Element) → keep element ≡ element) → map keep chunk ≡ chunk
+pub map_same : (keep : Element → Element) (chunk : Chunk) → ((element : Element) → keep element ≡ element) → map keep chunk ≡ chunk
 map_same keep [] same = refl
 map_same keep (element ∷ chunk) same = λ i. same element i ∷ map_same keep chunk same i
 
@@ -176,7 +177,7 @@ packed_rows settings wide offsets = refl
 row_is : (count : ℕ) (row : List ℕ) → ok (Some (suc count ∷ [])) ≡ ok (Some row) → suc count ∷ [] ≡ row
 row_is count row e = cc
 
-row_length : (count : ℕ) (row : List ℕ) → ok (row_sizes count) ≡ ok (Some row) → count ≡ product row
+pub row_length : (count : ℕ) (row : List ℕ) → ok (row_sizes count) ≡ ok (Some row) → count ≡ product row
 row_length zero row e = absurd cc
 row_length (suc count) row e = let n : suc count ≡ product (suc count ∷ []) = omega arith in n ∙ ap product (row_is count row e)
 
@@ -189,3 +190,40 @@ packed_answer settings wide offsets items row type r e small t row_so h =
     let holds : Holds type (flen (lent_bytes items)) rows = subst (λ (u : ElementType). Holds u (flen (lent_bytes items)) rows) (sym t) (index_holds wide offsets (lent_bytes items) e small) in
     let found = h rows holds (elements_long wide offsets ∙ row_length (length offsets) row row_so) in
     subst (λ (b : Bool). Answers memory (λ (kept : Bool). kept) r (Ok b)) ((λ i. is_same_bytes (normal_chunk settings (t i) rows) rows) ∙ sym (packed_rows settings wide offsets)) found
+
+-- ---- of any codec
+
+-- a codec that keeps each element keeps the offsets
+pub kept_by_all : {B : Type 0} (codec : PlainCodec B) (wide : Bool) (offsets : List ℕ) → KeepsAll codec → keeps_offsets codec wide offsets ≡ true
+kept_by_all codec wide offsets same = all_kept (codec_normal_element codec (offset_type wide)) (offset_elements wide (from_first offsets)) (same (offset_type wide))
+
+-- a container of as many elements, compared by its bytes
+kept_told : (type : ElementType) (kept : Held) (items : List ℕ) (chunk other : Chunk) (r : Result Bool CodecError) → Holds type (flen (lent_bytes items)) chunk → Holds type kept other → length other ≡ length chunk
+    → r ≡ seen (λ (raw : Raw). pointwise nat_eq raw.items items) (fixed_part kept) → r ≡ Ok (is_same_bytes other chunk)
+kept_told type (flen raw) items chunk other r h k long e = e ∙ ap ok (sym (held_same type raw (lent_bytes items) other chunk k h long))
+kept_told (fixed width components sign) (vlen raw offsets) items chunk other r h k long e = absurd (ok_no_err tt ArrayBytesKind (sym (both_ok _ _ k.valid).1))
+kept_told (fixed width components sign) (masked inner mask) items chunk other r h k long e = absurd (ok_no_err tt ArrayBytesKind (sym (both_ok _ _ k.valid).1))
+kept_told text (vlen raw offsets) items chunk other r h k long e = absurd (ok_no_err tt ArrayBytesKind (sym (both_ok _ _ h.valid).1))
+kept_told text (masked inner mask) items chunk other r h k long e = absurd (ok_no_err tt ArrayBytesKind (sym (both_ok _ _ h.valid).1))
+kept_told bytes (vlen raw offsets) items chunk other r h k long e = absurd (ok_no_err tt ArrayBytesKind (sym (both_ok _ _ h.valid).1))
+kept_told bytes (masked inner mask) items chunk other r h k long e = absurd (ok_no_err tt ArrayBytesKind (sym (both_ok _ _ h.valid).1))
+kept_told (optional type) (vlen raw offsets) items chunk other r h k long e = absurd (ok_no_err tt ArrayBytesKind (sym (both_ok _ _ h.valid).1))
+kept_told (optional type) (masked inner mask) items chunk other r h k long e = absurd (ok_no_err tt ArrayBytesKind (sym (both_ok _ _ h.valid).1))
+
+-- the container of the offsets' bytes holds as many elements
+pub offsets_valid : (wide : Bool) (offsets items : List ℕ) (type : ElementType) (rows : Held) (count : ℕ) → written_offsets wide offsets ≡ Ok items → length items < 2 ^ 64 → type ≡ offset_type wide → rows ≡ flen (lent_bytes items) → count ≡ length offsets
+    → validity type count rows ≡ Ok tt
+offsets_valid wide offsets items type rows count e small t made long =
+    let holds = index_holds wide offsets (lent_bytes items) e small in
+    (λ i. validity (t i) ((long ∙ sym (elements_long wide offsets)) i) (made i)) ∙ holds.valid
+
+-- the normal forms of the elements that have these bytes, compared with them
+pub normal_told : {B : Type 0} (codec : PlainCodec B) (wide : Bool) (offsets items : List ℕ) (type : ElementType) (rows kept : Held) (count : ℕ) (r : Result Bool CodecError)
+    → written_offsets wide offsets ≡ Ok items → length items < 2 ^ 64 → type ≡ offset_type wide → rows ≡ flen (lent_bytes items) → count ≡ length offsets
+    → Holds type kept (normal_form codec type (elements type count rows)) → r ≡ seen (λ (raw : Raw). pointwise nat_eq raw.items items) (fixed_part kept) → r ≡ Ok (keeps_offsets codec wide offsets)
+normal_told codec wide offsets items type rows kept count r e small t made long h told =
+    let chunk = offset_elements wide (from_first offsets) in
+    let holds = index_holds wide offsets (lent_bytes items) e small in
+    let is : elements type count rows ≡ chunk = (λ i. elements (t i) ((long ∙ sym (elements_long wide offsets)) i) (made i)) ∙ holds.elements_are in
+    let normal : Holds (offset_type wide) kept (normal_form codec (offset_type wide) chunk) = subst (λ (x : ElementType × Chunk). Holds x.0 kept (normal_form codec x.0 x.1)) (λ i. (t i, is i)) h in
+    kept_told (offset_type wide) kept items chunk (normal_form codec (offset_type wide) chunk) r holds normal (length-map chunk (codec_normal_element codec (offset_type wide))) told

@@ -1,5 +1,6 @@
 pub mod vlen
 pub mod optional
+pub mod sharding
 pub mod ChainGrammar
 pub mod CodecCalls
 pub mod ChainCalls

@@ -5,15 +5,18 @@ use Rattle.zarrs_metadata.specs.Metadata.{Metadata}
 use Rattle.zarrs_metadata.specs.MetadataV3.{metadata_seen, metadatas_seen, metadatas_in}
 use Rattle.zarrs_metadata.specs.OptionalConfiguration.{optional_seen}
 use Rattle.zarrs_metadata.specs.PluginCreateError.{Makes}
+use Rattle.zarrs_metadata.specs.ShardingConfiguration.{sharding_seen}
 use Rattle.zarrs_metadata.specs.VlenConfiguration.{vlen_seen}
 use Rattle.zarrs_metadata.specs.declared.configuration.optional.OptionalCodecConfiguration.{OptionalCodecConfiguration}
+use Rattle.zarrs_metadata.specs.declared.configuration.sharding.ShardingCodecConfiguration.{ShardingCodecConfiguration}
 use Rattle.zarrs_metadata.specs.declared.configuration.vlen.VlenCodecConfiguration.{VlenCodecConfiguration}
 use Rattle.zarrs_metadata.specs.declared.metadata_v3.MetadataV3.{MetadataV3}
 use Rattle.zarrs_metadata.specs.declared.plugin_create_error.PluginCreateError.{PluginCreateError}
-use Rattle.zarrs_chain_meaning.specs.MadeChain.{chain_made, optional_by, optional_made_by, vlen_made_by, vlen_of_parts}
-use Rattle.zarrs_chain.specs.ChainView.{plain_chain, plain_optional, plain_vlen}
+use Rattle.zarrs_chain_meaning.specs.MadeChain.{chain_made, optional_by, optional_made_by, sharding_made_by, sharding_of_parts, vlen_made_by, vlen_of_parts}
+use Rattle.zarrs_chain.specs.ChainView.{plain_chain, plain_optional, plain_sharding, plain_vlen}
 use Rattle.zarrs_chain.specs.declared.codec_chain.CodecChain.{CodecChain}
 use Rattle.zarrs_chain.specs.declared.optional.optional_codec.OptionalCodec.{OptionalCodec}
+use Rattle.zarrs_chain.specs.declared.sharding.sharding_codec.ShardingCodec.{ShardingCodec}
 use Rattle.zarrs_chain.specs.declared.vlen.vlen_codec.VlenCodec.{VlenCodec}
 
 -- ---- what is made
@@ -39,6 +42,16 @@ MakesOptional makes configuration result = Makes plain_optional result (optional
 abbrev pub CreatesOptional : {B : Type 0} → (Metadata → Result (Option B) PluginCreateError) → MetadataV3 → Result (OptionalCodec B) PluginCreateError → Type 0
 CreatesOptional makes metadata result =
     Makes plain_optional result (optional_made_by (chain_made makes) (metadata_seen metadata))
+
+-- the `sharding_indexed` of a configuration, or the first error
+abbrev pub MakesSharding : {B : Type 0} → (Metadata → Result (Option B) PluginCreateError) → ShardingCodecConfiguration → Result (ShardingCodec B) PluginCreateError → Type 0
+MakesSharding makes configuration result =
+    Makes plain_sharding result (sharding_of_parts (chain_made makes) (sharding_seen configuration))
+
+-- the `sharding_indexed` of a metadata, or the first error
+abbrev pub CreatesSharding : {B : Type 0} → (Metadata → Result (Option B) PluginCreateError) → MetadataV3 → Result (ShardingCodec B) PluginCreateError → Type 0
+CreatesSharding makes metadata result =
+    Makes plain_sharding result (sharding_made_by (chain_made makes) (metadata_seen metadata))
 
 -- ---- what is written
 

@@ -15,6 +15,11 @@ use crate::optional::optional_codec::{
     OptionalCodec, optional_decode, optional_encode, optional_has_ranges, optional_is_sound,
     optional_representation,
 };
+use crate::sharding::shard_decode::sharding_decode;
+use crate::sharding::shard_encode::sharding_encode;
+use crate::sharding::sharding_codec::{
+    ShardingCodec, sharding_has_ranges, sharding_is_sound, sharding_representation,
+};
 use crate::vlen::plain_form::vlen_reads;
 use crate::vlen::vlen_codec::{VlenCodec, vlen_has_ranges, vlen_is_sound, vlen_representation};
 use crate::vlen::vlen_decode::vlen_decode;
@@ -45,6 +50,8 @@ pub enum ArrayToBytesCodec<B> {
     Vlen(VlenCodec<B>),
     /// The present elements, and which ones are present (codec `optional`).
     Optional(OptionalCodec<B>),
+    /// Inner chunks, with where the value of each begins (codec `sharding_indexed`).
+    Sharding(ShardingCodec<B>),
 }
 
 /// The array-to-array codecs of the chains inside hold to what their types do.
@@ -59,6 +66,7 @@ pub(crate) fn codec_is_sound<B>(codec: &ArrayToBytesCodec<B>)
         ArrayToBytesCodec::VlenV2(_) => {}
         ArrayToBytesCodec::Vlen(codec) => vlen_is_sound(codec),
         ArrayToBytesCodec::Optional(codec) => optional_is_sound(codec),
+        ArrayToBytesCodec::Sharding(codec) => sharding_is_sound(codec),
     }
 }
 
@@ -74,6 +82,7 @@ pub(crate) fn codec_has_ranges<B>(codec: &ArrayToBytesCodec<B>)
         ArrayToBytesCodec::VlenV2(_) => {}
         ArrayToBytesCodec::Vlen(codec) => vlen_has_ranges(codec),
         ArrayToBytesCodec::Optional(codec) => optional_has_ranges(codec),
+        ArrayToBytesCodec::Sharding(codec) => sharding_has_ranges(codec),
     }
 }
 
@@ -104,6 +113,9 @@ pub(crate) fn codec_representation<B: BytesToBytesCodecTraits>(
         ArrayToBytesCodec::Optional(codec) => {
             optional_representation(alloc, codec, shape, data_type, fill_value)
         }
+        ArrayToBytesCodec::Sharding(codec) => {
+            sharding_representation(alloc, codec, shape, data_type, fill_value)
+        }
     }
 }
 
@@ -131,6 +143,9 @@ pub(crate) fn codec_encode<'a, B: BytesToBytesCodecTraits>(
         ArrayToBytesCodec::Vlen(codec) => { vlen_encode(alloc, codec, held, shape, kind, fill) }
         ArrayToBytesCodec::Optional(codec) => {
             optional_encode(alloc, codec, held, shape, kind, fill)
+        }
+        ArrayToBytesCodec::Sharding(codec) => {
+            sharding_encode(alloc, codec, held, shape, kind, fill)
         }
     }
 }
@@ -177,12 +192,15 @@ pub fn codec_decode<'a, B: BytesToBytesCodecTraits>(
         ArrayToBytesCodec::Optional(codec) => {
             optional_decode(alloc, codec, value, shape, kind, fill)
         }
+        ArrayToBytesCodec::Sharding(codec) => {
+            sharding_decode(alloc, codec, value, shape, kind, fill)
+        }
     }
 }
 
 /// What the codec reads in part: `bytes`, `packbits` and a plain `vlen` all, any other with chains
 /// inside nothing.
-#[tactic(auto, unfolding(crate::specs::ChainView::plain_codec), using(crate::specs::ChainView::plain_optional_at))]
+#[tactic(auto, unfolding(crate::specs::ChainView::plain_codec), using(crate::specs::ChainView::plain_optional_at, crate::specs::ChainView::plain_sharding_at))]
 pub(crate) fn codec_reads<B>(codec: &ArrayToBytesCodec<B>) -> PartialDecoderCapability
     ensures value { result ≡ codec_reads_of (plain_codec codec.now) }
 {
@@ -194,15 +212,17 @@ pub(crate) fn codec_reads<B>(codec: &ArrayToBytesCodec<B>) -> PartialDecoderCapa
         ArrayToBytesCodec::PackBits(codec) => codec.partial_decoder_capability(),
         ArrayToBytesCodec::VlenV2(codec) => codec.partial_decoder_capability(),
         ArrayToBytesCodec::Vlen(codec) => vlen_reads(codec),
-        ArrayToBytesCodec::Optional(_) => PartialDecoderCapability {
-            partial_read: false,
-            partial_decode: false,
-        },
+        ArrayToBytesCodec::Optional(_) | ArrayToBytesCodec::Sharding(_) => {
+            PartialDecoderCapability {
+                partial_read: false,
+                partial_decode: false,
+            }
+        }
     }
 }
 
 /// What the codec writes in part.
-#[tactic(auto, unfolding(crate::specs::ChainView::plain_codec), using(crate::specs::ChainView::plain_vlen_at, crate::specs::ChainView::plain_optional_at))]
+#[tactic(auto, unfolding(crate::specs::ChainView::plain_codec), using(crate::specs::ChainView::plain_vlen_at, crate::specs::ChainView::plain_optional_at, crate::specs::ChainView::plain_sharding_at))]
 pub(crate) fn codec_writes<B>(codec: &ArrayToBytesCodec<B>) -> PartialEncoderCapability
     ensures value { result ≡ codec_writes_of (plain_codec codec.now) }
 {
@@ -212,7 +232,9 @@ pub(crate) fn codec_writes<B>(codec: &ArrayToBytesCodec<B>) -> PartialEncoderCap
         },
         ArrayToBytesCodec::PackBits(codec) => codec.partial_encoder_capability(),
         ArrayToBytesCodec::VlenV2(codec) => codec.partial_encoder_capability(),
-        ArrayToBytesCodec::Vlen(_) | ArrayToBytesCodec::Optional(_) => PartialEncoderCapability {
+        ArrayToBytesCodec::Vlen(_)
+        | ArrayToBytesCodec::Optional(_)
+        | ArrayToBytesCodec::Sharding(_) => PartialEncoderCapability {
             partial_encode: false,
         },
     }

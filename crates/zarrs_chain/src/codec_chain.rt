@@ -138,6 +138,8 @@ impl<B: BytesToBytesCodecTraits> CodecChain<B> {
     ///   chain;
     /// - `optional`: those of the mask chain; those of the data chain at the row of present
     ///   elements;
+    /// - `sharding_indexed`: those of the inner chain, of the inner chunks that aren't left out, in
+    ///   order; those of the index chain; `OffsetNotKept` where it would change a number;
     /// - `bytes` or `packbits`: none.
     ///
     /// A chain inside is asked as this one is, `encoded_representation` first, and not at all about
@@ -177,7 +179,10 @@ impl<B: BytesToBytesCodecTraits> CodecChain<B> {
     /// - `optional`: `InvalidBytesLength` for fewer than 16 bytes; `HeaderOverflow` where 64 bits
     ///   don't count what the two lengths say; `InvalidBytesLength` for more bytes, or fewer; those
     ///   of the mask chain; `MaskValue` where a mask byte isn't 0 or 1; those of the data chain at
-    ///   the row of present elements.
+    ///   the row of present elements;
+    /// - `sharding_indexed`: `InvalidBytesLength` for fewer bytes than the index has; those of the
+    ///   index chain; then of each inner chunk that is stored, in order: `InvalidByteRange` where
+    ///   its bytes end behind the value, and those of the inner chain.
     ///
     /// A chain inside is asked as this one is, `encoded_representation` first, and not at all about
     /// a row of no elements. Each codec gets what the one behind it made, owned bytes as owned

@@ -16,10 +16,12 @@ mod metadata;
 mod optional;
 pub mod reencode;
 mod representation;
+mod sharding;
 pub mod stages;
 mod vlen;
 
 pub use array_to_bytes_codec::ArrayToBytesCodec;
 pub use codec_chain::CodecChain;
 pub use optional::optional_codec::OptionalCodec;
+pub use sharding::sharding_codec::ShardingCodec;
 pub use vlen::vlen_codec::VlenCodec;

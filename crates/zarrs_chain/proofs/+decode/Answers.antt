@@ -1,9 +1,9 @@
-use Rattle.std.proofs.Common.{◌≡◌, ◌∙◌, sym, true, subst, map, List, Ok, IfOk, rules, length, Err, ◌+◌, ◌<◌, ◌^◌, ◌∷◌, []}
+use Rattle.std.proofs.Common.{◌≡◌, ◌∙◌, ap, arith, false, get_or, refl, sym, true, subst, map, List, Ok, IfOk, rules, length, Err, ◌+◌, ◌*◌, ◌<◌, ◌^◌, ◌∷◌, []}
 use Rattle.std.proofs.lemmas.Result.{err_from_is_err_and}
-use Rattle.std.specs.List.{list_all}
+use Rattle.std.specs.List.{All, list_all}
 use Rattle.zarrs_array_bytes.specs.Held.{raw_of}
 use Rattle.zarrs_array_bytes.specs.Present.{present_count}
-use Rattle.zarrs_array_bytes.specs.Validity.{Holds, sizes_fit}
+use Rattle.zarrs_array_bytes.specs.Validity.{Holds, sizes_fit, validity}
 use Rattle.zarrs_array_to_array.specs.Mapping.{mapping_of}
 use Rattle.zarrs_array_to_array.specs.declared.array_to_array_codec.ArrayToArrayCodec.{ArrayToArrayCodec}
 use Rattle.zarrs_data_type.specs.Form.{form_of}
@@ -38,6 +38,12 @@ use Rattle.zarrs_chain.specs.declared.vlen.vlen_codec.VlenCodec.{out-VlenCodec}
 use Rattle.zarrs_chain.specs.declared.optional.optional_codec.OptionalCodec.{out-OptionalCodec}
 use Rattle.zarrs_chain.proofs.OptionalRoom.{mask_long}
 use Rattle.zarrs_chain.proofs.TakenTight.{vlen_tight}
+use Rattle.zarrs_chain.proofs.ShardIndex.{index_form, numbers_answered, numbers_counted, numbers_refused, rows_there}
+use Rattle.zarrs_chain_meaning.specs.sharding.Sharding.{is_stored}
+use Rattle.zarrs_chain_meaning.specs.sharding.ShardingSettings.{is_index_at_end}
+use Rattle.zarrs_chain.specs.declared.sharding.sharding_codec.ShardingCodec.{out-ShardingCodec}
+use Rattle.zarrs_chain.proofs.ShardRead.{inner_read, walk_is}
+use Rattle.zarrs_chain.proofs.ShardReading.{count_is, not_stored, one_replaced, shard_answered, walk_begins, walk_goes_on}
 use Rattle.zarrs_chain.proofs.+decode.Goals as goal
 
 pub decode::chain_decode-returns : goal.decode::chain_decode-returns
@@ -326,3 +332,98 @@ optional::optional_codec::optional_decode-has_room-requires-clause-len g t c =
     let mask = (raw_of c.in_ok-mask.mask).items in
     let read : chain_chunk f mask_chain c.args.shape.now flag_type (0 ∷ []) part ≡ Ok (byte_elements mask) = search rules in
     mask_long f mask_chain c.args.shape.now part mask read
+
+pub sharding::shard_index::index_decode-returns-in_err-rows : goal.sharding::shard_index::index_decode-returns-in_err-rows
+sharding::shard_index::index_decode-returns-in_err-rows g t c =
+    let f = g.B.BytesToBytesCodecTraits.functions in
+    let counts = c.args.grid.now in
+    let form = index_form counts c.in_ok-shape.shape c.uint64.result c.in_ok-zero.zero c.in_ok-shape.ensures.answer.is c.uint64.ensures.made c.in_ok-zero.ensures.answer.is in
+    record {
+      answer = record {
+        is =
+            let p = err_from_is_err_and c.from_residual-in_err-rows.result c.from_residual-in_err-rows.ensures.1 in
+            rw (p.1, p.2) (λ ne. numbers_refused f (plain_chain c.args.chain.now) counts c.in_ok-shape.shape c.args.part.now c.uint64.result c.in_ok-zero.zero c.in_err-rows.field-0.0 form (c.in_err-rows.ensures.exact.is ne));
+        no_fault = search rules;
+      };
+      len = search rules;
+    }
+
+pub sharding::shard_index::index_decode-returns-in_err-as_fixed : goal.sharding::shard_index::index_decode-returns-in_err-as_fixed
+sharding::shard_index::index_decode-returns-in_err-as_fixed g t c =
+    let f = g.B.BytesToBytesCodecTraits.functions in
+    let counts = c.args.grid.now in
+    let form = index_form counts c.in_ok-shape.shape c.uint64.result c.in_ok-zero.zero c.in_ok-shape.ensures.answer.is c.uint64.ensures.made c.in_ok-zero.ensures.answer.is in
+    absurd (rows_there f (plain_chain c.args.chain.now) counts c.in_ok-shape.shape c.args.part.now c.uint64.result c.in_ok-zero.zero c.in_ok-rows.rows c.in_err-as_fixed.field-0.0 form c.in_ok-rows.ensures.exact.is c.in_err-as_fixed.ensures.answer)
+
+pub sharding::shard_index::index_decode-returns : goal.sharding::shard_index::index_decode-returns
+sharding::shard_index::index_decode-returns g t c =
+    let f = g.B.BytesToBytesCodecTraits.functions in
+    let counts = c.args.grid.now in
+    let form = index_form counts c.in_ok-shape.shape c.uint64.result c.in_ok-zero.zero c.in_ok-shape.ensures.answer.is c.uint64.ensures.made c.in_ok-zero.ensures.answer.is in
+    record {
+      answer = record {
+        is = numbers_answered c.offset_numbers.result f (plain_chain c.args.chain.now) counts c.in_ok-shape.shape c.args.part.now c.uint64.result c.in_ok-zero.zero c.in_ok-as_fixed.field-0.now c.in_ok-rows.rows form c.in_ok-rows.ensures.exact.is c.in_ok-as_fixed.ensures.answer c.offset_numbers.ensures.exact.is;
+        no_fault = search rules;
+      };
+      len = numbers_counted c.offset_numbers.result f (plain_chain c.args.chain.now) counts c.in_ok-shape.shape c.args.part.now c.uint64.result c.in_ok-zero.zero c.in_ok-as_fixed.field-0.now c.in_ok-rows.rows form c.in_ok-rows.ensures.exact.is c.in_ok-as_fixed.ensures.answer c.offset_numbers.ensures.exact.is;
+    }
+
+pub sharding::shard_decode::read_inner-with_inner-requires-clause-content_valid : goal.sharding::shard_decode::read_inner-with_inner-requires-clause-content_valid
+sharding::shard_decode::read_inner-with_inner-requires-clause-content_valid g t c =
+    let read = inner_read g.B.BytesToBytesCodecTraits.functions (plain_chain c.args.chain.now) c.args.inner.now c.args.data_type.now c.args.fill.now c.args.value.now c.in_ok-bytes_at.field-0.now c.args.span c.in_ok-content.content (sym c.in_ok-bytes_at.ensures.answer) c.in_ok-content.ensures.exact.is in
+    read.1
+
+pub sharding::shard_decode::read_inner-returns-clause-answer : goal.sharding::shard_decode::read_inner-returns-clause-answer
+sharding::shard_decode::read_inner-returns-clause-answer g t c =
+    let f = g.B.BytesToBytesCodecTraits.functions in
+    let chain = plain_chain c.args.chain.now in
+    let shape = c.args.inner.now in
+    let type = c.args.data_type.now in
+    let fill = c.args.fill.now in
+    let value = c.args.value.now in
+    let read = inner_read f chain shape type fill value c.in_ok-bytes_at.field-0.now c.args.span c.in_ok-content.content (sym c.in_ok-bytes_at.ensures.answer) c.in_ok-content.ensures.exact.is in
+    one_replaced (chain_chunk f chain) shape c.args.shape.now type fill value c.args.number c.args.span c.args.elements c.in_ok-content.content c.with_inner.result read.0 c.with_inner.ensures.answer
+
+pub sharding::shard_decode::read_next-returns-then-not-has_span-clause-answer : goal.sharding::shard_decode::read_next-returns-then-not-has_span-clause-answer
+sharding::shard_decode::read_next-returns-then-not-has_span-clause-answer g t c =
+    let decode = chain_chunk g.B.BytesToBytesCodecTraits.functions (plain_chain c.args.chain.now) in
+    let e : is_stored c.args.span ≡ false = search rules in
+    record {
+      is = not_stored decode c.args.inner.now c.args.shape.now c.args.data_type.now c.args.fill.now c.args.value.now c.args.number c.args.span (is_stored c.args.span) c.args.elements c.requires.valid e;
+      no_fault = refl;
+    }
+
+pub sharding::shard_decode::read_all-loop-number-init : goal.sharding::shard_decode::read_all-loop-number-init
+sharding::shard_decode::read_all-loop-number-init g t c =
+    let f = g.B.BytesToBytesCodecTraits.functions in
+    let chain = plain_chain c.args.chain.now in
+    let shape = c.args.inner.now in
+    let sizes = c.args.shape.now in
+    let type = c.args.data_type.now in
+    let fill = c.args.fill.now in
+    let form = c.requires.form in
+    let count = count_is (product sizes) c.in_ok-count.count form.counted c.in_ok-count.ensures.answer in
+    let positive = subst (All (λ size. 0 < size)) c.as_slice.ensures.value c.as_slice.ensures.positive in
+    let walk = walk_is f chain shape sizes type fill c.args.value.now c.args.numbers.now positive form.divided c.requires.len in
+    record {
+      walk = walk_begins (chain_chunk f chain) shape sizes type fill c.args.value.now c.args.numbers.now c.in_ok-count.count c.in_ok-elements.elements _ count form.filling form.room c.in_ok-elements.ensures.exact.is walk;
+      tight = c.in_ok-elements.ensures.tight;
+    }
+
+pub sharding::shard_decode::read_all-loop-number-preserved : goal.sharding::shard_decode::read_all-loop-number-preserved
+sharding::shard_decode::read_all-loop-number-preserved g t c =
+    let decode = chain_chunk g.B.BytesToBytesCodecTraits.functions (plain_chain c.args.chain.now) in
+    let numbers = c.args.numbers.now in
+    let number = c.loop-number.number in
+    let inside : number * 2 + 1 < length numbers = omega arith in
+    record {
+      walk = walk_goes_on decode c.args.inner.now c.args.shape.now c.args.data_type.now c.args.fill.now c.args.value.now numbers number (get_or numbers (number * 2) 0, get_or numbers (number * 2 + 1) 0) c.loop-number.elements c.in_ok-elements-2.elements _ c.loop-number.invariant.walk inside refl c.in_ok-elements-2.ensures.answer.is;
+      tight = c.in_ok-elements-2.ensures.tight;
+    }
+
+pub sharding::shard_decode::shard_decode-returns-clause-answer : goal.sharding::shard_decode::shard_decode-returns-clause-answer
+sharding::shard_decode::shard_decode-returns-clause-answer g t c =
+    let o = out-ShardingCodec _ c.args.codec.now in
+    let form = c.shard_form.ensures.form in
+    shard_answered g.B.BytesToBytesCodecTraits.functions o.codecs.value o.index_codecs.value c.deref-5.result.now c.deref-3.result.now c.deref-4.result.now o.chunk_shape c.args.shape.now c.in_ok-grid.grid (is_index_at_end o.index_location) c.is_at_end.result c.args.data_type.now c.args.fill.now c.args.value.now c.in_ok-part.part.now c.in_ok-numbers.numbers.items c.as_slice-numbers.result.now c.in_ok-size.size c.read_all.result
+    c.deref-5.ensures c.deref-3.ensures c.deref-4.ensures form.divided c.in_ok-grid.ensures.answer.is c.in_ok-size.ensures.answer.is c.is_at_end.ensures.value c.in_ok-part.ensures.answer c.in_ok-numbers.ensures.answer.is c.as_slice-numbers.ensures.value c.read_all.ensures.answer

@@ -1,4 +1,4 @@
-use Rattle.std.proofs.Common.{sym, subst, map, List, Ok, IfOk, rules, ◌≡◌, [], ◌∷◌, Err, ◌<◌, ◌^◌, ◌∙◌, drop, slice_index, length, true}
+use Rattle.std.proofs.Common.{sym, subst, map, List, Ok, IfOk, rules, ◌≡◌, [], ◌∷◌, Err, ◌<◌, ◌^◌, ◌∙◌, drop, slice_index, length, true, ◌++◌, arith, refl}
 use Rattle.std.proofs.lemmas.Result.{err_from_is_err_and}
 use Rattle.std.specs.List.{list_all}
 use Rattle.zarrs_array_bytes.specs.Held.{raw_of, flen}
@@ -30,6 +30,28 @@ use Rattle.zarrs_array_bytes.specs.Offsets.{is_offsets, last_of}
 use Rattle.zarrs_array_bytes.specs.Parts.{variable_part}
 use Rattle.zarrs_chain_meaning.specs.vlen.VlenSteps.{index_part}
 use Rattle.zarrs_chain.specs.declared.vlen.vlen_codec.VlenCodec.{out-VlenCodec}
+use Rattle.std.specs.List.{All}
+use Rattle.zarrs_array_bytes.specs.Held.{owned_bytes}
+use Rattle.zarrs_chain_meaning.specs.vlen.Vlen.{offset_bytes, offset_elements, offset_type}
+use Rattle.zarrs_chain_meaning.proofs.NestedStages.{is_positive}
+use Rattle.zarrs_chain.proofs.ShardIndex.{IsIndexRows, index_form, part_kept, part_not_kept, part_refused, part_sized, value_of_rows}
+use Rattle.std.proofs.Common.{ℕ, ap, replicate, ◌*◌, ◌+◌, ◌≤◌}
+use Rattle.std.specs.Prelude.{IsOkAnd}
+use Rattle.zarrs_array_bytes.specs.Chunks.{chunk_at}
+use Rattle.zarrs_array_bytes.specs.Elements.{elements}
+use Rattle.zarrs_chunk.specs.Runs.{joined_runs}
+use Rattle.zarrs_chain_meaning.proofs.ArraySteps.{ok_is, ok_no_err}
+use Rattle.zarrs_chain_meaning.specs.sharding.InnerChunks.{inner_chunk_count, inner_chunk_places, inner_chunks_of}
+use Rattle.zarrs_chain_meaning.specs.sharding.Sharding.{first_offset}
+use Rattle.zarrs_chain_meaning.specs.sharding.ShardingSettings.{is_index_at_end}
+use Rattle.zarrs_chain.specs.declared.codec_chain.CodecChain.{size-CodecChain}
+use Rattle.zarrs_chain.specs.declared.sharding.sharding_codec.ShardingCodec.{out-ShardingCodec, size-ShardingCodec, size_is-ShardingCodec}
+use Rattle.zarrs_chain.specs.sharding.ShardWalk.{with_index, written_behind, written_seen}
+use Rattle.zarrs_chain.specs.sharding.ShardingCalls.{TakesInside, index_size_of, shard_index_part}
+use Rattle.zarrs_chain.proofs.ShardAt.{takes_at as shard_takes_at}
+use Rattle.zarrs_chain.proofs.ShardEncode.{front_there, index_not_written, inner_not_written, numbers_counted, shard_written}
+use Rattle.zarrs_chain.proofs.ShardReading.{grid_is}
+use Rattle.zarrs_chain.proofs.ShardWrites.{behind_last, behind_more, behind_refused, chunks_counted, next_held, next_valid, next_written, size_at}
 use Rattle.zarrs_chain.proofs.+encode.Goals as goal
 
 pub encode::chain_encode-returns-in_err-taken : goal.encode::chain_encode-returns-in_err-taken
@@ -292,3 +314,289 @@ vlen::vlen_encode::vlen_encode-returns g t c =
         no_fault = search rules;
       };
     }
+
+pub sharding::shard_index::index_encode-returns-in_err-part : goal.sharding::shard_index::index_encode-returns-in_err-part
+sharding::shard_index::index_encode-returns-in_err-part g t c =
+    let f = g.B.BytesToBytesCodecTraits.functions in
+    let chain = c.args.chain.now in
+    let counts = c.args.grid.now in
+    let numbers = c.args.numbers.now in
+    let form = index_form counts c.in_ok-shape.shape c.uint64.result c.in_ok-zero.zero c.in_ok-shape.ensures.answer.is c.uint64.ensures.made c.in_ok-zero.ensures.answer.is in
+    let raw = owned_bytes c.in_ok-items.items.items in
+    let small : length raw.items < 2 ^ 64 = omega arith in
+    let rows : IsIndexRows numbers c.new_flen-rows.result raw = record { made = c.new_flen-rows.ensures.made; items = c.in_ok-items.ensures.value; small = small } in
+    let asked = value_of_rows f (plain_chain chain) counts numbers c.in_ok-shape.shape c.uint64.result c.in_ok-zero.zero c.new_flen-rows.result raw form rows c.requires.len in
+    record {
+      long = search rules;
+      answer = record {
+        is =
+            let p = err_from_is_err_and c.from_residual-in_err-part.result c.from_residual-in_err-part.ensures.1 in
+            rw (p.1, p.2) (λ ne. part_refused f chain counts numbers c.in_err-part.field-0.0 (asked ∙ c.in_err-part.ensures.exact.is ne));
+        no_fault = search rules;
+      };
+    }
+
+pub sharding::shard_index::index_encode-returns-in_err-check_numbers : goal.sharding::shard_index::index_encode-returns-in_err-check_numbers
+sharding::shard_index::index_encode-returns-in_err-check_numbers g t c =
+    let f = g.B.BytesToBytesCodecTraits.functions in
+    let chain = c.args.chain.now in
+    let counts = c.args.grid.now in
+    let numbers = c.args.numbers.now in
+    let form = index_form counts c.in_ok-shape.shape c.uint64.result c.in_ok-zero.zero c.in_ok-shape.ensures.answer.is c.uint64.ensures.made c.in_ok-zero.ensures.answer.is in
+    let raw = owned_bytes c.in_ok-items.items.items in
+    let small : length raw.items < 2 ^ 64 = omega arith in
+    let rows : IsIndexRows numbers c.new_flen-rows.result raw = record { made = c.new_flen-rows.ensures.made; items = c.in_ok-items.ensures.value; small = small } in
+    let asked = value_of_rows f (plain_chain chain) counts numbers c.in_ok-shape.shape c.uint64.result c.in_ok-zero.zero c.new_flen-rows.result raw form rows c.requires.len in
+    record {
+      long = search rules;
+      answer = record {
+        is =
+            let p = err_from_is_err_and c.from_residual-in_err-check_numbers.result c.from_residual-in_err-check_numbers.ensures.1 in
+            rw (p.1, p.2) (λ ne. part_not_kept f chain counts numbers (raw_of c.in_ok-part.part).items c.in_err-check_numbers.field-0.0 (asked ∙ c.in_ok-part.ensures.exact.is) (c.in_err-check_numbers.ensures.answer.is ne));
+        no_fault = search rules;
+      };
+    }
+
+pub sharding::shard_index::index_encode-returns : goal.sharding::shard_index::index_encode-returns
+sharding::shard_index::index_encode-returns g t c =
+    let f = g.B.BytesToBytesCodecTraits.functions in
+    let chain = c.args.chain.now in
+    let counts = c.args.grid.now in
+    let numbers = c.args.numbers.now in
+    let form = index_form counts c.in_ok-shape.shape c.uint64.result c.in_ok-zero.zero c.in_ok-shape.ensures.answer.is c.uint64.ensures.made c.in_ok-zero.ensures.answer.is in
+    let raw = owned_bytes c.in_ok-items.items.items in
+    let small : length raw.items < 2 ^ 64 = omega arith in
+    let rows : IsIndexRows numbers c.new_flen-rows.result raw = record { made = c.new_flen-rows.ensures.made; items = c.in_ok-items.ensures.value; small = small } in
+    let asked = value_of_rows f (plain_chain chain) counts numbers c.in_ok-shape.shape c.uint64.result c.in_ok-zero.zero c.new_flen-rows.result raw form rows c.requires.len in
+    let part = (raw_of c.in_ok-part.part).items in
+    let made : chain_value f (plain_chain chain) (counts ++ 2 ∷ []) (offset_type true) (offset_bytes true 0) (offset_elements true numbers) ≡ Ok part = asked ∙ c.in_ok-part.ensures.exact.is in
+    record {
+      long = λ size e. part_sized f (plain_chain chain) counts numbers part raw size g.met.B.BytesToBytesCodecTraits.lawful c.chain_is_sound.ensures.mappings (subst (All is_positive) c.as_slice.ensures.value c.as_slice.ensures.positive) c.requires.len rows.items small made e;
+      answer = record { is = part_kept f chain counts numbers part made c.in_ok-check_numbers.ensures.answer.is; no_fault = refl };
+    }
+
+pub sharding::shard_encode::write_next-write_inner-requires : goal.sharding::shard_encode::write_next-write_inner-requires
+sharding::shard_encode::write_next-write_inner-requires g t c κs within =
+    let inner = c.args.inner.now in
+    let shape = c.args.shape.now in
+    let type = c.args.data_type.now in
+    let held = c.args.held.now in
+    let made = c.in_ok-elements.elements in
+    let n : c.in_ok-count.count ≡ product shape = ok_is c.in_ok-count.count (product shape) (c.in_ok-count.ensures.answer ∙ c.requires.form.counted) in
+    let p : joined_runs c.in_ok-runs.runs.items ≡ inner_chunk_places inner shape c.args.number = sym (ok_is (inner_chunk_places inner shape c.args.number) (joined_runs c.in_ok-runs.runs.items) c.in_ok-runs.ensures.places.is) in
+    let there : IsOkAnd (chunk_at type c.in_ok-count.count (joined_runs c.in_ok-runs.runs.items) held) (Holds type made) = search rules in
+    let holds = next_held inner shape type c.args.number c.in_ok-count.count held made (joined_runs c.in_ok-runs.runs.items) n p c.requires.valid there in
+    let valid : validity type (product inner) made ≡ Ok tt = next_valid inner shape type c.args.number (elements type (product shape) held) made holds in
+    search rules
+
+pub sharding::shard_encode::write_next-returns : goal.sharding::shard_encode::write_next-returns
+sharding::shard_encode::write_next-returns g t c =
+    let inner = c.args.inner.now in
+    let shape = c.args.shape.now in
+    let type = c.args.data_type.now in
+    let held = c.args.held.now in
+    let made = c.in_ok-elements.elements in
+    let n : c.in_ok-count.count ≡ product shape = ok_is c.in_ok-count.count (product shape) (c.in_ok-count.ensures.answer ∙ c.requires.form.counted) in
+    let p : joined_runs c.in_ok-runs.runs.items ≡ inner_chunk_places inner shape c.args.number = sym (ok_is (inner_chunk_places inner shape c.args.number) (joined_runs c.in_ok-runs.runs.items) c.in_ok-runs.ensures.places.is) in
+    let there : IsOkAnd (chunk_at type c.in_ok-count.count (joined_runs c.in_ok-runs.runs.items) held) (Holds type made) = search rules in
+    let holds = next_held inner shape type c.args.number c.in_ok-count.count held made (joined_runs c.in_ok-runs.runs.items) n p c.requires.valid there in
+    record { answer = next_written _ _ _ g.B.BytesToBytesCodecTraits.functions c.args.chain.now inner shape type c.args.fill.now c.args.number (elements type (product shape) held) made holds c.write_inner.ensures.answer }
+
+pub sharding::shard_encode::write_all-returns-in_err-number-end : goal.sharding::shard_encode::write_all-returns-in_err-number-end
+sharding::shard_encode::write_all-returns-in_err-number-end g t c =
+    let positive = subst (All (λ size. 0 < size)) c.as_slice.ensures.value c.as_slice.ensures.positive in
+    let counted = chunks_counted c.args.inner.now c.args.shape.now c.args.grid.now positive c.requires.form.divided c.requires.form.small c.requires.grid in
+    absurd (ok_no_err (inner_chunk_count c.args.inner.now c.args.shape.now) c.in_err-number-end.field-0.0 (sym (c.in_err-number-end.ensures.answer ∙ counted)))
+
+pub sharding::shard_encode::write_all-loop-number-init : goal.sharding::shard_encode::write_all-loop-number-init
+sharding::shard_encode::write_all-loop-number-init g t c =
+    record { is = refl }
+
+pub sharding::shard_encode::write_all-returns-in_err-write_next : goal.sharding::shard_encode::write_all-returns-in_err-write_next
+sharding::shard_encode::write_all-returns-in_err-write_next g t c =
+    let positive = subst (All (λ size. 0 < size)) c.as_slice.ensures.value c.as_slice.ensures.positive in
+    let counted = chunks_counted c.args.inner.now c.args.shape.now c.args.grid.now positive c.requires.form.divided c.requires.form.small c.requires.grid in
+    let end : c.in_ok-number-end.number-end ≡ inner_chunk_count c.args.inner.now c.args.shape.now = ok_is c.in_ok-number-end.number-end (inner_chunk_count c.args.inner.now c.args.shape.now) (c.in_ok-number-end.ensures.answer ∙ counted) in
+    let p = err_from_is_err_and c.from_residual-in_err-write_next.result c.from_residual-in_err-write_next.ensures.1 in
+    record {
+      answer = record {
+        is = rw (p.1, p.2) (λ quiet. behind_refused _ _ _ _ _ _ _ c.loop-number.number _ _ c.in_err-write_next.field-0.0 (omega (arith, end)) c.loop-number.invariant (c.in_err-write_next.ensures.answer.is quiet));
+        no_fault = search rules;
+      };
+    }
+
+pub sharding::shard_encode::write_all-loop-number-preserved : goal.sharding::shard_encode::write_all-loop-number-preserved
+sharding::shard_encode::write_all-loop-number-preserved g t c =
+    let positive = subst (All (λ size. 0 < size)) c.as_slice.ensures.value c.as_slice.ensures.positive in
+    let counted = chunks_counted c.args.inner.now c.args.shape.now c.args.grid.now positive c.requires.form.divided c.requires.form.small c.requires.grid in
+    let end : c.in_ok-number-end.number-end ≡ inner_chunk_count c.args.inner.now c.args.shape.now = ok_is c.in_ok-number-end.number-end (inner_chunk_count c.args.inner.now c.args.shape.now) (c.in_ok-number-end.ensures.answer ∙ counted) in
+    behind_more _ _ _ _ _ _ _ c.loop-number.number _ _ _ (omega (arith, end)) c.loop-number.invariant c.in_ok-write_next.ensures.answer.is
+
+pub sharding::shard_encode::write_all-returns : goal.sharding::shard_encode::write_all-returns
+sharding::shard_encode::write_all-returns g t c =
+    let positive = subst (All (λ size. 0 < size)) c.as_slice.ensures.value c.as_slice.ensures.positive in
+    let counted = chunks_counted c.args.inner.now c.args.shape.now c.args.grid.now positive c.requires.form.divided c.requires.form.small c.requires.grid in
+    let end : c.in_ok-number-end.number-end ≡ inner_chunk_count c.args.inner.now c.args.shape.now = ok_is c.in_ok-number-end.number-end (inner_chunk_count c.args.inner.now c.args.shape.now) (c.in_ok-number-end.ensures.answer ∙ counted) in
+    let done : inner_chunk_count c.args.inner.now c.args.shape.now ≤ c.loop-number.number = omega (arith, end) in
+    record { answer = record { is = behind_last _ _ _ _ _ _ _ c.loop-number.number _ _ done c.loop-number.invariant; no_fault = refl } }
+
+pub sharding::shard_encode::shard_encode-returns-in_err-write_all : goal.sharding::shard_encode::shard_encode-returns-in_err-write_all
+sharding::shard_encode::shard_encode-returns-in_err-write_all g t c =
+    let f = g.B.BytesToBytesCodecTraits.functions in
+    let o = out-ShardingCodec _ c.args.codec.now in
+    let inner = o.codecs.value in
+    let index = o.index_codecs.value in
+    let shape = o.chunk_shape in
+    let at_end = is_index_at_end o.index_location in
+    let sizes = c.args.shape.now in
+    let type = c.args.kind.now in
+    let fill = c.args.fill.now in
+    let chunk = elements type (product sizes) c.args.held.now in
+    let size = c.in_ok-size.size in
+    let at = first_offset at_end size in
+    let counts = grid_is shape sizes c.in_ok-grid.grid c.shard_form.ensures.form.divided c.in_ok-grid.ensures.answer.is in
+    let index_long : index_size_of f index c.in_ok-grid.grid ≡ Ok size = ap (λ x. index_size_of f x c.in_ok-grid.grid) (sym c.deref-3.ensures) ∙ c.in_ok-size.ensures.answer.is in
+    let sized = size_at f index shape sizes c.in_ok-grid.grid (Ok size) counts index_long in
+    let start : written_seen c.in_ok-written.written ≡ (replicate at 0, []) = c.in_ok-written.ensures.made ∙ ap (λ (n : ℕ). (replicate n 0, [])) c.first_offset-front.ensures.value in
+    let first =
+    ap (λ (so_far : List ℕ × List ℕ). written_behind f inner shape type fill (inner_chunks_of shape sizes chunk) so_far) (sym start)
+    ∙ ap (λ x. written_behind f x shape type fill (inner_chunks_of shape sizes chunk) (written_seen c.in_ok-written.written)) (sym c.deref-4.ensures) in
+    let p = err_from_is_err_and c.from_residual-in_err-write_all.result c.from_residual-in_err-write_all.ensures.1 in
+    record {
+      answer = record {
+        is = rw (p.1, p.2) (λ quiet. inner_not_written f inner index shape at_end sizes type fill chunk size c.in_err-write_all.field-0.0 sized (first ∙ c.in_err-write_all.ensures.answer.is quiet));
+        no_fault = search rules;
+      };
+    }
+
+pub sharding::shard_encode::shard_encode-index_encode-requires : goal.sharding::shard_encode::shard_encode-index_encode-requires
+sharding::shard_encode::shard_encode-index_encode-requires g t c κs within =
+    let f = g.B.BytesToBytesCodecTraits.functions in
+    let o = out-ShardingCodec _ c.args.codec.now in
+    let inner = o.codecs.value in
+    let index = o.index_codecs.value in
+    let shape = o.chunk_shape in
+    let at_end = is_index_at_end o.index_location in
+    let sizes = c.args.shape.now in
+    let type = c.args.kind.now in
+    let fill = c.args.fill.now in
+    let chunk = elements type (product sizes) c.args.held.now in
+    let size = c.in_ok-size.size in
+    let at = first_offset at_end size in
+    let counts = grid_is shape sizes c.in_ok-grid.grid c.shard_form.ensures.form.divided c.in_ok-grid.ensures.answer.is in
+    let index_long : index_size_of f index c.in_ok-grid.grid ≡ Ok size = ap (λ x. index_size_of f x c.in_ok-grid.grid) (sym c.deref-3.ensures) ∙ c.in_ok-size.ensures.answer.is in
+    let sized = size_at f index shape sizes c.in_ok-grid.grid (Ok size) counts index_long in
+    let start : written_seen c.in_ok-written.written ≡ (replicate at 0, []) = c.in_ok-written.ensures.made ∙ ap (λ (n : ℕ). (replicate n 0, [])) c.first_offset-front.ensures.value in
+    let first =
+    ap (λ (so_far : List ℕ × List ℕ). written_behind f inner shape type fill (inner_chunks_of shape sizes chunk) so_far) (sym start)
+    ∙ ap (λ x. written_behind f x shape type fill (inner_chunks_of shape sizes chunk) (written_seen c.in_ok-written.written)) (sym c.deref-4.ensures) in
+    let new = c.write_all.new.written in
+    let whole = first ∙ c.in_ok-write_all.ensures.answer.is in
+    let long : length new.numbers.items ≡ product c.in_ok-grid.grid * 2 = numbers_counted f inner shape sizes type fill chunk at new.bytes.items new.numbers.items whole ∙ ap (λ (ns : List ℕ). product ns * 2) (sym counts) in
+    let deeper : size-CodecChain _ index < size-ShardingCodec _ c.args.codec.now = omega (arith, size_is-ShardingCodec _ c.args.codec.now) in
+    let same : size-CodecChain _ c.deref-5.result.now ≡ size-CodecChain _ index = ap (λ x. size-CodecChain _ x) c.deref-5.ensures in
+    let falls : 4 * size-CodecChain _ c.deref-5.result.now + 1 < t = omega (arith, c.decreases) in
+    (falls, (within, ap length c.as_slice.ensures.value ∙ long))
+
+pub sharding::shard_encode::shard_encode-returns-in_err-part : goal.sharding::shard_encode::shard_encode-returns-in_err-part
+sharding::shard_encode::shard_encode-returns-in_err-part g t c =
+    let f = g.B.BytesToBytesCodecTraits.functions in
+    let o = out-ShardingCodec _ c.args.codec.now in
+    let inner = o.codecs.value in
+    let index = o.index_codecs.value in
+    let shape = o.chunk_shape in
+    let at_end = is_index_at_end o.index_location in
+    let sizes = c.args.shape.now in
+    let type = c.args.kind.now in
+    let fill = c.args.fill.now in
+    let chunk = elements type (product sizes) c.args.held.now in
+    let size = c.in_ok-size.size in
+    let at = first_offset at_end size in
+    let counts = grid_is shape sizes c.in_ok-grid.grid c.shard_form.ensures.form.divided c.in_ok-grid.ensures.answer.is in
+    let index_long : index_size_of f index c.in_ok-grid.grid ≡ Ok size = ap (λ x. index_size_of f x c.in_ok-grid.grid) (sym c.deref-3.ensures) ∙ c.in_ok-size.ensures.answer.is in
+    let sized = size_at f index shape sizes c.in_ok-grid.grid (Ok size) counts index_long in
+    let start : written_seen c.in_ok-written.written ≡ (replicate at 0, []) = c.in_ok-written.ensures.made ∙ ap (λ (n : ℕ). (replicate n 0, [])) c.first_offset-front.ensures.value in
+    let first =
+    ap (λ (so_far : List ℕ × List ℕ). written_behind f inner shape type fill (inner_chunks_of shape sizes chunk) so_far) (sym start)
+    ∙ ap (λ x. written_behind f x shape type fill (inner_chunks_of shape sizes chunk) (written_seen c.in_ok-written.written)) (sym c.deref-4.ensures) in
+    let new = c.write_all.new.written in
+    let whole = first ∙ c.in_ok-write_all.ensures.answer.is in
+    let small : length new.bytes.items < 2 ^ 64 = search rules in
+    let p = err_from_is_err_and c.from_residual-in_err-part.result c.from_residual-in_err-part.ensures.1 in
+    record {
+      answer = record {
+        is =
+            rw (p.1, p.2) (λ quiet.
+            let found : shard_index_part f index new.numbers.items c.in_ok-grid.grid ≡ Err c.in_err-part.field-0.0 = search rules in
+            index_not_written f inner index shape at_end sizes type fill chunk size new.bytes.items new.numbers.items c.in_err-part.field-0.0 sized whole small (ap (shard_index_part f index new.numbers.items) (sym counts) ∙ found));
+        no_fault = search rules;
+      };
+    }
+
+pub sharding::shard_encode::shard_encode-place_index-requires-clause-inside : goal.sharding::shard_encode::shard_encode-place_index-requires-clause-inside
+sharding::shard_encode::shard_encode-place_index-requires-clause-inside g t c =
+    let f = g.B.BytesToBytesCodecTraits.functions in
+    let o = out-ShardingCodec _ c.args.codec.now in
+    let inner = o.codecs.value in
+    let index = o.index_codecs.value in
+    let shape = o.chunk_shape in
+    let at_end = is_index_at_end o.index_location in
+    let sizes = c.args.shape.now in
+    let type = c.args.kind.now in
+    let fill = c.args.fill.now in
+    let chunk = elements type (product sizes) c.args.held.now in
+    let size = c.in_ok-size.size in
+    let at = first_offset at_end size in
+    let counts = grid_is shape sizes c.in_ok-grid.grid c.shard_form.ensures.form.divided c.in_ok-grid.ensures.answer.is in
+    let index_long : index_size_of f index c.in_ok-grid.grid ≡ Ok size = ap (λ x. index_size_of f x c.in_ok-grid.grid) (sym c.deref-3.ensures) ∙ c.in_ok-size.ensures.answer.is in
+    let sized = size_at f index shape sizes c.in_ok-grid.grid (Ok size) counts index_long in
+    let start : written_seen c.in_ok-written.written ≡ (replicate at 0, []) = c.in_ok-written.ensures.made ∙ ap (λ (n : ℕ). (replicate n 0, [])) c.first_offset-front.ensures.value in
+    let first =
+    ap (λ (so_far : List ℕ × List ℕ). written_behind f inner shape type fill (inner_chunks_of shape sizes chunk) so_far) (sym start)
+    ∙ ap (λ x. written_behind f x shape type fill (inner_chunks_of shape sizes chunk) (written_seen c.in_ok-written.written)) (sym c.deref-4.ensures) in
+    let new = c.write_all.new.written in
+    let whole = first ∙ c.in_ok-write_all.ensures.answer.is in
+    front_there f inner shape sizes type fill chunk at_end size new.bytes.items new.numbers.items whole
+
+pub sharding::shard_encode::shard_encode-returns : goal.sharding::shard_encode::shard_encode-returns
+sharding::shard_encode::shard_encode-returns g t c =
+    let f = g.B.BytesToBytesCodecTraits.functions in
+    let o = out-ShardingCodec _ c.args.codec.now in
+    let inner = o.codecs.value in
+    let index = o.index_codecs.value in
+    let shape = o.chunk_shape in
+    let at_end = is_index_at_end o.index_location in
+    let sizes = c.args.shape.now in
+    let type = c.args.kind.now in
+    let fill = c.args.fill.now in
+    let chunk = elements type (product sizes) c.args.held.now in
+    let size = c.in_ok-size.size in
+    let at = first_offset at_end size in
+    let counts = grid_is shape sizes c.in_ok-grid.grid c.shard_form.ensures.form.divided c.in_ok-grid.ensures.answer.is in
+    let index_long : index_size_of f index c.in_ok-grid.grid ≡ Ok size = ap (λ x. index_size_of f x c.in_ok-grid.grid) (sym c.deref-3.ensures) ∙ c.in_ok-size.ensures.answer.is in
+    let sized = size_at f index shape sizes c.in_ok-grid.grid (Ok size) counts index_long in
+    let start : written_seen c.in_ok-written.written ≡ (replicate at 0, []) = c.in_ok-written.ensures.made ∙ ap (λ (n : ℕ). (replicate n 0, [])) c.first_offset-front.ensures.value in
+    let first =
+    ap (λ (so_far : List ℕ × List ℕ). written_behind f inner shape type fill (inner_chunks_of shape sizes chunk) so_far) (sym start)
+    ∙ ap (λ x. written_behind f x shape type fill (inner_chunks_of shape sizes chunk) (written_seen c.in_ok-written.written)) (sym c.deref-4.ensures) in
+    let new = c.write_all.new.written in
+    let whole = first ∙ c.in_ok-write_all.ensures.answer.is in
+    let small : length new.bytes.items < 2 ^ 64 = search rules in
+    let part = (raw_of c.in_ok-part.part).items in
+    let found : shard_index_part f index new.numbers.items c.in_ok-grid.grid ≡ Ok part = search rules in
+    let placed : with_index at_end size new.bytes.items part ≡ c.in_ok-value.value.items = search rules in
+    let fits : length c.in_ok-value.value.items < 2 ^ 64 = search rules in
+    record {
+      answer = record {
+        is =
+            shard_written f inner index shape at_end sizes type fill chunk size new.bytes.items new.numbers.items part sized whole small (ap (shard_index_part f index new.numbers.items) (sym counts) ∙ found) (subst (λ (xs : List ℕ). length xs < 2 ^ 64) (sym placed) fits)
+            ∙ ap Ok placed;
+        no_fault = search rules;
+      };
+    }
+
+pub sharding::shard_encode::sharding_encode-shard_encode-requires : goal.sharding::shard_encode::sharding_encode-shard_encode-requires
+sharding::shard_encode::sharding_encode-shard_encode-requires g t c κs within =
+    let taken : TakesInside g.B.BytesToBytesCodecTraits.functions c.args.codec.now c.args.shape.now c.args.kind.now c.args.fill.now = shard_takes_at g.B.BytesToBytesCodecTraits.functions c.args.codec.now c.args.shape.now c.args.kind.now c.args.fill.now c.requires.taken in
+    let valid : validity c.args.kind.now (product c.args.shape.now) c.args.held ≡ Ok tt = search rules in
+    search rules

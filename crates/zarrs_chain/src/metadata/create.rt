@@ -8,7 +8,7 @@ use zarrs_codec::BytesCodecMaker;
 use zarrs_metadata::{MetadataV3, PluginCreateError};
 
 impl<B: Drop> CodecChain<B> {
-    /// The chain of a list of metadata. A name is looked up among those of the seven codecs, else
+    /// The chain of a list of metadata. A name is looked up among those of the codecs here, else
     /// `maker` is asked. The codecs go by their kinds, and within a kind they keep their order. A
     /// metadata that no codec can be made of is passed over where it need not be understood, for
     /// whatever cause but lack of memory.

@@ -4,15 +4,16 @@
 ghost use Rattle.std.specs.Prelude.{◌≡◌, ◌||◌, if◌then◌else◌, Ok, Err};
 ghost use Rattle.zarrs_metadata.specs.MetadataV3.{metadata_seen};
 ghost use Rattle.zarrs_metadata.specs.PluginCreateError.{plugin_memory, Makes};
-ghost use Rattle.zarrs_chain.specs.ChainView.{plain_vlen, plain_optional, vlen_of, optional_of};
+ghost use Rattle.zarrs_chain.specs.ChainView.{plain_vlen, plain_optional, plain_sharding, vlen_of, optional_of, sharding_of};
 ghost use Rattle.zarrs_chain_meaning.specs.MadeChain.{asked_maker, codec_by, joined_by};
 ghost use Rattle.zarrs_chain.specs.ChainParts.{made_seen, parts_seen};
-ghost use Rattle.zarrs_chain.specs.Making.{MakesChainOf, MakesVlen, MakesOptional, CreatesVlen, CreatesOptional};
+ghost use Rattle.zarrs_chain.specs.Making.{MakesChainOf, MakesVlen, MakesOptional, MakesSharding, CreatesVlen, CreatesOptional, CreatesSharding};
 
 use crate::array_to_bytes_codec::ArrayToBytesCodec;
 use crate::codec_chain::CodecChain;
 use crate::metadata::chain_parts::{ChainParts, MadeCodec};
 use crate::optional::optional_codec::OptionalCodec;
+use crate::sharding::sharding_codec::ShardingCodec;
 use crate::vlen::vlen_codec::VlenCodec;
 use std::alloc::Global;
 use zarrs_array_to_array::ArrayToArrayCodec;
@@ -21,13 +22,17 @@ use zarrs_chain_meaning::codec_name::{KnownCodec, codec_named};
 use zarrs_chain_meaning::optional::configuration::{
     mask_codecs, optional_configuration, present_codecs,
 };
+use zarrs_chain_meaning::sharding::configuration::{
+    inner_codecs, inner_shape, shard_index_codecs, shard_index_location, sharding_configuration,
+};
 use zarrs_chain_meaning::vlen::configuration::{
     data_codecs, index_codecs, index_data_type, index_location, vlen_configuration,
 };
+use zarrs_chunk::ChunkShape;
 use zarrs_codec::BytesCodecMaker;
 use zarrs_metadata::{
-    MetadataV3, OptionalCodecConfiguration, PluginCreateError, VlenCodecConfiguration,
-    VlenIndexDataType, VlenIndexLocation,
+    MetadataV3, OptionalCodecConfiguration, PluginCreateError, ShardingCodecConfiguration,
+    ShardingIndexLocation, VlenCodecConfiguration, VlenIndexDataType, VlenIndexLocation,
 };
 use zarrs_packbits::PackBitsCodec;
 use zarrs_vlen_v2::VlenV2Codec;
@@ -59,6 +64,21 @@ fn boxed_optional<B: Drop>(
     let mask = Box::new(alloc, mask)?;
     let content = Box::new(alloc, content)?;
     Ok(OptionalCodec::new(mask, content))
+}
+
+/// The codec `sharding_indexed` with these chains in boxes. Errors: `OutOfMemory`.
+fn boxed_sharding<B: Drop>(
+    alloc: Global,
+    chunk_shape: ChunkShape,
+    inner: CodecChain<B>,
+    index: CodecChain<B>,
+    location: ShardingIndexLocation,
+) -> Result<ShardingCodec<B>, PluginCreateError>
+    ensures made { Makes plain_sharding result (Ok (sharding_of chunk_shape inner index location)) }
+{
+    let inner = Box::new(alloc, inner)?;
+    let index = Box::new(alloc, index)?;
+    Ok(ShardingCodec::new(chunk_shape, inner, index, location))
 }
 
 /// The codec `vlen` of a configuration. Errors, the first that holds, `OutOfMemory` aside: those of
@@ -97,6 +117,23 @@ pub(crate) fn optional_from<B: Drop, M: BytesCodecMaker<B>>(
     boxed_optional(alloc, mask, content)
 }
 
+/// The codec `sharding_indexed` of a configuration. Errors, the first that holds, `OutOfMemory`
+/// aside: those of the inner chain, those of the index chain.
+#[cycle(make)]
+pub(crate) fn sharding_from<B: Drop, M: BytesCodecMaker<B>>(
+    alloc: Global,
+    configuration: &ShardingCodecConfiguration,
+    maker: &M,
+) -> Result<ShardingCodec<B>, PluginCreateError>
+    ensures answer { MakesSharding (M.makes maker.now) configuration.now result }
+{
+    let inner = chain_from(alloc, inner_codecs(configuration), maker)?;
+    let index = chain_from(alloc, shard_index_codecs(configuration), maker)?;
+    let shape = inner_shape(alloc, configuration)?;
+    let location = shard_index_location(configuration);
+    boxed_sharding(alloc, shape, inner, index, location)
+}
+
 /// The codec `vlen` of a metadata. Errors: those of `VlenCodec::create`.
 #[cycle(make)]
 pub(crate) fn vlen_create<B: Drop, M: BytesCodecMaker<B>>(
@@ -121,6 +158,19 @@ pub(crate) fn optional_create<B: Drop, M: BytesCodecMaker<B>>(
 {
     let configuration = optional_configuration(alloc, metadata)?;
     optional_from(alloc, &configuration, maker)
+}
+
+/// The codec `sharding_indexed` of a metadata. Errors: those of `ShardingCodec::create`.
+#[cycle(make)]
+pub(crate) fn sharding_create<B: Drop, M: BytesCodecMaker<B>>(
+    alloc: Global,
+    metadata: &MetadataV3,
+    maker: &M,
+) -> Result<ShardingCodec<B>, PluginCreateError>
+    ensures answer { CreatesSharding (M.makes maker.now) metadata.now result }
+{
+    let configuration = sharding_configuration(alloc, metadata)?;
+    sharding_from(alloc, &configuration, maker)
 }
 
 /// What the maker makes of a metadata. Errors: `UnknownName` where it makes nothing; its own.
@@ -174,6 +224,10 @@ fn codec_from<B: Drop, M: BytesCodecMaker<B>>(
         Some(KnownCodec::Optional) => {
             let codec = optional_create(alloc, metadata, maker)?;
             Ok(MadeCodec::ToBytes(ArrayToBytesCodec::Optional(codec)))
+        }
+        Some(KnownCodec::Sharding) => {
+            let codec = sharding_create(alloc, metadata, maker)?;
+            Ok(MadeCodec::ToBytes(ArrayToBytesCodec::Sharding(codec)))
         }
         None => asked(alloc, metadata, maker),
     }

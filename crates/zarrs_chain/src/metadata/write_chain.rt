@@ -14,6 +14,7 @@ ghost use Rattle.zarrs_chain.specs.Making.{WritesList};
 use crate::array_to_bytes_codec::ArrayToBytesCodec;
 use crate::codec_chain::CodecChain;
 use crate::optional::optional_codec::optional_written;
+use crate::sharding::sharding_codec::sharding_written;
 use crate::vlen::vlen_codec::vlen_written;
 use std::alloc::Global;
 use zarrs_array_to_array::ArrayToArrayCodec;
@@ -66,7 +67,7 @@ fn push_outer<B: BytesToBytesCodecTraits>(
 }
 
 /// The name of an array-to-bytes codec in metadata.
-#[tactic(auto, unfolding(crate::specs::ChainView::plain_codec), using(crate::specs::ChainView::plain_vlen_at, crate::specs::ChainView::plain_optional_at))]
+#[tactic(auto, unfolding(crate::specs::ChainView::plain_codec), using(crate::specs::ChainView::plain_vlen_at, crate::specs::ChainView::plain_optional_at, crate::specs::ChainView::plain_sharding_at))]
 pub(crate) fn codec_name<B>(codec: &ArrayToBytesCodec<B>) -> &'static str
     ensures value { result.now ≡ codec_name_of (plain_codec codec.now) }
 {
@@ -77,6 +78,7 @@ pub(crate) fn codec_name<B>(codec: &ArrayToBytesCodec<B>) -> &'static str
         ArrayToBytesCodec::VlenV2(VlenV2Codec::Bytes) => "vlen-bytes",
         ArrayToBytesCodec::Vlen(_) => "zarrs.vlen",
         ArrayToBytesCodec::Optional(_) => "zarrs.optional",
+        ArrayToBytesCodec::Sharding(_) => "sharding_indexed",
     }
 }
 
@@ -128,6 +130,7 @@ pub(crate) fn codec_written<B: BytesToBytesCodecTraits>(
         ArrayToBytesCodec::VlenV2(codec) => vlen_v2_written(alloc, codec),
         ArrayToBytesCodec::Vlen(codec) => vlen_written(alloc, codec),
         ArrayToBytesCodec::Optional(codec) => optional_written(alloc, codec),
+        ArrayToBytesCodec::Sharding(codec) => sharding_written(alloc, codec),
     }
 }
 

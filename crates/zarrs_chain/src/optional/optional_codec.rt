@@ -46,7 +46,7 @@ use zarrs_metadata::{
 #[derive(Debug, Drop)]
 pub struct OptionalCodec<B> {
     mask_codecs: Box<CodecChain<B>>,
-    data_codecs: Box<CodecChain<B>>,
+    pub(crate) data_codecs: Box<CodecChain<B>>,
 }
 
 impl<B> OptionalCodec<B> {

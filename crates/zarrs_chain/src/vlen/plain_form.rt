@@ -18,7 +18,7 @@ use zarrs_metadata::{VlenIndexDataType, VlenIndexLocation};
 
 /// The byte order of a chain that is a lone codec `bytes`, or that it has none; `None` for any other
 /// chain.
-#[tactic(auto, unfolding(crate::specs::ChainView::plain_codec), using(crate::specs::ChainView::plain_vlen_at, crate::specs::ChainView::plain_optional_at, crate::proofs::PlainForms::arrays_before, crate::proofs::PlainForms::bytes_behind, crate::proofs::PlainForms::none_around, crate::proofs::PlainForms::none_else))]
+#[tactic(auto, unfolding(crate::specs::ChainView::plain_codec), using(crate::specs::ChainView::plain_vlen_at, crate::specs::ChainView::plain_optional_at, crate::specs::ChainView::plain_sharding_at, crate::proofs::PlainForms::arrays_before, crate::proofs::PlainForms::bytes_behind, crate::proofs::PlainForms::none_around, crate::proofs::PlainForms::none_else))]
 pub(crate) fn lone_bytes<B>(chain: &CodecChain<B>) -> Option<Option<Endianness>>
     ensures value { result ≡ if_alone (plain_chain chain.now).array_to_array (facts
         (plain_chain chain.now).array_to_bytes).order (plain_chain chain.now).bytes_to_bytes }

@@ -14,6 +14,7 @@ ghost use Rattle.zarrs_chain_meaning.specs.vlen.VlenSteps.{offsets_fit, keeps_of
 
 use crate::array_to_bytes_codec::ArrayToBytesCodec;
 use crate::encode::row_of;
+use crate::sharding::normal_form::{keeps_all, normal_elements};
 use std::alloc::Global;
 use std::borrow::CowSlice;
 use zarrs_array_bytes::ArrayBytes;
@@ -44,7 +45,7 @@ fn keeps_items(
 
 /// Whether the bytes of elements of one size are these. Errors: `ArrayBytesKind` for any other
 /// elements.
-fn holds_items(elements: &ArrayBytes<'_>, items: &[u8]) -> Result<bool, CodecError>
+pub(crate) fn holds_items(elements: &ArrayBytes<'_>, items: &[u8]) -> Result<bool, CodecError>
     ensures answer { result
         ≡ seen (λ raw. pointwise nat_eq raw.items items.now) (fixed_part elements.now) }
 {
@@ -79,8 +80,31 @@ fn packs_offsets(
     }
 }
 
+/// Whether the normal forms of the offsets are they themselves.
+fn are_normal<B>(
+    alloc: Global,
+    codec: &ArrayToBytesCodec<B>,
+    offsets: &[usize],
+    data_type: VlenIndexDataType,
+) -> Result<bool, CodecError>
+    requires rising { is_offsets offsets.now ≡ true }
+    requires fits { offsets_fit (is_wide data_type) offsets.now ≡ true }
+    // Wide: the codec, the offsets' type and the offsets.
+    ensures answer { GivesValue result
+        (Ok (keeps_offsets (plain_codec codec.now) (is_wide data_type) offsets.now)) }
+{
+    if keeps_all(codec) {
+        return Ok(true);
+    }
+    let items = offset_items(alloc, offsets, data_type)?;
+    let rows = ArrayBytes::new_flen(CowSlice::Borrowed(items.as_slice()));
+    let count = offsets.len() as u64;
+    let kept = normal_elements(alloc, codec, rows, count, &offset_type(data_type))?;
+    holds_items(&kept, items.as_slice())
+}
+
 /// Whether a codec that was given offsets, counted from the first of them, gives them back unchanged.
-/// Only `packbits` may leave out bits of a number.
+/// Only `packbits` may leave out bits of a number, also inside a shard.
 #[tactic(auto, using(crate::proofs::VlenKept::bytes_keep, crate::proofs::VlenKept::vlen_v2_keeps, crate::proofs::VlenKept::vlen_keeps, crate::proofs::VlenKept::optional_keeps, crate::proofs::VlenKept::packed_keeps, crate::proofs::VlenKept::packed_takes))]
 fn is_kept<B>(
     alloc: Global,
@@ -100,6 +124,7 @@ fn is_kept<B>(
         ArrayToBytesCodec::VlenV2(_) => Ok(true),
         ArrayToBytesCodec::Vlen(_) => Ok(true),
         ArrayToBytesCodec::Optional(_) => Ok(true),
+        ArrayToBytesCodec::Sharding(_) => are_normal(alloc, codec, offsets, data_type),
     }
 }
 

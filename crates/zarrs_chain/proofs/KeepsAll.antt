@@ -1,0 +1,98 @@
+-- Which codecs keep each element as it is.
+use Rattle.std.proofs.Common.{◌≡◌, ℕ, Bool, List, [], ◌∷◌, map, Option, refl, ap, sym, subst}
+use Rattle.zarrs_data_type.specs.declared.endianness.Endianness.{Endianness}
+use Rattle.zarrs_data_type.specs.Element.{Element, plain, absent, present, Chunk}
+use Rattle.zarrs_data_type.specs.ElementType.{ElementType, fixed, text, bytes, optional}
+use Rattle.zarrs_vlen_v2.specs.declared.vlen_v2_codec.VlenV2Codec.{VlenV2Codec}
+use Rattle.zarrs_chain_meaning.specs.CodecMeaning.{meaning, codec_normal_element}
+use Rattle.zarrs_chain_meaning.specs.Meaning.{Keeping}
+use Rattle.zarrs_chain_meaning.specs.Parts.{byte_type, the_byte}
+use Rattle.zarrs_chain_meaning.specs.PlainChain.{PlainChain, bytes_codec, vlen_v2_codec, vlen_codec_of, optional_codec_of, sharding_codec_of}
+use Rattle.zarrs_chain_meaning.specs.optional.Optional.{optional_normal}
+use Rattle.zarrs_chain_meaning.specs.vlen.Vlen.{vlen_normal}
+use Rattle.zarrs_chain.specs.ChainView.{plain_chain, plain_codec, plain_optional_at, plain_sharding_at, plain_vlen_at}
+use Rattle.zarrs_chain.specs.declared.array_to_bytes_codec.ArrayToBytesCodec.{ArrayToBytesCodec}
+use Rattle.zarrs_chain.specs.declared.array_to_bytes_codec.ArrayToBytesCodec.TheVariants.{Bytes, VlenV2, Vlen, Optional, Sharding}
+use Rattle.zarrs_chain.specs.declared.optional.optional_codec.OptionalCodec.{OptionalCodec, out-OptionalCodec}
+use Rattle.zarrs_chain.specs.declared.sharding.sharding_codec.ShardingCodec.{ShardingCodec, out-ShardingCodec}
+use Rattle.zarrs_chain.specs.declared.vlen.vlen_codec.VlenCodec.{VlenCodec, out-VlenCodec}
+use Rattle.zarrs_chain.specs.sharding.ShardingCalls.{KeepsAll}
+
+-- each element is kept as it is
+abbrev pub IsSame : Keeping → Type 0
+IsSame keep = (type : ElementType) (element : Element) → keep type element ≡ element
+
+pub all_same : (keep : Keeping) → IsSame keep → (type : ElementType) (chunk : Chunk) → map (keep type) chunk ≡ chunk
+all_same keep same type [] = refl
+all_same keep same type (element ∷ chunk) = λ i. same type element i ∷ all_same keep same type chunk i
+
+-- ---- through `vlen` and `optional`
+
+bytes_same : (keep : Keeping) → IsSame keep → (items : List ℕ) → map (λ byte. the_byte (keep byte_type (plain (byte ∷ [])))) items ≡ items
+bytes_same keep same [] = refl
+bytes_same keep same (byte ∷ items) = λ i. the_byte (same byte_type (plain (byte ∷ [])) i) ∷ bytes_same keep same items i
+
+vlen_same : (keep : Keeping) → IsSame keep → IsSame (vlen_normal keep)
+vlen_same keep same text (plain items) = ap plain (bytes_same keep same items)
+vlen_same keep same text absent = refl
+vlen_same keep same text (present element) = refl
+vlen_same keep same bytes (plain items) = ap plain (bytes_same keep same items)
+vlen_same keep same bytes absent = refl
+vlen_same keep same bytes (present element) = refl
+vlen_same keep same (fixed width components sign) element = refl
+vlen_same keep same (optional type) element = refl
+
+optional_same : (keep : Keeping) → IsSame keep → IsSame (optional_normal keep)
+optional_same keep same (optional type) (present element) = ap present (same type element)
+optional_same keep same (optional type) (plain items) = refl
+optional_same keep same (optional type) absent = refl
+optional_same keep same (fixed width components sign) element = refl
+optional_same keep same text element = refl
+optional_same keep same bytes element = refl
+
+-- ---- plain codecs
+
+bytes_is : (B : Type 0) (order : Option Endianness) → KeepsAll {B = B} (bytes_codec order)
+unfolding meaning
+bytes_is B order = λ type element. refl
+
+vlen_v2_is : (B : Type 0) (codec : VlenV2Codec) → KeepsAll {B = B} (vlen_v2_codec codec)
+unfolding meaning
+vlen_v2_is B codec = λ type element. refl
+
+vlen_is : {B : Type 0} (index content : PlainChain B) (wide at_end : Bool) → KeepsAll content.array_to_bytes → KeepsAll (vlen_codec_of index content wide at_end)
+unfolding meaning
+vlen_is index content wide at_end same = vlen_same (codec_normal_element content.array_to_bytes) same
+
+optional_is : {B : Type 0} (mask content : PlainChain B) → KeepsAll content.array_to_bytes → KeepsAll (optional_codec_of mask content)
+unfolding meaning
+optional_is mask content same = optional_same (codec_normal_element content.array_to_bytes) same
+
+sharding_is : {B : Type 0} (inner index : PlainChain B) (shape : List ℕ) (at_end : Bool) → KeepsAll inner.array_to_bytes → KeepsAll (sharding_codec_of inner index shape at_end)
+unfolding meaning
+sharding_is inner index shape at_end same = same
+
+-- ---- as the code opens them
+
+pub bytes_keeps_all : {B : Type 0} (codec : ArrayToBytesCodec B) (order : Option Endianness) → codec ≡ Bytes order → KeepsAll (plain_codec codec)
+unfolding plain_codec
+bytes_keeps_all {B} codec order e = subst (λ c. KeepsAll (plain_codec c)) (sym e) (bytes_is B order)
+
+pub vlen_v2_keeps_all : {B : Type 0} (codec : ArrayToBytesCodec B) (inner : VlenV2Codec) → codec ≡ VlenV2 inner → KeepsAll (plain_codec codec)
+unfolding plain_codec
+vlen_v2_keeps_all {B} codec inner e = subst (λ c. KeepsAll (plain_codec c)) (sym e) (vlen_v2_is B inner)
+
+pub vlen_keeps_all : {B : Type 0} (codec : ArrayToBytesCodec B) (inner : VlenCodec B) → codec ≡ Vlen inner → KeepsAll (plain_codec (out-VlenCodec _ inner).data_codecs.value.array_to_bytes) → KeepsAll (plain_codec codec)
+unfolding plain_codec
+vlen_keeps_all codec inner e same =
+    subst (λ c. KeepsAll (plain_codec c)) (sym e) (subst (λ p. KeepsAll p) (sym (plain_vlen_at inner)) (vlen_is _ (plain_chain (out-VlenCodec _ inner).data_codecs.value) _ _ same))
+
+pub optional_keeps_all : {B : Type 0} (codec : ArrayToBytesCodec B) (inner : OptionalCodec B) → codec ≡ Optional inner → KeepsAll (plain_codec (out-OptionalCodec _ inner).data_codecs.value.array_to_bytes) → KeepsAll (plain_codec codec)
+unfolding plain_codec
+optional_keeps_all codec inner e same =
+    subst (λ c. KeepsAll (plain_codec c)) (sym e) (subst (λ p. KeepsAll p) (sym (plain_optional_at inner)) (optional_is _ (plain_chain (out-OptionalCodec _ inner).data_codecs.value) same))
+
+pub sharding_keeps_all : {B : Type 0} (codec : ArrayToBytesCodec B) (inner : ShardingCodec B) → codec ≡ Sharding inner → KeepsAll (plain_codec (out-ShardingCodec _ inner).codecs.value.array_to_bytes) → KeepsAll (plain_codec codec)
+unfolding plain_codec
+sharding_keeps_all codec inner e same =
+    subst (λ c. KeepsAll (plain_codec c)) (sym e) (subst (λ p. KeepsAll p) (sym (plain_sharding_at inner)) (sharding_is (plain_chain (out-ShardingCodec _ inner).codecs.value) _ _ _ same))

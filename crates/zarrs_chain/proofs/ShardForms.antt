@@ -1,0 +1,111 @@
+-- What is known of a chunk that `sharding_indexed` takes.
+use Rattle.std.proofs.Common.{◌≡◌, ℕ, zero, suc, ◌+◌, ◌*◌, ◌<◌, ◌≤◌, ◌^◌, ◌==◌, nat_lt, if◌then◌else◌, Bool, true, false, List, [], ◌∷◌, ◌++◌, length, Result, Ok, Err, IsOk, arith, refl, ap, sym, subst, ◌∙◌}
+use Rattle.std.specs.List.{All}
+use Rattle.zarrs_chunk.specs.Answer.{◌>>=◌, checked_u64, demand}
+use Rattle.zarrs_chunk.specs.ChunkShape.{product}
+use Rattle.zarrs_chunk.specs.declared.codec_error.CodecError.{CodecError}
+use Rattle.zarrs_chunk.specs.declared.codec_error.CodecError.TheVariants.{IncompatibleDimensionality, IndivisibleShape, Overflow}
+use Rattle.zarrs_chunk.proofs.Inside.{lt_test, from_lt_test}
+use Rattle.zarrs_data_type.specs.ElementType.{ElementType, fixed, text, bytes, optional, element_size}
+use Rattle.zarrs_data_type.specs.FillValue.{fill_fits}
+use Rattle.zarrs_array_bytes.specs.Validity.{sizes_fit}
+use Rattle.zarrs_codec.specs.BytesToBytesCodec.{BytesCodecs}
+use Rattle.zarrs_codec.specs.declared.bytes_representation.BytesRepresentation.{BytesRepresentation}
+use Rattle.zarrs_chain_meaning.specs.CodecMeaning.{chain_representation, codec_normal_element}
+use Rattle.zarrs_chain_meaning.specs.PlainChain.{PlainChain}
+use Rattle.zarrs_chain_meaning.specs.sharding.InnerChunks.{grid, inner_chunk_count, is_divided}
+use Rattle.zarrs_chain_meaning.specs.sharding.ShardSteps.{divided_grid}
+use Rattle.zarrs_bytes.proofs.Coding.{bind_ok, demand_ok, ok}
+use Rattle.zarrs_chain_meaning.proofs.Answered.{from_ok}
+use Rattle.zarrs_chain_meaning.proofs.ArraySteps.{counted_so, err, ok_is, ok_no_err}
+use Rattle.zarrs_chain_meaning.proofs.CodecLaws.{chain_laws}
+use Rattle.zarrs_chain_meaning.proofs.InnerChunks.{is_cut, positive_product}
+use Rattle.zarrs_chain_meaning.proofs.NestedStages.{is_positive}
+use Rattle.zarrs_chain_meaning.proofs.ShardNormal.{IsShardTaken, shard_taken}
+use Rattle.zarrs_chain_meaning.proofs.OptionalSteps.{counted_small}
+use Rattle.zarrs_chain_meaning.proofs.ShardSizes.{cut_count}
+use Rattle.zarrs_array_to_array.proofs.PlaneRows.{places_are_bytes}
+use Rattle.zarrs_chain.specs.ChainView.{plain_chain}
+use Rattle.zarrs_chain.specs.declared.codec_chain.CodecChain.{CodecChain}
+use Rattle.zarrs_chain.specs.sharding.ShardingCalls.{IsNormalFill, IsShardForm, shard_represented}
+
+pub small_counted : (n : ℕ) → n < 2 ^ 64 → checked_u64 n ≡ Ok n
+small_counted n l = rw (lt_test n (2 ^ 64) l) refl
+
+-- there is an inner chunk, and it is no larger than the chunk
+pub some_inner_chunk : (shape sizes : List ℕ) → All is_positive shape → All is_positive sizes → is_divided shape sizes ≡ true → 0 < inner_chunk_count shape sizes
+some_inner_chunk shape sizes p positive d =
+    let below = (is_cut shape sizes p d).chunk_below 0 (positive_product sizes positive) in
+    omega (arith, below)
+
+at_least : (count inner : ℕ) → 0 < count → inner ≤ count * inner
+at_least zero inner l = absurd (omega (arith, l))
+at_least (suc count) inner l = omega arith
+
+pub inner_smaller : (shape sizes : List ℕ) → All is_positive shape → All is_positive sizes → is_divided shape sizes ≡ true → product shape ≤ product sizes
+inner_smaller shape sizes p positive d =
+    let some = some_inner_chunk shape sizes p positive d in
+    let more = at_least (inner_chunk_count shape sizes) (product shape) some in
+    omega (arith, more, cut_count shape sizes d)
+
+pub count_smaller : (shape sizes : List ℕ) → All is_positive shape → is_divided shape sizes ≡ true → inner_chunk_count shape sizes ≤ product sizes
+count_smaller shape sizes p d =
+    let more = places_are_bytes (inner_chunk_count shape sizes) (product shape) (positive_product shape p) in
+    omega (arith, more, cut_count shape sizes d)
+
+pub fill_of_chain : {B : Type 0} (f : BytesCodecs B) (chain : PlainChain B) (sizes : List ℕ) (type : ElementType) (fill : List ℕ) (r : BytesRepresentation) → chain_representation f chain sizes type fill ≡ Ok r → fill_fits type fill ≡ true
+fill_of_chain f chain sizes type fill r e = (chain_laws chain).fits f sizes type fill r e
+
+pub taken_form_is : {B : Type 0} (f : BytesCodecs B) (inner index : CodecChain B) (shape sizes : List ℕ) (type : ElementType) (fill : List ℕ) → All is_positive shape → All is_positive sizes
+    → IsOk (shard_represented f inner index shape sizes type fill) → IsShardForm shape sizes type fill
+taken_form_is f inner index shape sizes type fill p positive h =
+    let known = from_ok (shard_represented f inner index shape sizes type fill) h in
+    let t = shard_taken shape (codec_normal_element (plain_chain inner).array_to_bytes) (chain_representation f (plain_chain inner)) (chain_representation f (plain_chain index)) sizes type fill known.0 known.1 in
+    let small = counted_small (product sizes) t.counted in
+    let less = inner_smaller shape sizes p positive t.divided in
+    record {
+      divided = t.divided;
+      counted = t.counted;
+      small = small;
+      room = t.fitting;
+      inner_counted = small_counted (product shape) (omega (arith, small, less));
+      filling = fill_of_chain f (plain_chain inner) shape type fill t.inner_size t.inner_is;
+    }
+
+pub taken_normal : {B : Type 0} (f : BytesCodecs B) (inner index : CodecChain B) (shape sizes : List ℕ) (type : ElementType) (fill : List ℕ) → IsOk (shard_represented f inner index shape sizes type fill) → IsNormalFill inner.array_to_bytes type fill
+taken_normal f inner index shape sizes type fill h =
+    let known = from_ok (shard_represented f inner index shape sizes type fill) h in
+    (shard_taken shape (codec_normal_element (plain_chain inner).array_to_bytes) (chain_representation f (plain_chain inner)) (chain_representation f (plain_chain index)) sizes type fill known.0 known.1).filled
+
+-- ---- the fill element alone
+
+less_fits : (n size : ℕ) (test : Bool) → nat_lt (n * size) (2 ^ 64) ≡ test → 0 < n → ◌≡◌ {A = Result (Unit {0}) CodecError} (demand test Overflow) (Ok tt) → nat_lt (1 * size) (2 ^ 64) ≡ true
+less_fits n size true e l h = let more = at_least n size l in lt_test (1 * size) (2 ^ 64) (omega (arith, more, from_lt_test (n * size) (2 ^ 64) e))
+less_fits n size false e l h = absurd cc
+
+-- where 64 bits count the bytes of some elements, they count those of one
+pub one_fits : (type : ElementType) (n : ℕ) → 0 < n → sizes_fit type n ≡ Ok tt → sizes_fit type 1 ≡ Ok tt
+one_fits (fixed width components sign) n l h = rw (less_fits n (element_size width components) (nat_lt (n * element_size width components) (2 ^ 64)) refl l h) refl
+one_fits text n l h = refl
+one_fits bytes n l h = refl
+one_fits (optional type) n l h = one_fits type n l h
+
+pub one_room : (type : ElementType) (sizes : List ℕ) → All is_positive sizes → sizes_fit type (product sizes) ≡ Ok tt → sizes_fit type 1 ≡ Ok tt
+one_room type sizes positive h = one_fits type (product sizes) (positive_product sizes positive) h
+
+-- ---- how many inner chunks there are
+
+pub divided_so : (shape sizes counts : List ℕ) → divided_grid shape sizes ≡ Ok counts → (is_divided shape sizes ≡ true) × (grid shape sizes ≡ counts)
+divided_so shape sizes counts e =
+    let a = bind_ok (demand (length shape == length sizes) IncompatibleDimensionality) _ counts e in
+    let b = bind_ok (demand (is_divided shape sizes) IndivisibleShape) _ counts a.2 in
+    (demand_ok (is_divided shape sizes) IndivisibleShape b.0 b.1, ok_is (grid shape sizes) counts b.2)
+
+-- 64 bits count the inner chunks of a chunk whose elements they count
+pub grid_counted : (shape sizes counts : List ℕ) (n : ℕ) (cause : CodecError) → All is_positive shape → divided_grid shape sizes ≡ Ok counts → ok n ≡ checked_u64 (product sizes) → err cause ≡ checked_u64 (product counts) → ⊥
+grid_counted shape sizes counts n cause p e count refused =
+    let d = divided_so shape sizes counts e in
+    let small = counted_small (product sizes) (counted_so (product sizes) n (sym count)) in
+    let less = count_smaller shape sizes p d.0 in
+    let is : checked_u64 (product counts) ≡ Ok (product counts) = subst (λ (ns : List ℕ). checked_u64 (product ns) ≡ Ok (product ns)) d.1 (small_counted (product (grid shape sizes)) (omega (arith, small, less))) in
+    ok_no_err (product counts) cause (sym is ∙ sym refused)

@@ -1,0 +1,3 @@
+-- The codec `sharding_indexed`: chunks divided into inner chunks.
+pub mod ShardingCalls
+pub mod ShardWalk

@@ -1,0 +1,102 @@
+-- What is read and written of a shard, inner chunk by inner chunk.
+use Rattle.std.specs.Prelude.{ℕ, zero, suc, ◌+◌, Bool, true, false, Option, Some, None, List, [], ◌∷◌, ◌++◌, length, drop, Result, Ok}
+use Rattle.zarrs_array_bytes.specs.Elements.{elements, select}
+use Rattle.zarrs_array_bytes.specs.Held.{Held}
+use Rattle.zarrs_array_bytes.specs.Update.{update}
+use Rattle.zarrs_array_bytes.specs.Validity.{Holds}
+use Rattle.zarrs_chunk.specs.Answer.{◌>>=◌, Gives, GivesBy, seen}
+use Rattle.zarrs_chunk.specs.ChunkShape.{product}
+use Rattle.zarrs_chunk.specs.declared.codec_error.CodecError.{CodecError}
+use Rattle.zarrs_codec.specs.BytesToBytesCodec.{BytesCodecs}
+use Rattle.zarrs_data_type.specs.Element.{Chunk}
+use Rattle.zarrs_data_type.specs.ElementType.{ElementType}
+use Rattle.zarrs_chain_meaning.specs.CodecMeaning.{chain_chunk, chain_value, codec_normal_element}
+use Rattle.zarrs_chain_meaning.specs.Meaning.{Decoder}
+use Rattle.zarrs_chain_meaning.specs.sharding.InnerChunks.{inner_chunk_places, inner_chunks_of, joined_inner_chunks}
+use Rattle.zarrs_chain_meaning.specs.sharding.Sharding.{Span, missing, is_stored, is_left_out, inner_value, inner_chunk_at, inner_chunks_at, spans_of}
+use Rattle.zarrs_chain.specs.ChainView.{plain_chain}
+use Rattle.zarrs_chain.specs.declared.codec_chain.CodecChain.{CodecChain}
+use Rattle.zarrs_chain.specs.declared.sharding.written_shard.WrittenShard.{WrittenShard}
+
+-- ---- writing
+
+-- what is written so far: the bytes, and the numbers of the index
+abbrev pub written_seen : WrittenShard → (List ℕ × List ℕ)
+written_seen written = (written.bytes.items, written.numbers.items)
+
+-- with one inner chunk more, which is left out or has this value
+abbrev pub written_with : (List ℕ × List ℕ) → Option (List ℕ) → (List ℕ × List ℕ)
+written_with so_far None = (so_far.0, so_far.1 ++ missing ∷ missing ∷ [])
+written_with so_far (Some part) = (so_far.0 ++ part, so_far.1 ++ length so_far.0 ∷ length part ∷ [])
+
+-- an inner chunk more is written, which is left out or has this value
+abbrev pub WritesPart : WrittenShard → WrittenShard → Option (List ℕ) → Result (Unit {0}) CodecError → Type 0
+WritesPart old new part result = Gives (λ _. written_seen new) result (Ok (written_with (written_seen old) part))
+
+-- the value of an inner chunk, or none where it is left out; or the first error
+abbrev pub inner_part : {B : Type 0} → BytesCodecs B → CodecChain B → List ℕ → ElementType → List ℕ → Chunk → Result (Option (List ℕ)) CodecError
+inner_part f chain shape type fill inner_chunk =
+    inner_value (is_left_out (codec_normal_element (plain_chain chain).array_to_bytes) type fill inner_chunk) (chain_value f (plain_chain chain) shape type fill inner_chunk)
+
+-- with these inner chunks more, or the first error
+abbrev pub written_behind : {B : Type 0} → BytesCodecs B → CodecChain B → List ℕ → ElementType → List ℕ → List Chunk → (List ℕ × List ℕ) → Result (List ℕ × List ℕ) CodecError
+written_behind f chain shape type fill [] so_far = Ok so_far
+written_behind f chain shape type fill (inner_chunk ∷ inner_chunks) so_far = do
+  part ← inner_part f chain shape type fill inner_chunk
+  written_behind f chain shape type fill inner_chunks (written_with so_far part)
+
+-- an inner chunk is written that a container holds
+abbrev pub WritesInner : {B : Type 0} → BytesCodecs B → CodecChain B → List ℕ → ElementType → List ℕ → Held → WrittenShard → WrittenShard → Result (Unit {0}) CodecError → Type 0
+WritesInner f chain shape type fill held old new result =
+    Gives (λ _. written_seen new) result (seen (written_with (written_seen old)) (inner_part f chain shape type fill (elements type (product shape) held)))
+
+-- the inner chunk of a number is written of the chunk that a container holds
+abbrev pub WritesNextInner : {B : Type 0} → BytesCodecs B → CodecChain B → List ℕ → List ℕ → ElementType → List ℕ → ℕ → Held → WrittenShard → WrittenShard → Result (Unit {0}) CodecError → Type 0
+WritesNextInner f chain shape sizes type fill number held old new result =
+    Gives (λ _. written_seen new) result (seen (written_with (written_seen old)) (inner_part f chain shape type fill (select (elements type (product sizes) held) (inner_chunk_places shape sizes number))))
+
+-- all inner chunks are written of the chunk that a container holds
+abbrev pub WritesAll : {B : Type 0} → BytesCodecs B → CodecChain B → List ℕ → List ℕ → ElementType → List ℕ → Held → WrittenShard → WrittenShard → Result (Unit {0}) CodecError → Type 0
+WritesAll f chain shape sizes type fill held old new result =
+    Gives (λ _. written_seen new) result (written_behind f chain shape type fill (inner_chunks_of shape sizes (elements type (product sizes) held)) (written_seen old))
+
+-- the index part in the place of the first bytes, or behind all of them
+abbrev pub with_index : Bool → ℕ → List ℕ → List ℕ → List ℕ
+with_index false size bytes part = part ++ drop size bytes
+with_index true size bytes part = bytes ++ part
+
+-- ---- reading
+
+-- the chunk with an inner chunk replaced, where it is stored; or the error
+abbrev pub chunk_with : Decoder → List ℕ → List ℕ → ElementType → List ℕ → List ℕ → ℕ → Bool → Span → Chunk → Result Chunk CodecError
+chunk_with decode shape sizes type fill value number false span chunk = Ok chunk
+chunk_with decode shape sizes type fill value number true span chunk = do
+  inner_chunk ← inner_chunk_at true decode shape type fill value span
+  Ok (update chunk (inner_chunk_places shape sizes number) inner_chunk)
+
+-- the chunk with all inner chunks replaced, from that of a number on, that are stored; or the first error
+abbrev pub chunk_behind : Decoder → List ℕ → List ℕ → ElementType → List ℕ → List ℕ → ℕ → List Span → Chunk → Result Chunk CodecError
+chunk_behind decode shape sizes type fill value number [] chunk = Ok chunk
+chunk_behind decode shape sizes type fill value number (span ∷ spans) chunk = do
+  more ← chunk_with decode shape sizes type fill value number (is_stored span) span chunk
+  chunk_behind decode shape sizes type fill value (suc number) spans more
+
+-- a container is given of the chunk with the inner chunk of a number replaced
+abbrev pub ReplacesInner : List ℕ → List ℕ → ElementType → ℕ → Held → Held → Result Held CodecError → Type 0
+ReplacesInner shape sizes type number held content result =
+    GivesBy (Holds type) result (Ok (update (elements type (product sizes) held) (inner_chunk_places shape sizes number) (elements type (product shape) content)))
+
+-- a container is given of the chunk with an inner chunk as the value has it
+abbrev pub ReadsInner : {B : Type 0} → BytesCodecs B → CodecChain B → List ℕ → List ℕ → ElementType → List ℕ → List ℕ → ℕ → Span → Held → Result Held CodecError → Type 0
+ReadsInner f chain shape sizes type fill value number span held result =
+    GivesBy (Holds type) result (chunk_with (chain_chunk f (plain_chain chain)) shape sizes type fill value number true span (elements type (product sizes) held))
+
+-- the same of an inner chunk that may not be stored
+abbrev pub ReadsNextInner : {B : Type 0} → BytesCodecs B → CodecChain B → List ℕ → List ℕ → ElementType → List ℕ → List ℕ → ℕ → Span → Held → Result Held CodecError → Type 0
+ReadsNextInner f chain shape sizes type fill value number span held result =
+    GivesBy (Holds type) result (chunk_with (chain_chunk f (plain_chain chain)) shape sizes type fill value number (is_stored span) span (elements type (product sizes) held))
+
+-- a container of the chunk is given that these numbers of an index say
+abbrev pub ReadsAll : {B : Type 0} → BytesCodecs B → CodecChain B → List ℕ → List ℕ → ElementType → List ℕ → List ℕ → List ℕ → Result Held CodecError → Type 0
+ReadsAll f chain shape sizes type fill value numbers result =
+    GivesBy (Holds type) result (inner_chunks_at (chain_chunk f (plain_chain chain)) shape type fill value (spans_of numbers) >>= λ inner_chunks. Ok (joined_inner_chunks shape sizes inner_chunks))
