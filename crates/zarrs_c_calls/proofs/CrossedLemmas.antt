@@ -4,14 +4,8 @@ use Rattle.zarrs_chunk.specs.Answer.{seen}
 use Rattle.zarrs_chunk.specs.declared.codec_error.CodecError.{CodecError}
 use Rattle.zarrs_array_bytes.specs.Held.{Held, flen, vlen, masked}
 use Rattle.zarrs_array_bytes.specs.Parts.{fixed_items, variable_part, optional_part}
+use Rattle.zarrs_chain.proofs.FillTests.{optional_items, variable_items}
 use Rattle.zarrs_c_calls.specs.Buffers.{buffers, crossed, masked_buffers}
-
--- the parts that are lent, of whose bytes it doesn't matter who owns them
-abbrev variable_items : Held → Result (List ℕ × List ℕ) CodecError
-variable_items held = seen (λ parts. (parts.0.items, parts.1)) (variable_part held)
-
-abbrev optional_items : Held → Result (Held × List ℕ) CodecError
-optional_items held = seen (λ parts. (parts.0, parts.1.items)) (optional_part held)
 
 -- under a mask: with the mask in front
 pub crossed_masked : (held : Held) (parts : Held × List ℕ) → Ok parts ≡ optional_items held → crossed held ≡ masked_buffers parts.1 (crossed parts.0)

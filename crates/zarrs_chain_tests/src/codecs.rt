@@ -1,20 +1,21 @@
-//! The codecs of texts and of elements that may be absent, made in each way, and the name and the
-//! configuration that they have.
+//! The codecs of texts, of elements that may be absent and of inner chunks, made in each way, and the
+//! name and the configuration that they have.
 
 use crate::checks::is;
-use crate::forms::{Chain, chain};
+use crate::forms::{Chain, chain, shape};
 use crate::lists::is_shown;
 use serde_json::Value;
 use std::alloc::{AllocError, Global};
 use std::process::Abort;
 use std::test::Fail;
 use zarrs_bytes::BytesCodec;
-use zarrs_chain::{ArrayToBytesCodec, CodecChain, OptionalCodec, VlenCodec};
+use zarrs_chain::{ArrayToBytesCodec, CodecChain, OptionalCodec, ShardingCodec, VlenCodec};
+use zarrs_chunk::CodecError;
 use zarrs_codec::{CodecTraits, SampleBytesCodec, SampleMaker};
 use zarrs_json::{Refusal, tree};
 use zarrs_metadata::{
-    MetadataV3, OptionalCodecConfiguration, PluginCreateError, VlenCodecConfiguration,
-    VlenIndexDataType, VlenIndexLocation,
+    MetadataV3, OptionalCodecConfiguration, PluginCreateError, ShardingCodecConfiguration,
+    ShardingIndexLocation, VlenCodecConfiguration, VlenIndexDataType, VlenIndexLocation,
 };
 use zarrs_vlen_v2::VlenV2Codec;
 
@@ -51,6 +52,16 @@ const TEXTS_WRITTEN: &'static str = r#"{"configuration":{},"name":"vlen-utf8"}"#
 
 const BYTE_STRINGS_WRITTEN: &'static str = r#"{"configuration":{},"name":"vlen-bytes"}"#;
 
+/// `sharding_indexed` whose index stands where it does if nothing is asked for.
+const SHARD: &'static str =
+    r#"{"name":"sharding_indexed","configuration":{"chunk_shape":[2,4],"codecs":["bytes","sample.length"],"index_codecs":["endian","sample.reverse"]}}"#;
+
+const SHARD_WRITTEN: &'static str =
+    r#"{"configuration":{"chunk_shape":[2,4],"codecs":[{"configuration":{},"name":"bytes"},"sample.length"],"index_codecs":[{"configuration":{},"name":"bytes"},"sample.reverse"],"index_location":"end"},"name":"sharding_indexed"}"#;
+
+const SHARD_BY_HAND: &'static str =
+    r#"{"configuration":{"chunk_shape":[3],"codecs":[{"configuration":{"endian":"little"},"name":"bytes"}],"index_codecs":[{"configuration":{"endian":"little"},"name":"bytes"}],"index_location":"start"},"name":"sharding_indexed"}"#;
+
 /// How a codec is made.
 enum Way {
     VlenByDefault,
@@ -61,6 +72,9 @@ enum Way {
     OptionalConfigured,
     TextsNamed,
     ByteStringsCreated,
+    ShardCreated,
+    ShardConfigured,
+    ShardByHand,
     ByHand,
 }
 
@@ -113,7 +127,22 @@ const ROWS: &'static [Row] = &[
         written: BYTE_STRINGS_WRITTEN,
     },
     Row {
-        name: "both of chains, by hand",
+        name: "sharding_indexed of metadata",
+        way: Way::ShardCreated,
+        written: SHARD_WRITTEN,
+    },
+    Row {
+        name: "sharding_indexed of a configuration",
+        way: Way::ShardConfigured,
+        written: SHARD_WRITTEN,
+    },
+    Row {
+        name: "sharding_indexed of chains, by hand",
+        way: Way::ShardByHand,
+        written: SHARD_BY_HAND,
+    },
+    Row {
+        name: "optional over vlen, of chains, by hand",
         way: Way::ByHand,
         written: OPTIONAL_TEXTS,
     },
@@ -219,6 +248,41 @@ fn optional_texts_by_hand(alloc: Global) -> Result<Codec, Refusal> {
     Ok(ArrayToBytesCodec::Optional(OptionalCodec::new(masks, texts)))
 }
 
+fn shard_created(alloc: Global) -> Result<Codec, Refusal> {
+    let metadata = metadata(alloc, SHARD)?;
+    Ok(ArrayToBytesCodec::Sharding(ShardingCodec::create(alloc, &metadata, &SampleMaker)?))
+}
+
+fn shard_settings(
+    alloc: Global,
+    metadata: &MetadataV3,
+) -> Result<ShardingCodecConfiguration, PluginCreateError> {
+    let members = metadata
+        .configuration()
+        .ok_or(PluginCreateError::InvalidConfiguration)?;
+    ShardingCodecConfiguration::from_configuration(alloc, members)
+}
+
+fn shard_configured(alloc: Global) -> Result<Codec, Refusal> {
+    let settings = shard_settings(alloc, &metadata(alloc, SHARD)?)?;
+    Ok(ArrayToBytesCodec::Sharding(ShardingCodec::new_with_configuration(
+        alloc,
+        &settings,
+        &SampleMaker,
+    )?))
+}
+
+fn shard_by_hand(alloc: Global) -> Result<Codec, CodecError> {
+    let inner = bytes_alone(alloc)?;
+    let index = bytes_alone(alloc)?;
+    Ok(ArrayToBytesCodec::Sharding(ShardingCodec::new(
+        shape(alloc, &[3])?,
+        inner,
+        index,
+        ShardingIndexLocation::Start,
+    )))
+}
+
 fn made_so(alloc: Global, way: &Way) -> Result<Codec, Refusal> {
     match way {
         Way::VlenByDefault => vlen_by_default(alloc),
@@ -229,6 +293,9 @@ fn made_so(alloc: Global, way: &Way) -> Result<Codec, Refusal> {
         Way::OptionalConfigured => optional_configured(alloc),
         Way::TextsNamed => texts_named(),
         Way::ByteStringsCreated => byte_strings_created(alloc),
+        Way::ShardCreated => shard_created(alloc),
+        Way::ShardConfigured => shard_configured(alloc),
+        Way::ShardByHand => Ok(shard_by_hand(alloc)?),
         Way::ByHand => optional_texts_by_hand(alloc),
     }
 }
@@ -264,6 +331,7 @@ fn alone_is_written(
         ArrayToBytesCodec::Vlen(codec) => is_written(rt, row.name, alloc, codec, row.written),
         ArrayToBytesCodec::Optional(codec) => is_written(rt, row.name, alloc, codec, row.written),
         ArrayToBytesCodec::VlenV2(codec) => is_written(rt, row.name, alloc, codec, row.written),
+        ArrayToBytesCodec::Sharding(codec) => is_written(rt, row.name, alloc, codec, row.written),
         _ => Err(Refusal::Syntax),
     }
 }

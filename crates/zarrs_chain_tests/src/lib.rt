@@ -1,7 +1,7 @@
-//! Tests of chains, and of the array-to-bytes codecs `vlen`, `optional`, `vlen-utf8` and `vlen-bytes`: how
-//! many bytes a value has, encoding, decoding, also into a target, re-encoding, making a value shorter,
-//! what a chain is made of and does in part, and the metadata that is written of it. Without tests the
-//! crate is empty.
+//! Tests of chains, and of the array-to-bytes codecs `vlen`, `optional`, `sharding_indexed`, `vlen-utf8`
+//! and `vlen-bytes`: how many bytes a value has, encoding, decoding, also into a target, re-encoding,
+//! making a value shorter, what a chain is made of and does in part, and the metadata that is written of
+//! it. Without tests the crate is empty.
 //!
 //! What the line tool shows of chains stands in `zarrs_transcripts`. Here is the rest: sizes,
 //! containers with bytes that no element has, what an error carries, and calls that the tool

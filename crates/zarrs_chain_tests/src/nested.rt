@@ -1,6 +1,6 @@
-//! Each call of an array-to-bytes codec: of `vlen`, `optional`, `vlen-utf8` and `vlen-bytes` by
-//! themselves, of the `ArrayToBytesCodec` that is one of them, and of the chain that has no other
-//! codec.
+//! Each call of an array-to-bytes codec: of `vlen`, `optional`, `sharding_indexed`, `vlen-utf8` and
+//! `vlen-bytes` by themselves, of the `ArrayToBytesCodec` that is one of them, and of the chain that
+//! has no other codec.
 
 use crate::forms::{Case, ChunkForm, made};
 use crate::nested_rows::NESTED;
@@ -52,6 +52,7 @@ fn alone_answers(
         ArrayToBytesCodec::Vlen(codec) => answers(rt, alloc, codec, form, nested),
         ArrayToBytesCodec::Optional(codec) => answers(rt, alloc, codec, form, nested),
         ArrayToBytesCodec::VlenV2(codec) => answers(rt, alloc, codec, form, nested),
+        ArrayToBytesCodec::Sharding(codec) => answers(rt, alloc, codec, form, nested),
         _ => Err(CodecError::ArrayBytesKind),
     }
 }
@@ -75,7 +76,7 @@ fn each_answers(rt: &impl Abort, alloc: Global, nested: &Nested) -> Result<(), R
 }
 
 #[test]
-fn codecs_of_texts_and_options_answer_each_call(rt: HostRuntime) -> Result<(), Fail> {
+fn codecs_of_texts_options_and_shards_answer_each_call(rt: HostRuntime) -> Result<(), Fail> {
     for nested in NESTED {
         each_answers(&rt, rt.alloc(), nested)?;
     }

@@ -60,6 +60,11 @@ const BC_AND_NOTHING: &'static [u8] = &[2, 0, 0, 0, 2, 0, 0, 0, 98, 99, 0, 0, 0,
 
 const NO_BYTES_AND_A_BYTE: &'static [u8] = &[2, 0, 0, 0, 0, 0, 0, 0, 1, 0, 0, 0, 255];
 
+const TEXTS_IN_A_SHARD: &'static [u8] = &[
+    2, 0, 0, 0, 1, 0, 0, 0, 97, 2, 0, 0, 0, 98, 99, 0, 0, 0, 0, 0, 0, 0, 0, 15, 0, 0, 0, 0, 0, 0,
+    0, 255, 255, 255, 255, 255, 255, 255, 255, 255, 255, 255, 255, 255, 255, 255, 255,
+];
+
 pub(crate) const NESTED: &'static [Nested] = &[
     Nested {
         row: Row {
@@ -296,6 +301,32 @@ pub(crate) const NESTED: &'static [Nested] = &[
             decoded: Ok(Elements {
                 bytes: &[255],
                 ends: &[0, 0, 1],
+                masks: &[],
+            }),
+        },
+        reads: false,
+        into: NOT_FOR_TEXTS,
+    },
+    Nested {
+        row: Row {
+            name: "a, bc and two empty texts in two inner chunks, behind a byte",
+            codecs: r#"[{"name":"sharding_indexed","configuration":{"chunk_shape":[2],"codecs":["vlen-utf8"],"index_codecs":[{"name":"bytes","configuration":{"endian":"little"}}]}}]"#,
+            chunk: Chunk {
+                shape: &[4],
+                data_type: r#""string""#,
+                fill_value: &[],
+            },
+            size: Ok(UnboundedSize),
+            elements: Elements {
+                bytes: b"xabc",
+                ends: &[1, 2, 4, 4, 4],
+                masks: &[],
+            },
+            encoded: Ok(TEXTS_IN_A_SHARD),
+            value: TEXTS_IN_A_SHARD,
+            decoded: Ok(Elements {
+                bytes: b"abc",
+                ends: &[0, 1, 3, 3, 3],
                 masks: &[],
             }),
         },

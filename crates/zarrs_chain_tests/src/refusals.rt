@@ -1,11 +1,11 @@
-//! Chunks that `vlen`, `optional`, `vlen-utf8` and `vlen-bytes` don't take, containers that hold another chunk, and values that
-//! stand for none.
+//! Chunks that `vlen`, `optional`, `vlen-utf8`, `vlen-bytes` and `sharding_indexed` don't take, containers
+//! that hold another chunk, and values that stand for none.
 
 use crate::forms::{Chunk, Elements, OPTIONS, PAIR, TEXTS};
 use crate::whole_rows::Row;
 use zarrs_chain_meaning::codec_name::{OPTIONAL, VLEN};
 use zarrs_chunk::CodecError::{
-    ArrayBytesKind, ElementCount, InvalidBytesLength, UnsupportedDataType,
+    ArrayBytesKind, ElementCount, IndivisibleShape, InvalidBytesLength, UnsupportedDataType,
 };
 use zarrs_codec::BytesRepresentation::{BoundedSize, UnboundedSize};
 use zarrs_vlen_v2::{VLEN_BYTES, VLEN_UTF8};
@@ -21,6 +21,10 @@ const OPTIONAL_BYTES: Chunk = Chunk {
     data_type: r#"{"optional":"uint8"}"#,
     fill_value: &[0],
 };
+
+/// Inner chunks of two elements, as they are.
+const PAIRS: &'static str =
+    r#"[{"name":"sharding_indexed","configuration":{"chunk_shape":[2],"codecs":["bytes"],"index_codecs":[{"name":"bytes","configuration":{"endian":"little"}}]}}]"#;
 
 pub(crate) const REFUSED: &'static [Row] = &[
     Row {
@@ -189,5 +193,47 @@ pub(crate) const REFUSED: &'static [Row] = &[
         }),
         value: &[1, 0, 0, 0, 1, 0, 0, 0, 97],
         decoded: Err(ElementCount),
+    },
+    Row {
+        name: "inner chunks of two, of three elements",
+        codecs: PAIRS,
+        chunk: Chunk {
+            shape: &[3],
+            data_type: r#""uint8""#,
+            fill_value: &[0],
+        },
+        size: Err(IndivisibleShape),
+        elements: Elements {
+            bytes: &[1, 2, 3],
+            ends: &[],
+            masks: &[],
+        },
+        encoded: Err(IndivisibleShape),
+        value: &[0; 16],
+        decoded: Err(IndivisibleShape),
+    },
+    Row {
+        name: "three elements in place of two inner chunks, and too few bytes for their index",
+        codecs: PAIRS,
+        chunk: Chunk {
+            shape: &[4],
+            data_type: r#""uint8""#,
+            fill_value: &[0],
+        },
+        size: Ok(BoundedSize(36)),
+        elements: Elements {
+            bytes: &[1, 2, 3],
+            ends: &[],
+            masks: &[],
+        },
+        encoded: Err(InvalidBytesLength {
+            len: 3,
+            expected: 4,
+        }),
+        value: &[0; 31],
+        decoded: Err(InvalidBytesLength {
+            len: 31,
+            expected: 32,
+        }),
     },
 ];

@@ -14,4 +14,5 @@ mod lines;
 mod packed_rows;
 mod rows;
 mod sent;
+mod shard_rows;
 mod writers;

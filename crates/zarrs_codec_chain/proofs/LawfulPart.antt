@@ -29,7 +29,7 @@ use Rattle.zarrs_bytes.proofs.Alike as bytes_reads
 use Rattle.zarrs_packbits.specs.ReadPlan.{IsPackBitsPlan, SameNumbers}
 use Rattle.zarrs_chain_meaning.specs.Meaning.{Decoder, Meaning}
 use Rattle.zarrs_chain_meaning.specs.CodecMeaning.{codec_chunk, codec_representation, meaning, bytes_meaning, packbits_meaning}
-use Rattle.zarrs_chain_meaning.specs.PlainChain.{PlainCodec, bytes_codec, packbits_codec, vlen_v2_codec, vlen_codec, optional_codec}
+use Rattle.zarrs_chain_meaning.specs.PlainChain.{PlainCodec, bytes_codec, packbits_codec, vlen_v2_codec, vlen_codec, optional_codec, sharding_codec}
 use Rattle.zarrs_chain_meaning.specs.vlen.PlainVlen.{plain_form_of, is_plain}
 use Rattle.zarrs_chain_meaning.specs.vlen.PlainForm.{PlainForm}
 use Rattle.zarrs_bytes.proofs.Coding.{bind_ok, ok}
@@ -299,6 +299,7 @@ part_laws (packbits_codec settings) = packbits_part_laws settings
 part_laws (vlen_v2_codec codec) = whole_part_laws (meaning (vlen_v2_codec codec))
 part_laws (vlen_codec ia ix ib da dx db wide at_end) = vlen_part_laws (vlen_codec ia ix ib da dx db wide at_end) refl
 part_laws (optional_codec ma mx mb da dx db) = whole_part_laws (meaning (optional_codec ma mx mb da dx db))
+part_laws (sharding_codec sa sx sb ia ix ib shape at_end) = whole_part_laws (meaning (sharding_codec sa sx sb ia ix ib shape at_end))
 
 -- where nothing is stored a codec reads fill elements
 pub codec_fills : {B : Type 0} (f : BytesCodecs B) (codec : PlainCodec B) (sizes : List ℕ) (type : ElementType) (fill : List ℕ) (r : BytesRepresentation) (places : List ℕ) → codec_representation f codec sizes type fill ≡ Ok r → codec_read f codec sizes type fill None places ≡ Ok (map (λ _. fill_element type fill) places)

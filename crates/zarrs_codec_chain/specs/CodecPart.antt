@@ -5,7 +5,7 @@ use Rattle.zarrs_bytes.specs.PartialRead.{place_bytes, place_size, read_places}
 use Rattle.zarrs_bytes.specs.PlannedRanges.{IsPlan as IsElementPlan}
 use Rattle.zarrs_chain_meaning.specs.CodecMeaning.{meaning}
 use Rattle.zarrs_chain_meaning.specs.Meaning.{Meaning}
-use Rattle.zarrs_chain_meaning.specs.PlainChain.{PlainCodec, bytes_codec, packbits_codec, vlen_v2_codec, vlen_codec, optional_codec}
+use Rattle.zarrs_chain_meaning.specs.PlainChain.{PlainCodec, bytes_codec, packbits_codec, vlen_v2_codec, vlen_codec, optional_codec, sharding_codec}
 use Rattle.zarrs_chain_meaning.specs.vlen.PlainVlen.{plain_form_of}
 use Rattle.zarrs_chain_meaning.specs.vlen.PlainForm.{PlainForm}
 use Rattle.zarrs_chunk.specs.ChunkShape.{product}
@@ -95,6 +95,7 @@ part_of (packbits_codec settings) = packbits_part settings
 part_of (vlen_v2_codec codec) = whole_part (meaning (vlen_v2_codec codec))
 part_of (vlen_codec ia ix ib da dx db wide at_end) = vlen_part (plain_form_of (vlen_codec ia ix ib da dx db wide at_end)) (meaning (vlen_codec ia ix ib da dx db wide at_end))
 part_of (optional_codec ma mx mb da dx db) = whole_part (meaning (optional_codec ma mx mb da dx db))
+part_of (sharding_codec sa sx sb ia ix ib shape at_end) = whole_part (meaning (sharding_codec sa sx sb ia ix ib shape at_end))
 
 -- the elements at these places of a chunk that the codec gets
 abbrev pub codec_read : {B : Type 0} → BytesCodecs B → PlainCodec B → PlaceReader

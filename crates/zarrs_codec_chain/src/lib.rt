@@ -5,6 +5,10 @@
 //! [`ArrayPartialEncoder`], which writes it in part too ([`CodecChainPartialTraits`]);
 //! [`run_edits`] makes a list of edits. A `vlen` codec by itself makes a [`VlenPartialDecoder`]
 //! ([`VlenCodecPartialTraits`]).
+//!
+//! Its array-to-bytes codec is one of `bytes`, `packbits`, `vlen`, `vlen-utf8`, `vlen-bytes`,
+//! `optional` and `sharding_indexed` ([`ArrayToBytesCodec`]). Over `bytes`, `packbits` and a plain
+//! `vlen` a read asks for a part of the value; over any other it decodes the whole value.
 #![tactic(auto)]
 
 mod chunk_coder;
@@ -30,7 +34,7 @@ pub use zarrs_array_to_array::{
 };
 pub use zarrs_bytes::{BYTES, BytesCodec, BytesCodecPartial};
 pub use zarrs_chain::reencode::reencode;
-pub use zarrs_chain::{ArrayToBytesCodec, CodecChain, OptionalCodec, VlenCodec};
+pub use zarrs_chain::{ArrayToBytesCodec, CodecChain, OptionalCodec, ShardingCodec, VlenCodec};
 pub use zarrs_chain_meaning::codec_name::{OPTIONAL, VLEN};
 pub use zarrs_chain_meaning::vlen::plain_vlen::PlainVlen;
 pub use zarrs_chunk::{ArrayIndices, ArraySubset, ChunkShape, Indexer};
@@ -49,6 +53,7 @@ pub use zarrs_metadata::{
     OptionalCodecConfiguration, OptionalCodecConfigurationV1, PackBitsCodecConfiguration,
     PackBitsCodecConfigurationV1, PackBitsPaddingEncoding, PluginCreateError,
     ReshapeCodecConfiguration, ReshapeCodecConfigurationV1, ReshapeDim, ReshapeShape,
+    ShardingCodecConfiguration, ShardingCodecConfigurationV1, ShardingIndexLocation,
     SqueezeCodecConfiguration, SqueezeCodecConfigurationV0, TransposeCodecConfiguration,
     TransposeCodecConfigurationV1, TransposeOrder, VlenCodecConfiguration,
     VlenCodecConfigurationV0, VlenCodecConfigurationV0_1, VlenIndexDataType, VlenIndexLocation,

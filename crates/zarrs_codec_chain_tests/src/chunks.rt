@@ -62,6 +62,14 @@ pub(crate) const TWO_BYTES_WITH_LENGTH: &'static str =
 pub(crate) const TURNED_TEXTS: &'static str =
     r#"{"shape":[2,3],"data_type":"string","fill_value":"","codecs":[{"name":"transpose","configuration":{"order":[1,0]}},{"name":"zarrs.vlen","configuration":{"index_codecs":[{"name":"bytes","configuration":{"endian":"little"}}],"data_codecs":["bytes"],"index_data_type":"uint64"}},"sample.reverse"]}"#;
 
+/// Two rows of four bytes in two inner chunks of two by two.
+pub(crate) const SHARD: &'static str =
+    r#"{"shape":[2,4],"data_type":"uint8","fill_value":"00","codecs":[{"name":"sharding_indexed","configuration":{"chunk_shape":[2,2],"codecs":["bytes"],"index_codecs":[{"name":"bytes","configuration":{"endian":"little"}}]}}]}"#;
+
+/// The bytes 1, 2, 0 and 0 over 3, 4, 0 and 0, as they are stored: the second inner chunk isn't.
+pub(crate) const FIRST_OF_TWO: &'static [u8] =
+    b"\x01\x02\x03\x04\0\0\0\0\0\0\0\0\x04\0\0\0\0\0\0\0\xff\xff\xff\xff\xff\xff\xff\xff\xff\xff\xff\xff\xff\xff\xff\xff";
+
 /// What a chain is given of a chunk.
 #[derive(Drop)]
 pub(crate) struct Form {

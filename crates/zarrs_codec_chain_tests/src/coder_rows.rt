@@ -1,6 +1,8 @@
 //! Encoders, decoders of `vlen`, and coders that fail or are never made, with what they answer.
 
-use crate::chunks::{A_AND_BC, BYTES, FOUR_BITS, HALF_BYTES, ORDERLESS, TEXTS, WITH_LENGTH};
+use crate::chunks::{
+    A_AND_BC, BYTES, FIRST_OF_TWO, FOUR_BITS, HALF_BYTES, ORDERLESS, SHARD, TEXTS, WITH_LENGTH,
+};
 use crate::coders::Kind;
 use crate::rows::{FIRST, NONE, Row, SECOND};
 use zarrs_chunk::CodecError;
@@ -31,6 +33,18 @@ pub(crate) const ENCODERS: &'static [Row] = &[
         in_part: true,
         planned: None,
         size_held: 35,
+    },
+    Row {
+        name: "an encoder of inner chunks, whose handle keeps the value",
+        coder: Kind::Encoder,
+        chunk: SHARD,
+        value: Some(FIRST_OF_TWO),
+        fails_at: 0,
+        part: r#"{"at":{"ranges":[[0,2],[1,3]]},"data":["02","00","04","00"]}"#,
+        refusals: NONE,
+        in_part: false,
+        planned: None,
+        size_held: 36,
     },
     Row {
         name: "an encoder of four bits",

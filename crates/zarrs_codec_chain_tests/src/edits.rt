@@ -23,6 +23,10 @@ const LIST: &'static [Option<&'static str>] = &[
     None,
 ];
 
+/// Four bytes in two inner chunks.
+const PAIRS: &'static str =
+    r#"{"shape":[4],"data_type":"uint8","fill_value":"00","codecs":[{"name":"sharding_indexed","configuration":{"chunk_shape":[2],"codecs":["bytes"],"index_codecs":[{"name":"bytes","configuration":{"endian":"little"}}]}}]}"#;
+
 /// A chunk; what is stored of it after none of the edits, after the first one, after two and after three;
 /// and what is torn where the writing call of the first edit fails, that of the second and that of the
 /// third.
@@ -50,6 +54,25 @@ const ROWS: &'static [Row] = &[
             Some(b"\x04\0\0\0\0\0\0\0\0\0\0\x09"),
         ],
         torn: &[b"\x04\0\0\0\0\0", b"\x04\0\0\0\0\0", b"\x04\0\0\0\0\0"],
+    },
+    Row {
+        name: "bytes in two inner chunks, of which one is left out each time",
+        chunk: PAIRS,
+        after: &[
+            None,
+            Some(
+                b"\x01\x02\0\0\0\0\0\0\0\0\x02\0\0\0\0\0\0\0\xff\xff\xff\xff\xff\xff\xff\xff\xff\xff\xff\xff\xff\xff\xff\xff",
+            ),
+            None,
+            Some(
+                b"\0\x09\xff\xff\xff\xff\xff\xff\xff\xff\xff\xff\xff\xff\xff\xff\xff\xff\0\0\0\0\0\0\0\0\x02\0\0\0\0\0\0\0",
+            ),
+        ],
+        torn: &[
+            b"\x01\x02\0\0\0\0\0\0\0\0\x02\0\0\0\0\0\0",
+            b"\x01\x02\0\0\0\0\0\0\0\0\x02\0\0\0\0\0\0",
+            b"\0\x09\xff\xff\xff\xff\xff\xff\xff\xff\xff\xff\xff\xff\xff\xff\xff",
+        ],
     },
 ];
 

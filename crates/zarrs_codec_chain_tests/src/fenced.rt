@@ -2,7 +2,10 @@
 //! nothing else.
 
 use crate::checks::{is, is_cause};
-use crate::chunks::{A_AND_BC, BYTES, Chunk, Form, HALF_BYTES, Part, TEXTS, TURNED_TWICE, case_of};
+use crate::chunks::{
+    A_AND_BC, BYTES, Chunk, FIRST_OF_TWO, Form, HALF_BYTES, Part, SHARD, TEXTS, TURNED_TWICE,
+    case_of,
+};
 use crate::coders::{Decoder, decoder};
 use crate::reads::is_read;
 use std::alloc::Global;
@@ -178,6 +181,14 @@ const THROUGH_CHAINS: &'static [Row] = &[
         inside: &[(0, 15)],
         part: r#"{"at":{"ranges":[[1,2]]},"data":["6263"]}"#,
         refusal: None,
+    },
+    Row {
+        name: "a byte of an inner chunk that isn't stored, where a byte of the other is held back",
+        chunk: SHARD,
+        value: FIRST_OF_TWO,
+        inside: &[(1, 36)],
+        part: r#"{"at":{"ranges":[[0,1],[3,4]]},"data":[]}"#,
+        refusal: FENCED,
     },
     Row {
         name: "two words of turned axes",

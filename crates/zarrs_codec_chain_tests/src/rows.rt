@@ -1,8 +1,8 @@
 //! Coders, what is stored under them, and what they answer.
 
 use crate::chunks::{
-    A_AND_BC, BYTES, HALF_BYTES, OPTIONAL, TEXTS, THREE_LEVELS, TURNED_TEXTS, TURNED_TWICE,
-    TWO_BYTES, TWO_BYTES_WITH_LENGTH,
+    A_AND_BC, BYTES, FIRST_OF_TWO, HALF_BYTES, OPTIONAL, SHARD, TEXTS, THREE_LEVELS, TURNED_TEXTS,
+    TURNED_TWICE, TWO_BYTES, TWO_BYTES_WITH_LENGTH,
 };
 use crate::coders::Kind;
 use zarrs_chunk::{CodecError, StorageError};
@@ -358,6 +358,18 @@ pub(crate) const WITH_CACHE: &'static [Row] = &[
         in_part: false,
         planned: None,
         size_held: 40,
+    },
+    Row {
+        name: "a box of two inner chunks, the second of which isn't stored",
+        coder: Kind::Decoder,
+        chunk: SHARD,
+        value: Some(FIRST_OF_TWO),
+        fails_at: 0,
+        part: r#"{"at":{"ranges":[[0,2],[1,3]]},"data":["02","00","04","00"]}"#,
+        refusals: NONE,
+        in_part: false,
+        planned: None,
+        size_held: 8,
     },
     Row {
         name: "no turned texts",

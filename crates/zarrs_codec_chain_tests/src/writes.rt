@@ -4,7 +4,8 @@
 
 use crate::checks::{is, is_cause};
 use crate::chunks::{
-    A_AND_BC, BYTES, Chunk, FOUR_BITS, OPTIONAL, Part, TEXTS, TURNED_TWICE, WITH_LENGTH, case_of,
+    A_AND_BC, BYTES, Chunk, FIRST_OF_TWO, FOUR_BITS, OPTIONAL, Part, SHARD, TEXTS, TURNED_TWICE,
+    WITH_LENGTH, case_of,
 };
 use crate::coders::{Encoder, encoder, stored};
 use std::alloc::Global;
@@ -132,6 +133,16 @@ const ROWS: &'static [Row] = &[
         in_part: false,
         size_held: 21,
         calls: 0,
+    },
+    Row {
+        name: "a box of two inner chunks, the second of which isn't stored",
+        chunk: SHARD,
+        value: Some(FIRST_OF_TWO),
+        part: r#"{"at":{"ranges":[[0,2],[1,3]]},"data":["05","06","07","08"]}"#,
+        refusal: None,
+        in_part: false,
+        size_held: 40,
+        calls: 1,
     },
     Row {
         name: "no places of four bits",

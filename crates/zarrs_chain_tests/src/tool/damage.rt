@@ -3,6 +3,7 @@
 use crate::tool::lines::{answer, asked};
 use crate::tool::packed_rows::PACKED;
 use crate::tool::rows::{FIXED, Place, Row, VARIABLE};
+use crate::tool::shard_rows::SHARDS;
 use std::alloc::Global;
 use std::fmt::Debug;
 use std::process::Abort;
@@ -179,4 +180,9 @@ fn of_packed_elements(rt: HostRuntime) -> Result<(), Fail> {
 #[test]
 fn of_texts_and_optional_elements(rt: HostRuntime) -> Result<(), Fail> {
     all_bear(&rt, rt.alloc(), VARIABLE)
+}
+
+#[test]
+fn of_shards(rt: HostRuntime) -> Result<(), Fail> {
+    all_bear(&rt, rt.alloc(), SHARDS)
 }

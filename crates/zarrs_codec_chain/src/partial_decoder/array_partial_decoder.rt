@@ -62,14 +62,18 @@ impl<'a, H: BytesPartialDecoderTraits, B: BytesToBytesCodecTraits> ArrayPartialD
     /// of these are sure; `BytesCodec` of the last bytes-to-bytes codec, then of the one before, of
     /// a decoder that has a cache only of those below it; over `bytes` and `packbits`
     /// `InvalidByteRange` where a place's bytes lie past the end; over a plain `vlen` those of
-    /// `zarrs_plain_vlen::read_runs`, also where the indexer selects no place; over `optional` and
-    /// any other `vlen`, without a cache, what `CodecChain::decode` rejects of the value of this
-    /// codec:
+    /// `zarrs_plain_vlen::read_runs`, also where the indexer selects no place; over `optional`,
+    /// `sharding_indexed`, `vlen-utf8`, `vlen-bytes` and any other `vlen`, without a cache, what
+    /// `CodecChain::decode` rejects of the value of this codec:
     ///
     /// - of `vlen` `InvalidBytesLength`, `IndexLength`, `Overflow`, those of the index chain,
     ///   `InvalidOffsets`, those of the data chain;
+    /// - of `vlen-utf8` and `vlen-bytes` `InvalidBytesLength`, `ElementCount`,
+    ///   `InvalidBytesLength`;
     /// - of `optional` `InvalidBytesLength`, `HeaderOverflow`, `InvalidBytesLength`, those of the
-    ///   mask chain, `MaskValue`, those of the data chain.
+    ///   mask chain, `MaskValue`, those of the data chain;
+    /// - of `sharding_indexed` `InvalidBytesLength`, those of the index chain, and then of each
+    ///   inner chunk that is stored `InvalidByteRange`, those of the inner chain.
     ///
     /// With a cache over these codecs, it was rejected when the decoder was made.
     pub fn partial_decode(

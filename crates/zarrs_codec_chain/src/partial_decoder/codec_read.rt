@@ -26,7 +26,7 @@ use zarrs_lent_handles::LentHandle;
 /// The elements at the places of these runs of a chunk that the codec takes, over a handle that
 /// keeps its bytes: the fill value at each place where nothing is stored. Errors: the codec's own;
 /// `OutOfMemory` and `Storage`, which may come before.
-#[tactic(auto, unfolding(zarrs_chain::specs::ChainView::plain_codec), using(zarrs_chain::specs::ChainView::plain_vlen_at, zarrs_chain::specs::ChainView::plain_optional_at))]
+#[tactic(auto, unfolding(zarrs_chain::specs::ChainView::plain_codec), using(zarrs_chain::specs::ChainView::plain_vlen_at, zarrs_chain::specs::ChainView::plain_optional_at, zarrs_chain::specs::ChainView::plain_sharding_at))]
 pub(crate) fn read_runs<H: BytesPartialDecoderTraits, B: BytesToBytesCodecTraits>(
     alloc: Global,
     codec: &ArrayToBytesCodec<B>,
@@ -57,7 +57,9 @@ pub(crate) fn read_runs<H: BytesPartialDecoderTraits, B: BytesToBytesCodecTraits
         ArrayToBytesCodec::Vlen(codec) => {
             vlen_runs(alloc, codec, handle, shape, kind, fill, runs)
         }
-        ArrayToBytesCodec::VlenV2(_) | ArrayToBytesCodec::Optional(_) => unreachable!(),
+        ArrayToBytesCodec::VlenV2(_)
+        | ArrayToBytesCodec::Optional(_)
+        | ArrayToBytesCodec::Sharding(_) => unreachable!(),
     }
 }
 
@@ -86,7 +88,7 @@ pub(crate) fn read_runs_of_bytes<B: BytesToBytesCodecTraits>(
 
 /// Whether the bytes of a place are known before anything is read: they are over `bytes` and
 /// `packbits`.
-#[tactic(auto, unfolding(zarrs_chain::specs::ChainView::plain_codec), using(zarrs_chain::specs::ChainView::plain_vlen_at, zarrs_chain::specs::ChainView::plain_optional_at))]
+#[tactic(auto, unfolding(zarrs_chain::specs::ChainView::plain_codec), using(zarrs_chain::specs::ChainView::plain_vlen_at, zarrs_chain::specs::ChainView::plain_optional_at, zarrs_chain::specs::ChainView::plain_sharding_at))]
 pub(crate) fn plans_reads<B>(codec: &ArrayToBytesCodec<B>) -> bool
     ensures value { result ≡ codec_plans (plain_codec codec.now) }
 {
@@ -94,12 +96,13 @@ pub(crate) fn plans_reads<B>(codec: &ArrayToBytesCodec<B>) -> bool
         ArrayToBytesCodec::Bytes(_) | ArrayToBytesCodec::PackBits(_) => true,
         ArrayToBytesCodec::VlenV2(_)
         | ArrayToBytesCodec::Vlen(_)
-        | ArrayToBytesCodec::Optional(_) => false,
+        | ArrayToBytesCodec::Optional(_)
+        | ArrayToBytesCodec::Sharding(_) => false,
     }
 }
 
 /// The codec `bytes`, where this is one.
-#[tactic(auto, unfolding(zarrs_chain::specs::ChainView::plain_codec), using(zarrs_chain::specs::ChainView::plain_vlen_at, zarrs_chain::specs::ChainView::plain_optional_at))]
+#[tactic(auto, unfolding(zarrs_chain::specs::ChainView::plain_codec), using(zarrs_chain::specs::ChainView::plain_vlen_at, zarrs_chain::specs::ChainView::plain_optional_at, zarrs_chain::specs::ChainView::plain_sharding_at))]
 fn as_bytes<B>(codec: &ArrayToBytesCodec<B>) -> Option<&BytesCodec>
     ensures value { option_map (λ v. v.now) result ≡ order_in_place [] (plain_codec codec.now) }
 {
@@ -108,7 +111,8 @@ fn as_bytes<B>(codec: &ArrayToBytesCodec<B>) -> Option<&BytesCodec>
         ArrayToBytesCodec::PackBits(_)
         | ArrayToBytesCodec::VlenV2(_)
         | ArrayToBytesCodec::Vlen(_)
-        | ArrayToBytesCodec::Optional(_) => None,
+        | ArrayToBytesCodec::Optional(_)
+        | ArrayToBytesCodec::Sharding(_) => None,
     }
 }
 
@@ -124,7 +128,7 @@ pub(crate) fn codec_in_place<B>(chain: &CodecChain<B>) -> Option<&BytesCodec>
 }
 
 /// The ranges of bytes that a read of these runs asks for. Errors: `OutOfMemory`.
-#[tactic(auto, unfolding(zarrs_chain::specs::ChainView::plain_codec), using(zarrs_chain::specs::ChainView::plain_vlen_at, zarrs_chain::specs::ChainView::plain_optional_at))]
+#[tactic(auto, unfolding(zarrs_chain::specs::ChainView::plain_codec), using(zarrs_chain::specs::ChainView::plain_vlen_at, zarrs_chain::specs::ChainView::plain_optional_at, zarrs_chain::specs::ChainView::plain_sharding_at))]
 pub(crate) fn planned_runs<B: BytesToBytesCodecTraits>(
     alloc: Global,
     codec: &ArrayToBytesCodec<B>,
@@ -147,6 +151,7 @@ pub(crate) fn planned_runs<B: BytesToBytesCodecTraits>(
         ArrayToBytesCodec::PackBits(codec) => { codec.planned_runs(alloc, shape, kind, fill, runs) }
         ArrayToBytesCodec::VlenV2(_)
         | ArrayToBytesCodec::Vlen(_)
-        | ArrayToBytesCodec::Optional(_) => unreachable!(),
+        | ArrayToBytesCodec::Optional(_)
+        | ArrayToBytesCodec::Sharding(_) => unreachable!(),
     }
 }

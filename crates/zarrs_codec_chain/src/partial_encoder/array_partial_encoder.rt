@@ -71,13 +71,18 @@ impl<'a, H: BytesPartialEncoderTraits, B: BytesToBytesCodecTraits> ArrayPartialE
     /// never where the answer rests on such bytes alone and all of these are sure; `BytesCodec` of
     /// the last bytes-to-bytes codec, then of the one before; over `bytes` and `packbits`
     /// `InvalidByteRange` where a place's bytes lie past the end; over a plain `vlen` those of
-    /// `zarrs_plain_vlen::read_runs`, also where the indexer selects no place; over `optional` and
-    /// any other `vlen` what `CodecChain::decode` rejects of the value of this codec:
+    /// `zarrs_plain_vlen::read_runs`, also where the indexer selects no place; over `optional`,
+    /// `sharding_indexed`, `vlen-utf8`, `vlen-bytes` and any other `vlen` what `CodecChain::decode`
+    /// rejects of the value of this codec:
     ///
     /// - of `vlen` `InvalidBytesLength`, `IndexLength`, `Overflow`, those of the index chain,
     ///   `InvalidOffsets`, those of the data chain;
+    /// - of `vlen-utf8` and `vlen-bytes` `InvalidBytesLength`, `ElementCount`,
+    ///   `InvalidBytesLength`;
     /// - of `optional` `InvalidBytesLength`, `HeaderOverflow`, `InvalidBytesLength`, those of the
-    ///   mask chain, `MaskValue`, those of the data chain.
+    ///   mask chain, `MaskValue`, those of the data chain;
+    /// - of `sharding_indexed` `InvalidBytesLength`, those of the index chain, and then of each
+    ///   inner chunk that is stored `InvalidByteRange`, those of the inner chain.
     pub fn partial_decode(
         &mut self,
         alloc: Global,
@@ -152,12 +157,17 @@ impl<'a, H: BytesPartialEncoderTraits, B: BytesToBytesCodecTraits> ArrayPartialE
     /// - of a stored value `BytesCodec` of the last bytes-to-bytes codec, then of the one before;
     ///   of `bytes` and `packbits` `InvalidBytesLength`, of `packbits` `PaddingByte`; of `vlen`
     ///   `InvalidBytesLength`, `IndexLength`, `Overflow`, those of the index chain,
-    ///   `InvalidOffsets`, those of the data chain; of `optional` `InvalidBytesLength`,
-    ///   `HeaderOverflow`, `InvalidBytesLength`, those of the mask chain, `MaskValue`, those of the
-    ///   data chain;
+    ///   `InvalidOffsets`, those of the data chain; of `vlen-utf8` and `vlen-bytes`
+    ///   `InvalidBytesLength`, `ElementCount`, `InvalidBytesLength`; of `optional`
+    ///   `InvalidBytesLength`, `HeaderOverflow`, `InvalidBytesLength`, those of the mask chain,
+    ///   `MaskValue`, those of the data chain; of `sharding_indexed` `InvalidBytesLength`, those of
+    ///   the index chain, and then of each inner chunk that is stored `InvalidByteRange`, those of
+    ///   the inner chain;
     /// - of the chunk `Overflow` where 64 bits don't count its elements' bytes or offsets; of
     ///   `vlen` `OffsetTooLarge`, those of the index chain, `OffsetNotKept`, those of the data
-    ///   chain; of `optional` those of the mask chain, those of the data chain.
+    ///   chain; of `vlen-utf8` and `vlen-bytes` `OffsetTooLarge`; of `optional` those of the mask
+    ///   chain, those of the data chain; of `sharding_indexed` those of the inner chain, of the
+    ///   inner chunks that aren't left out, those of the index chain, `OffsetNotKept`.
     ///
     /// One that is accepted makes exactly one reading and one writing call of the handle. One that
     /// is rejected makes no writing call, or the one that rejected it, and leaves the value as it
