@@ -32,6 +32,26 @@ LINES = (
 )
 
 
+def has_shards(chain):
+    """Whether a chain or one in it has sharding_indexed."""
+    inside = {"vlen": slice(1, 3), "optional": slice(1, 3), "sharding": slice(2, 4)}.get(chain[1][0])
+    return chain[1][0] == "sharding" or inside is not None and any(map(has_shards, chain[1][inside]))
+
+
+def shard_index(codec, form):
+    """How many bytes the index of a shard has, and its form."""
+    sizes = model.index_shape(codec, form[0])
+    index_form = (sizes, model.UINT64, bytes(8))
+    return len(model.encode_chain(codec[3], [bytes(8)] * model.made(math.prod(sizes)), *index_form)), index_form
+
+
+def joined_shard(codec, form, joined, spans):
+    """The value of these bytes of inner chunks, and of an index with where each begins and how many bytes it has."""
+    numbers = [number.to_bytes(8, "little") for span in spans for number in span]
+    stored = model.encode_chain(codec[3], numbers, *shard_index(codec, form)[1])
+    return stored + joined if codec[4] == "start" else joined + stored
+
+
 class Run:
     """The lines of a seed."""
 
@@ -196,7 +216,30 @@ class Run:
         mask, data = self.chain(model.BOOL, shape, False, depth + 1), self.chain(inside, shape, True, depth + 1)
         return self.named(OPTIONAL, {"mask_codecs": mask, "data_codecs": data})
 
-    def to_bytes(self, of_type, shape, depth):
+    def divisor(self, size):
+        """The size of an inner chunk, now and then one that doesn't divide this one."""
+        if self.chance(0.02):
+            return self.pick((0, size + 1, 2, 3, 2**63))
+        return self.pick([it for it in (1, 2, 3, 4, 5, 7, 8, 2**31, size // 2, size) if it and size % it == 0])
+
+    def sharding(self, of_type, shape, is_flat, depth):
+        sizes = [1 if is_flat else self.divisor(size) for size in shape]
+        counts = [max(size // part, 1) if part else 1 for size, part in zip(shape, sizes)]
+        if self.chance(0.03):
+            sizes = sizes[1:] if sizes and self.chance(0.5) else sizes + [1]
+        index = [{"name": "bytes", "configuration": {"endian": self.pick(("little", "big"))}}]
+        if self.chance(0.25):
+            index = self.chain(model.UINT64, [*counts, 2], False, depth + 1)
+        elif self.chance(0.4):
+            index.append("crc32c")
+        said = {"chunk_shape": sizes, "codecs": self.chain(of_type, [max(it, 1) for it in sizes], False, depth + 1), "index_codecs": index}
+        if self.chance(0.6):
+            said["index_location"] = self.pick(("start", "end"))
+        return self.named(("sharding_indexed",), said)
+
+    def to_bytes(self, of_type, shape, is_flat, depth):
+        if depth < 4 and self.chance(0.25 if depth == 0 else 0.15):
+            return self.sharding(of_type, shape, is_flat, depth)
         kind = of_type[0] if not self.chance(0.02) else self.pick(("fixed", "variable", "optional"))
         if kind == "fixed":
             return self.bytes(of_type) if self.chance(0.55) else self.packbits(of_type)
@@ -206,8 +249,8 @@ class Run:
 
     def chain(self, of_type, shape, is_flat, depth=0):
         """A list of codecs; flat where the chunk has one axis of any length."""
-        codecs, shape = self.arrays(of_type, shape, is_flat)
-        codecs.append(self.to_bytes(of_type, shape, depth))
+        codecs, shape = self.arrays(of_type, [1] if is_flat else shape, is_flat)
+        codecs.append(self.to_bytes(of_type, shape, is_flat, depth))
         if self.chance(0.35 if depth == 0 else 0.25):
             codecs += [self.named(BEHIND) for _ in range(self.pick((1, 1, 2, 3, 4)))]
         if self.chance(0.06):
@@ -223,6 +266,7 @@ class Run:
         codec = self.pick((
             {"name": "gzip"}, "vlen-utf8", {"name": "vlen-bytes"}, {"name": "packbits", "configuration": {"first_bit": 3, "last_bit": 1}}, {"name": "transpose"}, "bytes",
             {"name": "vlen", "configuration": {"index_codecs": [5]}}, {"name": "zarrs.vlen", "configuration": {"index_codecs": [5]}},
+            {"name": "sharding_indexed", "configuration": {"chunk_shape": [0], "codecs": [], "index_codecs": []}}, "sharding_indexed",
             {"name": "reshape", "configuration": {"shape": [0, -1, -1]}}, {"name": "zarrs.optional", "configuration": {"mask_codecs": [], "data_codecs": []}},
         ))
         return {**(codec if isinstance(codec, dict) else {"name": codec}), "must_understand": False} if self.chance(0.7) else codec
@@ -296,8 +340,24 @@ class Run:
         return self.random.randbytes(size) if self.chance(0.8) else bytes([self.pick((0, 1, 127, 128, 255))]) * size
 
     def chunk(self):
-        count = math.prod(self.session.shape)
-        return [self.element(self.session.type) for _ in range(count if count < 500 else self.few(3))]
+        count, of_type = math.prod(self.session.shape), self.session.type
+        chunk = [self.element(of_type) for _ in range(count if count < 500 else self.few(3))]
+        if not has_shards(self.session.chain) or self.chance(0.2):
+            return chunk
+        # most of it is the fill element, or what some codecs make that of, in rows
+        blank, part = model.element_of_fill(self.session.fill, of_type), self.pick((0.05, 0.3, 0.6))
+        many, other = self.random.randint(1, 9), self.near(blank)
+        kept = [self.chance(part) for _ in range(len(chunk) // many + 1)]
+        return [it if kept[at // many] else other if self.chance(0.1) else blank for at, it in enumerate(chunk)]
+
+    def near(self, element):
+        """The element with another bit, which codecs may leave out."""
+        if isinstance(element, list):
+            return [self.near(element[0])]
+        if not element or self.chance(0.3):
+            return element
+        at = self.random.randrange(len(element))
+        return element[:at] + bytes([element[at] ^ 1 << self.random.randrange(8)]) + element[at + 1 :]
 
     def tree_of(self, element):
         if element is None:
@@ -342,6 +402,32 @@ class Run:
         more = self.random.randbytes(self.few(5))
         return model.length_bytes(len(mask)) + model.length_bytes(len(more)) + mask + more
 
+    def loose_shard(self, codec, chunk, form):
+        """A value whose inner chunks stand in any order, with bytes between; those that are alike stand once, or stand though
+        they are left out."""
+        _, inner_shape, inner, index, place = codec
+        shape, of_type, fill = form
+        size, _ = shard_index(codec, form)
+        blank, values = model.element_of_fill(fill, of_type), {}
+        spans = []
+        for number, places in enumerate(model.inner_places(codec, shape)):
+            elements = [chunk[it] for it in places]
+            if all(model.kept(inner, it, of_type) == blank for it in elements) and self.chance(0.6):
+                spans.append(None)
+                continue
+            value = model.encode_chain(inner, elements, inner_shape, of_type, fill)
+            spans.append((value, 0 if self.chance(0.5) else number))
+            values[spans[-1]] = None
+        order, joined = list(values), b""
+        self.random.shuffle(order)
+        at = size if place == "start" else 0
+        for value in order:
+            joined += self.random.randbytes(self.few(3))
+            values[value] = at + len(joined)
+            joined += value[0]
+        joined += self.random.randbytes(self.few(2))
+        return joined_shard(codec, form, joined, [(model.MOST, model.MOST) if it is None else (values[it], len(it[0])) for it in spans])
+
     def content(self):
         """A value before the bytes-to-bytes codecs."""
         shape, of_type, fill = self.session.form
@@ -353,6 +439,8 @@ class Run:
             return self.loose_vlen(codec, self.chunk() if self.chance(0.7) else [b""] * math.prod(shape))
         if codec[0] == "optional" and self.chance(0.08):
             return self.loose_optional(codec, last)
+        if codec[0] == "sharding" and self.chance(0.3):
+            return self.loose_shard(codec, model.moved(chain, self.chunk(), shape, of_type), (last, of_type, fill))
         return model.encode_chain(chain, self.chunk(), shape, of_type, fill)
 
     def spoilt_stage(self, kind, value):
@@ -370,9 +458,14 @@ class Run:
             return self.pick((model.length_bytes(self.pick((0, length + 1, max(0, length - 1), model.MOST))) + rest, value[: self.random.randint(0, 8)], rest))
         return self.damaged(value)
 
-    def spoilt_at_depth(self, chain, value):
-        """The value with one part spoilt, at any depth; the lengths and checksums of what stands around that part are right."""
+    def spoilt_at_depth(self, chain, value, form):
+        """The value with one part spoilt, at any depth; the lengths and checksums of what stands around that part are right. The
+        form is the shape, the type and the fill value of its chunk."""
         codec, stages = chain[1], chain[2]
+        shape, of_type, fill = form
+        if not all(shape):
+            return self.damaged(value)
+        last = model.shapes_of(chain, shape, of_type)[-1]
         inner = model.undo_behind(chain, value)
         if stages and self.chance(0.5):
             at = self.random.randrange(len(stages))
@@ -380,23 +473,63 @@ class Run:
             return model.do_behind(([], None, stages[at + 1 :]), part)
         if codec[0] == "vlen" and len(inner) >= 8 and self.chance(0.7):
             stored, texts = model.split_vlen(codec, inner)
+            count, offset = math.prod(last), codec[3]
             if texts and self.chance(0.5):
-                texts = self.spoilt_at_depth(codec[2], texts)
+                length = model.read_offsets(codec, stored, count)[-1]
+                texts = self.spoilt_at_depth(codec[2], texts, ([length], model.UINT8, b"\0"))
             else:
-                stored = self.spoilt_at_depth(codec[1], stored)
+                stored = self.spoilt_at_depth(codec[1], stored, ([count + 1], offset, bytes(model.size_of(offset))))
             length = model.length_bytes(len(stored))
             inner = length + stored + texts if codec[4] == "start" else texts + stored + length
         elif codec[0] == "optional" and len(inner) >= 16 and self.chance(0.7):
             masks = int.from_bytes(inner[:8], "little")
             mask, data = inner[16 : 16 + masks], inner[16 + masks :]
             if data and self.chance(0.5):
-                data = self.spoilt_at_depth(codec[2], data)
+                count = model.decode_chain(codec[1], mask, last, model.BOOL, b"\0").count(b"\1")
+                data = self.spoilt_at_depth(codec[2], data, ([count], of_type[1], model.blank_fill(of_type[1])))
             else:
-                mask = self.spoilt_at_depth(codec[1], mask)
+                mask = self.spoilt_at_depth(codec[1], mask, (last, model.BOOL, b"\0"))
             inner = model.length_bytes(len(mask)) + model.length_bytes(len(data)) + mask + data
+        elif codec[0] == "sharding":
+            inner = self.spoilt_shard(codec, inner, (last, of_type, fill))
         else:
             inner = self.spoilt_content(codec, inner)
         return model.do_behind(chain, inner)
+
+    def spoilt_shard(self, codec, value, form):
+        """The value with a part of its index, an inner chunk or a number of its index spoilt, or cut."""
+        _, inner_shape, inner, index, place = codec
+        size, index_form = shard_index(codec, form)
+        if len(value) < size or self.chance(0.15):
+            return self.damaged(value)
+        stored, joined = (value[:size], value[size:]) if place == "start" else (value[len(value) - size :], value[: len(value) - size])
+        if self.chance(0.25):
+            stored = self.spoilt_at_depth(index, stored, index_form)
+            return stored + joined if place == "start" else joined + stored
+        numbers = [int.from_bytes(it, "little") for it in model.decode_chain(index, stored, *index_form)]
+        spans, first = list(zip(numbers[::2], numbers[1::2])), size if place == "start" else 0
+        there = [number for number, span in enumerate(spans) if span != (model.MOST, model.MOST)]
+        if there and self.chance(0.5):
+            # an inner chunk, behind all others
+            number = self.pick(there)
+            at, many = spans[number]
+            part = self.spoilt_at_depth(inner, value[at : at + many], (inner_shape, *form[1:]))
+            spans[number] = first + len(joined), len(part)
+            return joined_shard(codec, form, joined + part, spans)
+        return joined_shard(codec, form, joined, self.spoilt_spans(spans, len(value)))
+
+    def spoilt_spans(self, spans, length):
+        """The spans of inner chunks with others for one or two of them."""
+        for _ in range(self.random.randint(1, 2)):
+            at = self.random.randrange(len(spans))
+            begin, many = spans[at]
+            some = (0, 1, length, length + 1, model.MOST, model.MOST - 1, 2**63, 2**32)
+            spans[at] = self.pick((
+                (self.pick((*some, begin + 1, begin - 1)), many), (begin, self.pick((*some, many + 1, many - 1))), (model.MOST, model.MOST),
+                (model.MOST, self.pick((0, 1, many))), (0, model.MOST), (length - many, many), (length - many + 1, many), self.pick(spans), (length, 0),
+                (length + 1, 0), (model.MOST - many + 1, many), (begin, length - begin),
+            ))
+        return [(max(begin, 0) % 2**64, max(many, 0) % 2**64) for begin, many in spans]
 
     def spoilt_content(self, codec, value):
         """The value with another number in a place of its layout."""
@@ -492,8 +625,8 @@ class Run:
 
     def spoilt_value(self, value):
         try:
-            return self.spoilt_at_depth(self.session.chain, value)
-        except model.Refused:
+            return self.spoilt_at_depth(self.session.chain, value, self.session.form)
+        except (model.Refused, model.TooLarge):
             return self.damaged(value)
 
     # -- Lines
@@ -537,6 +670,8 @@ class Run:
             many = self.pick((0, 1))
         many = max(0, many + self.pick((1, -1))) if self.chance(0.04) else many
         data = self.elements([self.element(self.session.type) for _ in range(many)])
+        if has_shards(self.session.chain) and self.chance(0.3):
+            data = [self.tree_of(model.element_of_fill(self.session.fill, self.session.type))] * many
         if self.chance(0.07):
             at = self.pick(({"ranges": [[1, 0]] * len(self.session.shape)}, {"indices": [[0]]}, {"indices": [[2**32] * len(self.session.shape)]}, {"ranges": []}, at))
             data = self.wrong_elements([self.tree_of(self.element(self.session.type)) for _ in range(self.few(3))])

@@ -33,6 +33,7 @@ NAMES = {
     "zarrs.optional": "optional",
     "optional": "optional",
     PAGES + "/array_to_bytes/optional": "optional",
+    "sharding_indexed": "sharding",
     "vlen-utf8": "vlen-utf8",
     "vlen-bytes": "vlen-bytes",
     "crc32c": "crc32c",
@@ -40,7 +41,7 @@ NAMES = {
     "sample.length": "sample.length",
 }
 TO_ARRAY = ("transpose", "reshape", "squeeze")
-TO_BYTES = ("bytes", "packbits", "vlen", "optional", "vlen-utf8", "vlen-bytes")
+TO_BYTES = ("bytes", "packbits", "vlen", "optional", "sharding", "vlen-utf8", "vlen-bytes")
 
 
 class Refused(Exception):
@@ -162,7 +163,7 @@ def named_types():
 
 
 TYPES = named_types()
-BOOL, UINT8 = TYPES["bool"], TYPES["uint8"]
+BOOL, UINT8, UINT64 = TYPES["bool"], TYPES["uint8"], TYPES["uint64"]
 # the codecs whose elements stand each behind its length, and the one type of each
 PREFIXED = {"vlen-utf8": TYPES["string"], "vlen-bytes": TYPES["bytes"]}
 
@@ -217,14 +218,19 @@ def count_of(shape):
     return counted(math.prod(shape))
 
 
-def require_elements(count, shape, of_type):
-    """As many elements as the chunk has, which has as many as 64 bits count, and their bytes or offsets."""
+def require_room(shape, of_type):
+    """How many elements the chunk has, which 64 bits count, and their bytes or offsets."""
     inside = of_type
     while inside[0] == "optional":
         inside = inside[1]
-    wanted = count_of(shape)
-    counted(wanted + 1 if inside[0] == "variable" else wanted * size_of(inside))
-    require(count == wanted, "InvalidBytesLength")
+    count = count_of(shape)
+    counted(count + 1 if inside[0] == "variable" else count * size_of(inside))
+    return count
+
+
+def require_elements(count, shape, of_type):
+    """As many elements as the chunk has."""
+    require(count == require_room(shape, of_type), "InvalidBytesLength")
 
 
 # -- Metadata and codecs ---------------------------------------------------------------------------------------------
@@ -294,6 +300,15 @@ def make_optional(said):
     return ("optional", make_chain(mask), make_chain(data))
 
 
+def make_sharding(said):
+    shape, place = said.get("chunk_shape"), said.get("index_location", "end")
+    valid(is_numbers(shape))
+    inner, index = read_list(said.get("codecs")), read_list(said.get("index_codecs"))
+    valid(isinstance(place, str) and place in ("start", "end"))
+    require(0 not in shape, "ZeroSize")
+    return ("sharding", shape, make_chain(inner), make_chain(index), place)
+
+
 def make_codec(name, said):
     require(name in NAMES, "UnknownName")
     makers = {
@@ -303,6 +318,7 @@ def make_codec(name, said):
         "packbits": make_packbits,
         "vlen": make_vlen,
         "optional": make_optional,
+        "sharding": make_sharding,
     }
     kind = NAMES[name]
     return makers[kind](said) if kind in makers else (kind,)
@@ -400,12 +416,51 @@ def require_fit(chain, shape, of_type, fill):
     elif codec[0] in PREFIXED:
         require(of_type == PREFIXED[codec[0]], "UnsupportedDataType")
         count_of(shape)
+    elif codec[0] == "sharding":
+        require_fit_of_shard(codec, shape, of_type, fill)
     else:
         require(of_type[0] == "optional", "UnsupportedDataType")
         require(does_fit(fill, of_type), "InvalidFillValue")
         count_of(shape)
         require_fit(codec[1], shape, BOOL, b"\0")
         require_fit(codec[2], shape, of_type[1], blank_fill(of_type[1]))
+
+
+def require_fit_of_shard(codec, shape, of_type, fill):
+    """Of sharding_indexed."""
+    _, inner_shape, inner, index, _ = codec
+    require(len(inner_shape) == len(shape), "IncompatibleDimensionality")
+    require(all(size % part == 0 for size, part in zip(shape, inner_shape)), "IndivisibleShape")
+    require_room(shape, of_type)
+    require_fit(inner, inner_shape, of_type, fill)
+    element = element_of_fill(fill, of_type)
+    require(kept(inner, element, of_type) == element, "InvalidFillValue")
+    require_fit(index, index_shape(codec, shape), UINT64, bytes(8))
+    require(index[1][0] in ("bytes", "packbits"), "IndexNotFixed")
+
+
+def index_shape(codec, shape):
+    return [size // part for size, part in zip(shape, codec[1])] + [2]
+
+
+def has_bits(codec, of_type):
+    """Whether packbits has a range of bits in a type."""
+    try:
+        return of_type[0] == "fixed" and bool(kept_bits(codec, of_type))
+    except Refused:
+        return False
+
+
+def kept(chain, element, of_type):
+    """What a chain keeps of an element: all of it, where its array-to-bytes codec doesn't take the type."""
+    codec = chain[1]
+    if codec[0] == "packbits" and has_bits(codec, of_type):
+        return decode_fixed(codec, encode_fixed(codec, [element], of_type), 1, of_type)[0]
+    if codec[0] == "vlen" and of_type[0] == "variable":
+        return b"".join(kept(codec[2], bytes([byte]), UINT8) for byte in element)
+    if codec[0] == "optional" and of_type[0] == "optional":
+        return None if element is None else [kept(codec[2], element[0], of_type[1])]
+    return kept(codec[2], element, of_type) if codec[0] == "sharding" else element
 
 
 # -- Coordinate maps -------------------------------------------------------------------------------------------------
@@ -648,6 +703,55 @@ def decode_prefixed(value, count):
     return elements
 
 
+# -- sharding_indexed ------------------------------------------------------------------------------------------------
+
+
+def inner_places(codec, shape):
+    """Of each inner chunk the places of its elements."""
+    counts = index_shape(codec, shape)[:-1]
+    for block in itertools.product(*map(range, counts)):
+        starts = [number * part for number, part in zip(block, codec[1])]
+        rows = [range(start, start + part) for start, part in zip(starts, codec[1])]
+        yield [place_of(it, shape) for it in itertools.product(*rows)]
+
+
+def encode_shard(codec, chunk, shape, of_type, fill):
+    _, inner_shape, inner, index, place = codec
+    sizes, blank = index_shape(codec, shape), element_of_fill(fill, of_type)
+    size = len(encode_chain(index, [bytes(8)] * made(math.prod(sizes)), sizes, UINT64, bytes(8)))
+    at, parts, numbers = size if place == "start" else 0, [], []
+    for places in inner_places(codec, shape):
+        elements = [chunk[it] for it in places]
+        if all(kept(inner, it, of_type) == blank for it in elements):
+            numbers += [MOST, MOST]
+            continue
+        parts.append(encode_chain(inner, elements, inner_shape, of_type, fill))
+        numbers += [at, len(parts[-1])]
+        at += len(parts[-1])
+    rows = [it.to_bytes(8, "little") for it in numbers]
+    stored = encode_chain(index, rows, sizes, UINT64, bytes(8))
+    require(all(kept(index, it, UINT64) == it for it in rows), "OffsetNotKept")
+    joined = b"".join(parts)
+    return stored + joined if place == "start" else joined + stored
+
+
+def decode_shard(codec, value, shape, of_type, fill):
+    _, inner_shape, inner, index, place = codec
+    sizes = index_shape(codec, shape)
+    size = len(encode_chain(index, [bytes(8)] * made(math.prod(sizes)), sizes, UINT64, bytes(8)))
+    require(len(value) >= size, "InvalidBytesLength")
+    stored = value[:size] if place == "start" else value[len(value) - size :]
+    numbers = [int.from_bytes(it, "little") for it in decode_chain(index, stored, sizes, UINT64, bytes(8))]
+    chunk = [element_of_fill(fill, of_type)] * made(count_of(shape))
+    for places, at, many in zip(inner_places(codec, shape), numbers[::2], numbers[1::2]):
+        if at == many == MOST:
+            continue
+        require(at + many <= len(value), "InvalidByteRange")
+        for it, element in zip(places, decode_chain(inner, value[at : at + many], inner_shape, of_type, fill)):
+            chunk[it] = element
+    return chunk
+
+
 # -- Chains ----------------------------------------------------------------------------------------------------------
 
 
@@ -662,6 +766,8 @@ def encode_chain(chain, chunk, shape, of_type, fill):
         value = encode_optional(codec, chunk, last, of_type)
     elif codec[0] in PREFIXED:
         value = encode_prefixed(chunk)
+    elif codec[0] == "sharding":
+        value = encode_shard(codec, chunk, last, of_type, fill)
     else:
         value = encode_fixed(codec, chunk, of_type)
     return do_behind(chain, value)
@@ -712,7 +818,7 @@ def undo_behind(chain, value):
     return value
 
 
-def decode_content(chain, value, shape, of_type):
+def decode_content(chain, value, shape, of_type, fill):
     """The chunk, as the array-to-bytes codec got it."""
     codec, last = chain[1], shapes_of(chain, shape, of_type)[-1]
     if codec[0] == "vlen":
@@ -721,12 +827,14 @@ def decode_content(chain, value, shape, of_type):
         return decode_optional(codec, value, last, of_type)
     if codec[0] in PREFIXED:
         return decode_prefixed(value, count_of(last))
+    if codec[0] == "sharding":
+        return decode_shard(codec, value, last, of_type, fill)
     return decode_fixed(codec, value, count_of(last), of_type)
 
 
 def decode_chain(chain, value, shape, of_type, fill):
     require_fit(chain, shape, of_type, fill)
-    chunk = decode_content(chain, undo_behind(chain, value), shape, of_type)
+    chunk = decode_content(chain, undo_behind(chain, value), shape, of_type, fill)
     return moved_back(chain, chunk, shape, of_type)
 
 
@@ -821,15 +929,15 @@ class Session:
     def elements_at(self, indexer):
         """What a decoder in part reads. What it keeps is decoded before the places are looked at."""
         codec = self.chain[1]
-        is_kept = codec[0] in ("optional", *PREFIXED) or codec[0] == "vlen" and not is_plain(codec)
+        is_kept = codec[0] in ("optional", "sharding", *PREFIXED) or codec[0] == "vlen" and not is_plain(codec)
         value = None if self.stored is None else undo_behind(self.chain, self.stored)
-        kept = decode_content(self.chain, value, self.shape, self.type) if is_kept and value is not None else None
+        chunk = decode_content(self.chain, value, *self.form) if is_kept and value is not None else None
         places = places_in(indexer, self.shape)
         if value is None:
             return [element_of_fill(self.fill, self.type)] * len(places)
         last = last_places(self.chain, places, self.shape, self.type)
         if is_kept:
-            return [kept[place] for place in last]
+            return [chunk[place] for place in last]
         if codec[0] == "vlen":
             return texts_at(codec, value, last, count_of(self.shape))
         return [element_at(codec, value, place, self.type) for place in last]

@@ -61,22 +61,44 @@ static void add_fixed(fuzzer *f, char *text, size_t *len)
             (int)some(f, 9));
 }
 
-void add_codecs(fuzzer *f, char *text, size_t *len, const header *h, size_t levels)
+static void add_list(fuzzer *f, char *text, size_t *len, const header *h, size_t levels, const uint64_t *sizes, size_t axes,
+                     bool is_inner);
+
+/* Inner chunks, few of them: of each axis the whole, a half, or each by itself. */
+static void add_shards(fuzzer *f, char *text, size_t *len, const header *h, const uint64_t *shape, size_t axes)
+{
+    uint64_t part[AXES] = {0};
+    add(text, len, "{\"name\":\"sharding_indexed\",\"configuration\":{\"chunk_shape\":[");
+    for (size_t i = 0; i < axes; i++) {
+        part[i] = some(f, 2) ? shape[i] : shape[i] % 2 == 0 ? shape[i] / 2 : shape[i] < 4 ? 1 : shape[i];
+        add(text, len, "%s%d", i ? "," : "", (int)part[i]);
+    }
+    add(text, len, "],\"codecs\":");
+    add_list(f, text, len, h, h->levels, part, axes, true);
+    add(text, len, ",\"index_codecs\":[{\"name\":\"bytes\",\"configuration\":{\"endian\":\"%s\"}}%s]", some(f, 3) ? "little" : "big",
+        some(f, 2) ? ",\"crc32c\"" : "");
+    add(text, len, ",\"index_location\":\"%s\"}}", some(f, 2) ? "start" : "end");
+}
+
+static void add_list(fuzzer *f, char *text, size_t *len, const header *h, size_t levels, const uint64_t *sizes, size_t axes,
+                     bool is_inner)
 {
     uint64_t shape[AXES] = {0};
-    size_t axes = h->axes, one = 1;
-    memcpy(shape, h->shape, sizeof shape);
+    size_t one = 1;
+    memcpy(shape, sizes, sizeof shape);
     if (levels < h->levels) /* elements that are there, in a row */
         axes = 1;
     add(text, len, "[");
     if (levels == h->levels)
         add_moves(f, text, len, shape, &axes);
-    if (levels > 0) {
+    if (levels == h->levels && !is_inner && some(f, 4) == 0) {
+        add_shards(f, text, len, h, shape, axes);
+    } else if (levels > 0) {
         add(text, len, "{\"name\":\"zarrs.optional\",\"configuration\":{\"mask_codecs\":[");
         if (levels == h->levels)
             add_moves(f, text, len, shape, &axes);
         add(text, len, "\"%s\"],\"data_codecs\":", some(f, 2) ? "bytes" : "packbits");
-        add_codecs(f, text, len, h, levels - 1);
+        add_list(f, text, len, h, levels - 1, sizes, axes, is_inner);
         add(text, len, "}}");
     } else if (h->size) {
         add_fixed(f, text, len);
@@ -88,7 +110,12 @@ void add_codecs(fuzzer *f, char *text, size_t *len, const header *h, size_t leve
         add(text, len, "],\"data_codecs\":[\"%s\"],\"index_data_type\":\"uint%d\",\"index_location\":\"%s\"}}",
             some(f, 3) ? "bytes" : "packbits", some(f, 2) ? 32 : 64, some(f, 2) ? "start" : "end");
     }
-    add(text, len, "]");
+    add(text, len, is_inner && levels == h->levels && some(f, 3) == 0 ? ",\"crc32c\"]" : "]");
+}
+
+void add_codecs(fuzzer *f, char *text, size_t *len, const header *h, size_t levels)
+{
+    add_list(f, text, len, h, levels, h->shape, h->axes, false);
 }
 
 /* A header of a small chunk; now and then a spoilt one. */
