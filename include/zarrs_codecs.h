@@ -82,7 +82,7 @@ enum zarrs_code {
     ZARRS_INCOMPATIBLE_DIMENSIONALITY = 16, /* axes of a selection or an order differ from the shape's */
     ZARRS_OUT_OF_BOUNDS = 17, /* a selection outside the shape */
     ZARRS_OVERFLOW = 18, /* a product or sum passes 2^64 - 1 */
-    ZARRS_INVALID_FILL_VALUE = 19, /* the fill value doesn't fit the type */
+    ZARRS_INVALID_FILL_VALUE = 19, /* it doesn't fit the type, or inner codecs change it */
     ZARRS_RESHAPE_DIMENSION = 20, /* an input axis that isn't there */
     ZARRS_RESHAPE_ELEMENTS = 21, /* the number of elements changes */
     ZARRS_BIT_RANGE = 22, /* bits outside the component, or none */
@@ -90,7 +90,7 @@ enum zarrs_code {
     ZARRS_INDEX_LENGTH = 24, /* longer than the value */
     ZARRS_INVALID_OFFSETS = 25, /* offsets are missing, fall, or end elsewhere */
     ZARRS_OFFSET_TOO_LARGE = 26, /* doesn't fit 32 bits */
-    ZARRS_OFFSET_NOT_KEPT = 27, /* the index codecs change an offset */
+    ZARRS_OFFSET_NOT_KEPT = 27, /* the index codecs change an offset, or a size */
     ZARRS_MASK_VALUE = 28, /* neither 0 nor 1 */
     ZARRS_HEADER_OVERFLOW = 29, /* two lengths pass 2^64 - 1 */
     ZARRS_INVALID_BYTE_RANGE = 30, /* a range ends past the bytes: a value is too short */
@@ -108,7 +108,7 @@ enum zarrs_code {
     ZARRS_MULTIPLE_ARRAY_TO_BYTES = 53, /* more than one array-to-bytes codec */
     ZARRS_BIT_ORDER = 54, /* a bit range ends before it starts */
     ZARRS_MULTIPLE_AUTO = 55, /* several automatic sizes */
-    ZARRS_ZERO_SIZE = 56, /* a size of a reshape is zero */
+    ZARRS_ZERO_SIZE = 56, /* a size of a reshape, or of an inner chunk, is zero */
     ZARRS_NOT_A_PERMUTATION = 57 /* an order that doesn't name each axis once */
 };
 

@@ -61,7 +61,8 @@ def test_a_code_of_no_name():
     "name, codecs, shape, data_type",
     [
         ("UnknownName", ["adler32"], (4,), "int32"),
-        ("UnknownName", ["sharding_indexed"], (4,), "int32"),
+        ("UnknownName", ["sharding"], (4,), "int32"),
+        ("InvalidConfiguration", ["sharding_indexed"], (4,), "int32"),
         ("UnknownName", [LITTLE, "adler32"], (4,), "int32"),
         ("UnknownName", ["gzip", LITTLE], (4,), "int32"),
         ("MissingArrayToBytes", [], (4,), "int32"),
@@ -188,6 +189,14 @@ def texts(**changes):
     return {**VLEN, "configuration": {**VLEN["configuration"], **changes}}
 
 
+def shards(**changes):
+    said = {"chunk_shape": [2], "codecs": [LITTLE], "index_codecs": [LITTLE], **changes}
+    return {"name": "sharding_indexed", "configuration": said}
+
+
+SHARD = (0, "sharding_indexed")
+
+
 def without(codec, key):
     configuration = {name: value for name, value in codec["configuration"].items() if name != key}
     return {**codec, "configuration": configuration}
@@ -233,6 +242,19 @@ INT, TEXT, MASKED = "int32", "string", {"optional": "int32"}
             (("data_codecs", 0, "zarrs.vlen"), ("index_codecs", 0, "transpose")),
             "order",
         ),
+        ([shards(codecs=[LITTLE, "adler32"])], (4,), INT, "UnknownName", SHARD, (("codecs", 1, "adler32"),), None),
+        ([shards(index_codecs=["adler32"])], (4,), INT, "UnknownName", SHARD, (("index_codecs", 0, "adler32"),), None),
+        ([shards(codecs=["bytes"])], (4,), INT, "EndiannessMissing", SHARD, (("codecs", 0, "bytes"),), "endian"),
+        ([shards(index_codecs=["bytes"])], (4,), INT, "EndiannessMissing", SHARD, (("index_codecs", 0, "bytes"),), "endian"),
+        ([shards(chunk_shape=[3])], (4,), INT, "IndivisibleShape", SHARD, (), "chunk_shape"),
+        ([shards(chunk_shape=[2, 2])], (4,), INT, "IncompatibleDimensionality", SHARD, (), "chunk_shape"),
+        ([shards(chunk_shape=[0])], (4,), INT, "ZeroSize", SHARD, (), "chunk_shape"),
+        ([shards(index_location="middle")], (4,), INT, "InvalidConfiguration", SHARD, (), "index_location"),
+        ([without(shards(), "codecs")], (4,), INT, "InvalidConfiguration", SHARD, (), "codecs"),
+        ([shards(codecs=[packed(first_bit=1, last_bit=32)])], (4,), INT, "BitRange", SHARD, (("codecs", 0, "packbits"),), "last_bit"),
+        ([shards(index_codecs=[shards(chunk_shape=[1, 1])])], (4,), INT, "IndexNotFixed", SHARD, (("index_codecs", 0, "sharding_indexed"),), None),
+        ([transpose([1, 0]), shards(chunk_shape=[3, 1])], (2, 4), INT, "IndivisibleShape", (1, "sharding_indexed"), (), "chunk_shape"),
+        ([masks(["packbits"], shards(codecs=["bytes"]))], (4,), MASKED, "EndiannessMissing", (0, "zarrs.optional"), (("data_codecs", 0, "sharding_indexed"), ("codecs", 0, "bytes")), "endian"),
         ([LITTLE], (2**40, 2**40), INT, "Overflow", None, (), None),
     ],
 )
@@ -388,8 +410,10 @@ def test_any_spoilt_chain_raises_a_refusal_or_is_made():
         ([masks([packed(first_bit=0)], texts())], {"name": "zarrs.optional", "configuration": {"name": "string"}}, ["a"]),
         ([packed(padding_encoding="last_byte", last_bit=1)], "uint4", 3),
         ([LITTLE], "complex64", [0, "NaN"]),
+        ([shards(chunk_shape=[1, 3], codecs=[LITTLE, "crc32c"])], "int32", 7),
+        ([shards(chunk_shape=[2, 1], codecs=[LITTLE, {"name": "gzip", "configuration": {"level": 1}}])], "int32", 7),
     ]
-    for number in range(1500):
+    for number in range(2000):
         said = list(whole[rng.integers(len(whole))])
         for _ in range(rng.integers(1, 3)):
             said = spoilt(rng, said)

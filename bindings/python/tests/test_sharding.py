@@ -1,4 +1,8 @@
-"""Shards: worked values of the codec `sharding_indexed`, random ones beside numpy, what a read asks for, and damage."""
+"""Shards: worked values of the codec `sharding_indexed`, random ones beside numpy, what a read asks for, and damage.
+
+The library runs the codec; where inner chunks have codecs of Python, and for reads of parts, Python cuts the chunk. What
+both do is tested of both.
+"""
 
 import gzip
 import pickle
@@ -15,13 +19,14 @@ from samples import (
     same_masked,
     some,
     some_index,
+    some_region,
     some_rows,
     some_texts,
     transpose,
 )
 
 import zarrs_codecs as z
-from zarrs_codecs import Array
+from zarrs_codecs import Array, Chain
 from zarrs_codecs._sharding import ShardedChain
 
 GZIP = {"name": "gzip", "configuration": {"level": 1}}
@@ -33,8 +38,19 @@ def sharded(chunk_shape, codecs, index_codecs=(LITTLE,), **more):
     return [{"name": "sharding_indexed", "configuration": said}]
 
 
-def test_a_value_with_its_index_behind():
-    chain = ShardedChain(sharded([2, 2], ["bytes", "crc32c"], [LITTLE, "crc32c"]), (4, 4), "uint8", 0)
+def composed(*form):
+    """A chain for which Python cuts and joins, though all codecs are the library's."""
+    chain = ShardedChain(*form)
+    chain._whole = None
+    return chain
+
+
+EACH = pytest.mark.parametrize("make", [Chain, ShardedChain, composed])
+
+
+@EACH
+def test_a_value_with_its_index_behind(make):
+    chain = make(sharded([2, 2], ["bytes", "crc32c"], [LITTLE, "crc32c"]), (4, 4), "uint8", 0)
     chunk = np.array([[1, 2, 0, 0], [3, 4, 0, 0], [0, 0, 0, 0], [0, 0, 0, 9]], "u1")
     value = chain.encode(chunk)
     assert bytes(value).hex() == (
@@ -48,11 +64,13 @@ def test_a_value_with_its_index_behind():
         "000000090b90d530ffffffffffffffffffffffffffffffffffffffffffffffffffffffffffffffffffffffffffffffff"
         "ffffffffffffffff00000000000000000800000000000000469ca9c0"
     )
-    assert chain.unproved == ("sharding_indexed",) and chain.representation == ("bounded", 4 * 8 + 68)
+    assert chain.unproved == (() if make is Chain else ("sharding_indexed",))
+    assert chain.representation == ("bounded", 4 * 8 + 68)
 
 
-def test_a_value_with_its_index_before():
-    chain = ShardedChain(sharded([2, 4], ["bytes"], index_location="start"), (4, 4), "uint8", 255)
+@EACH
+def test_a_value_with_its_index_before(make):
+    chain = make(sharded([2, 4], ["bytes"], index_location="start"), (4, 4), "uint8", 255)
     chunk = np.array([[255] * 4, [255] * 4, [1, 2, 3, 4], [5, 6, 7, 8]], "u1")
     value = chain.encode(chunk)
     assert bytes(value).hex() == (
@@ -61,16 +79,21 @@ def test_a_value_with_its_index_before():
     same(chain.read(value, [[3, 0], [0, 0], [2, 3]]), np.array([5, 255, 4], "u1"))
     damaged = value.copy()
     damaged[24] = 9
-    with pytest.raises(z.InvalidByteRange, match="inner chunk 1"):
+    with pytest.raises(z.InvalidByteRange, match=None if make is Chain else "inner chunk 1"):
         chain.decode(damaged)
-    same(chain.read(damaged, [[0, 0]]), np.array([255], "u1"))
+    if make is Chain:
+        with pytest.raises(z.InvalidByteRange):
+            chain.read(damaged, [[0, 0]])
+    else:
+        same(chain.read(damaged, [[0, 0]]), np.array([255], "u1"))
     with pytest.raises(z.InvalidBytesLength):
         chain.decode(b"\0")
 
 
-def test_shards_in_shards():
+@EACH
+def test_shards_in_shards(make):
     inside = sharded([1], [LITTLE])
-    chain = ShardedChain(sharded([2], inside), (4,), "uint16", 0)
+    chain = make(sharded([2], inside), (4,), "uint16", 0)
     value = chain.encode([0, 1, 0, 0])
     assert bytes(value).hex() == (
         "0100ffffffffffffffffffffffffffffffff0000000000000000020000000000000000000000000000002200000000000000"
@@ -78,7 +101,18 @@ def test_shards_in_shards():
     )
     same(chain.decode(value), np.array([0, 1, 0, 0], "u2"))
     same(chain.read(value, np.s_[::-1]), np.array([0, 0, 1, 0], "u2"))
-    assert chain.unproved == ("sharding_indexed", "sharding_indexed")
+    assert chain.unproved == (() if make is Chain else ("sharding_indexed", "sharding_indexed"))
+
+
+def test_texts_behind_an_order_of_the_axes():
+    chain = Chain([transpose([1, 0]), *sharded([1, 2], ["vlen-utf8"])], (2, 2), "string", "")
+    array = np.array([["a", ""], ["bc", ""]], object)
+    value = chain.encode(array)
+    assert bytes(value).hex() == (
+        "02000000010000006102000000626300000000000000000f00000000000000ffffffffffffffffffffffffffffffff"
+    )
+    same(chain.decode(value), array)
+    assert chain.unproved == () and chain.representation == ("unbounded", None)
 
 
 @pytest.mark.parametrize(
@@ -102,6 +136,11 @@ def test_what_is_refused(shape, codecs, fill, refusal, tmp_path):
     with pytest.raises(refusal) as refused:
         make_array(tmp_path / "a", shape, shape, "uint8", codecs, fill)
     assert refused.value.codec == (0, "sharding_indexed") and refused.value.path == tmp_path / "a" / "zarr.json"
+    # the library doesn't know the codecs of an index that are Python's
+    by_the_library = z.UnknownName if GZIP in codecs[0].get("configuration", {}).get("index_codecs", []) else refusal
+    with pytest.raises(by_the_library) as refused:
+        Chain(codecs, shape, "uint8", fill)
+    assert refused.value.codec == (0, "sharding_indexed")
 
 
 def test_a_refusal_says_where():
@@ -109,10 +148,100 @@ def test_a_refusal_says_where():
         ShardedChain(sharded([2], ["bytes", "adler32"]), (4,), "uint8")
 
 
-def test_lossy_inner_chunks_are_left_out_by_their_normal_forms():
-    chain = ShardedChain(sharded([2], [PACKED]), (4,), "uint8", 1)
+@EACH
+def test_lossy_inner_chunks_are_left_out_by_their_normal_forms(make):
+    chain = make(sharded([2], [PACKED]), (4,), "uint8", 1)
     assert bytes(chain.encode([0x11, 0xF1, 1, 2])) == bytes(chain.encode([1, 1, 1, 2]))
     same(chain.decode(chain.encode([0x11, 0xF1, 1, 2])), np.array([1, 1, 1, 2], "u1"))
+
+
+ALONE = [
+    ("int16", [transpose([1, 0]), LITTLE], -3),
+    ("float64", [LITTLE, "crc32c"], "NaN"),
+    ("bool", ["packbits"], True),
+    ("string", ["vlen-utf8"], "?"),
+    ("string", [VLEN], ""),
+    ({"optional": "int16"}, [optional(LITTLE)], None),
+    ("uint8", [{"name": "packbits", "configuration": {"first_bit": 2, "last_bit": 4}}], 12),
+    ("int32", sharded([1, 3], [LITTLE, "crc32c"], index_location="start"), 7),
+]
+
+
+def chunk_of(rng, name, chain):
+    """Random elements, most of them the fill value."""
+    fill = chain.read(None, (0,) * len(chain.shape))
+    array = chain.read(None, ...)
+    for _ in range(rng.integers(4)):
+        place = some_region(rng, chain.shape)
+        shape = array[place].shape
+        if name == "string":
+            array[place] = some_texts(rng, shape)
+        elif isinstance(name, dict):
+            array[place] = np.ma.MaskedArray(some(rng, "int16", np.dtype("i2"), shape), rng.integers(2, size=shape))
+        else:
+            array[place] = np.where(rng.integers(3, size=shape) == 0, fill, some(rng, name, chain.dtype, shape))
+    return array
+
+
+@pytest.mark.parametrize("location", ["start", "end"])
+@pytest.mark.parametrize("name, codecs, fill", ALONE)
+def test_the_library_and_python_agree(name, codecs, fill, location, rng):
+    """Random chunks, reads and writes: the same values and elements."""
+    alike = same_masked if isinstance(name, dict) else same
+    for _ in range(25):
+        grid = rng.integers(1, 4, 2)
+        said = sharded([2, 3], codecs, [LITTLE, "crc32c"] if rng.integers(2) else [LITTLE], index_location=location)
+        form = said, tuple(int(size) for size in grid * [2, 3]), name, fill
+        whole, parts, alone = Chain(*form), ShardedChain(*form), composed(*form)
+        array = chunk_of(rng, name, whole)
+        value = whole.encode(array)
+        kept = whole.decode(value)
+        if "packbits" not in str(codecs):
+            alike(kept, array)
+        index, rows = some_index(rng, whole.shape), some_rows(rng, whole.shape)
+        new = chunk_of(rng, name, whole)[index]
+        written = whole.write(value, index, new)
+        for chain in (parts, alone):
+            same(chain.encode(array), value)
+            alike(chain.decode(value), kept)
+            for selection in (index, rows, ...):
+                alike(chain.read(value, selection), whole.read(value, selection))
+                alike(chain.read_from(RecordingFile(value), selection), whole.read(value, selection))
+                alike(chain.read(None, selection), whole.read(None, selection))
+            same(chain.write(value, index, new), written)
+            same(chain.write(None, index, new), whole.write(None, index, new))
+            other = [LITTLE] if isinstance(name, str) and name != "string" else said
+            same(chain.reencode(value, other), whole.reencode(value, other))
+
+
+def test_chains_with_codecs_of_python_inside(rng):
+    array = some(rng, "int16", np.dtype("i2"), (4, 4)).copy()
+    array[:2, :2] = 5
+    said = sharded([2, 2], [LITTLE, GZIP])
+    chain = Chain(said, (4, 4), "int16", 5)
+    assert isinstance(chain, ShardedChain) and chain.unproved == ("sharding_indexed", "gzip")
+    value = chain.encode(array)
+    same(chain.decode(value), array)
+    same(pickle.loads(pickle.dumps(chain)).decode(value), array)
+    whole = Chain(sharded([2, 2], [LITTLE]), (4, 4), "int16", 5)
+    assert type(whole) is Chain
+    same(chain.reencode(value, whole.codecs), whole.encode(array))
+    same(whole.reencode(whole.encode(array), said), value)
+    with pytest.raises(z.UnknownName, match="Python runs gzip"):
+        Chain([transpose([1, 0]), *said], (4, 4), "int16")
+
+
+def test_an_array_whose_shards_stand_between_other_codecs(tmp_path, rng):
+    codecs = [transpose([1, 0]), *sharded([3, 2], [LITTLE, "crc32c"]), "crc32c"]
+    array = Array.create(tmp_path / "a", (5, 7), (4, 6), "int16", fill_value=-1, codecs=codecs)
+    beside = np.full((5, 7), -1, "i2")
+    for _ in range(20):
+        index = some_index(rng, array.shape)
+        new = some(rng, "int16", np.dtype("i2"), beside[index].shape)
+        array[index] = beside[index] = new[()]
+        index = some_index(rng, array.shape)
+        same(Array(tmp_path / "a")[index], beside[index])
+    assert array.chain.unproved == () and array.info["Python's codecs"] == []
 
 
 INSIDE = [
@@ -162,8 +291,19 @@ def test_a_read_asks_for_the_index_and_its_inner_chunks(rng):
     assert file.seen == index | set(range(first[0], sum(first)))
 
 
-def test_inner_chunks_in_any_order_with_gaps_and_twice():
-    chain = ShardedChain(sharded([2], ["bytes"]), (6,), "uint8", 0)
+def test_a_read_of_all_inner_chunks_is_the_librarys(rng):
+    chain = ShardedChain(sharded([4, 4], ["bytes"]), (8, 8), "uint8", 7)
+    chunk = some(rng, "uint8", np.dtype("u1"), (8, 8))
+    value, asked = chain.encode(chunk), []
+    chain._whole._read_inner = lambda inner, selection, out=None: asked.append(selection) or chunk[selection]
+    same(chain.read(value, np.s_[3:5, ::4]), chunk[3:5, ::4])
+    same(chain.read(value, np.s_[:4, 2]), chunk[:4, 2])
+    assert asked == [np.s_[3:5, ::4]]
+
+
+@EACH
+def test_inner_chunks_in_any_order_with_gaps_and_twice(make):
+    chain = make(sharded([2], ["bytes"]), (6,), "uint8", 0)
     parts = b"\7\7zz\1\2x"
     index = np.array([[4, 2], [0, 2], [4, 2]], "<u8").tobytes()
     same(chain.decode(parts + index), np.array([1, 2, 7, 7, 1, 2], "u1"))
@@ -171,8 +311,9 @@ def test_inner_chunks_in_any_order_with_gaps_and_twice():
     assert bytes(written[:6]) == b"\x09\2\7\7\1\2"
 
 
-def test_damage_of_each_byte():
-    chain = ShardedChain(sharded([2], ["bytes", "crc32c"], [LITTLE, "crc32c"]), (6,), "uint8", 0)
+@EACH
+def test_damage_of_each_byte(make):
+    chain = make(sharded([2], ["bytes", "crc32c"], [LITTLE, "crc32c"]), (6,), "uint8", 0)
     value = chain.encode([1, 2, 0, 0, 3, 4])
     for place in range(value.size):
         damaged = value.copy()

@@ -173,7 +173,7 @@ SHARDS = {
 @pytest.mark.parametrize(
     "codecs, data_type, codec",
     [
-        ([SHARDS], "int32", (0, "sharding_indexed")),
+        ([SHARDS, "crc32c"], "int32", (0, "sharding_indexed")),
         ([LITTLE, {"name": "adler32"}], "int32", (1, "adler32")),
         ([{"name": "numcodecs.delta", "configuration": {}}, LITTLE], "int32", (0, "numcodecs.delta")),
     ],
@@ -183,6 +183,17 @@ def test_codecs_that_do_not_open_are_named(codecs, data_type, codec):
     with pytest.raises(z.UnknownName) as told:
         Chain(codecs, (4, 4), data_type)
     assert told.value.codec == codec
+
+
+@numcodecs_alone
+def test_shards_as_zarr_python_writes_them():
+    chain = Chain([SHARDS], (4, 4), "int32", 3)
+    array = np.arange(16, dtype="i4").reshape(4, 4)
+    array[2:, 2:] = 3
+    value = chain.encode(array)
+    same(chain.decode(value), array)
+    same(chain.read(value, np.s_[1:3, 0]), array[1:3, 0])
+    assert chain.unproved == ("sharding_indexed", "zstd")
 
 
 @numcodecs_alone

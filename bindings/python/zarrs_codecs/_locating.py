@@ -21,6 +21,7 @@ OF_CODECS = {
     "NotAPermutation",
     "UnsupportedDataType",
     "EndiannessMissing",
+    "InvalidFillValue",
     "IncompatibleDimensionality",
     "Overflow",
     "ReshapeDimension",
@@ -30,6 +31,9 @@ OF_CODECS = {
     "IndivisibleShape",
     "IndexNotFixed",
 }
+
+# Those of a codec as such.
+_OF_NO_KEY = ("UnknownName", "IndexNotFixed")
 
 _LITTLE = {"name": "bytes", "configuration": {"endian": "little"}}
 _VLEN = {
@@ -57,6 +61,18 @@ _RIGHT: dict[str, list[Any]] = {
     "data_codecs": [[codec] for codec in _WILLING],
     **{key: [value] for key, value in _VLEN.items() if key != "data_codecs"},
 }
+# The same of `sharding_indexed`.
+_RIGHT_OF_SHARDS: dict[str, list[Any]] = {
+    "chunk_shape": [[1] * axes for axes in range(17)],
+    "codecs": [[codec] for codec in _WILLING],
+    "index_codecs": [[_LITTLE]],
+    "index_location": ["end"],
+}
+
+
+def _right_of(codec: Any) -> dict[str, list[Any]]:
+    """Values of a codec's keys that are right by themselves."""
+    return _RIGHT_OF_SHARDS if name_of(codec) == "sharding_indexed" else _RIGHT
 
 
 def name_of(codec: Any) -> str:
@@ -82,24 +98,24 @@ def _place(ask: Ask, codecs: list[Any], refusal: str, willing: Any) -> int | Non
     return None
 
 
-def _lists_of(configuration: Any) -> dict[str, list[Any]]:
+def _lists_of(configuration: Any, right: dict[str, list[Any]]) -> dict[str, list[Any]]:
     """The lists of codecs in a codec's configuration."""
     if not isinstance(configuration, dict):
         return {}
     return {
         key: value
         for key, value in configuration.items()
-        if key in _RIGHT and key.endswith("_codecs") and isinstance(value, list)
+        if key in right and key.endswith("codecs") and isinstance(value, list)
     }
 
 
 def _refused_list(ask: Ask, codec: Any, refusal: str) -> tuple[str, list[Any], Ask] | None:
     """The list of codecs in a codec that the refusal is of: its key, itself, and how to ask about others."""
     configuration = codec.get("configuration") if isinstance(codec, dict) else None
-    lists = _lists_of(configuration)
+    lists = _lists_of(configuration, _right_of(codec))
     if not isinstance(configuration, dict) or not lists:
         return None
-    for right in itertools.product(*(_RIGHT[key] for key in lists)):
+    for right in itertools.product(*(_right_of(codec)[key] for key in lists)):
         all_right = {**configuration, **dict(zip(lists, right))}
         if ask({**codec, "configuration": all_right}) != "Done":
             continue
@@ -117,12 +133,14 @@ def _without(members: dict[str, Any], key: str) -> dict[str, Any]:
     return {name: value for name, value in members.items() if name != key}
 
 
-def _other_configurations(configuration: dict[str, Any]) -> Iterator[tuple[str, dict[str, Any]]]:
+def _other_configurations(
+    configuration: dict[str, Any], right: dict[str, list[Any]]
+) -> Iterator[tuple[str, dict[str, Any]]]:
     """A key, and the configuration with another value of it, or without it."""
     for key in configuration:
-        yield from ((key, {**configuration, key: value}) for value in _RIGHT.get(key, ()))
+        yield from ((key, {**configuration, key: value}) for value in right.get(key, ()))
         yield key, _without(configuration, key)
-    for key, values in _RIGHT.items():
+    for key, values in right.items():
         if key not in configuration:
             yield from ((key, {**configuration, key: value}) for value in values)
 
@@ -135,7 +153,7 @@ def _key(ask: Ask, codec: Any, refusal: str) -> str | None:
         return "configuration" if refusal == "InvalidConfiguration" else None
     found = (
         key
-        for key, other in _other_configurations(configuration)
+        for key, other in _other_configurations(configuration, _right_of(codec))
         if ask({**codec, "configuration": other}) not in (refusal, "InvalidConfiguration")
     )
     return next(found, None) or _first_key(ask, codec, configuration, refusal)
@@ -143,8 +161,9 @@ def _key(ask: Ask, codec: Any, refusal: str) -> str | None:
 
 def _first_key(ask: Ask, codec: dict[str, Any], configuration: dict[str, Any], refusal: str) -> str | None:
     """The first of several keys that are wrong or missing: it is refused where all others are right."""
-    for right in itertools.product(*_RIGHT.values()):
-        others = dict(zip(_RIGHT, right))
+    rights = _right_of(codec)
+    for right in itertools.product(*rights.values()):
+        others = dict(zip(rights, right))
         if ask({**codec, "configuration": others}) != refusal:
             break
     else:
@@ -179,7 +198,7 @@ def locate(error: Refused, ask: Ask, codecs: list[Any]) -> None:
 
         found = _refused_list(ask_one, codec, refusal)
         if found is None:
-            key = None if refusal == "UnknownName" else _key(ask_one, codec, refusal)
+            key = None if refusal in _OF_NO_KEY else _key(ask_one, codec, refusal)
             break
         key, codecs, ask = found
     error.inner, error.key = tuple(inner), key

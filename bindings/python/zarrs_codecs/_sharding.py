@@ -1,16 +1,16 @@
-"""The codec `sharding_indexed`, which Python runs over chains of the library. Nothing about it is proved."""
+"""Parts of shards, and shards with codecs of Python inside: Python cuts the chunk. Nothing about that is proved."""
 
 import itertools
 import math
 import operator
-from collections.abc import Iterable, Iterator, Sequence
+from collections.abc import Callable, Iterable, Iterator, Sequence
 from functools import cached_property
-from typing import Any, NamedTuple
+from typing import Any, NamedTuple, TypeVar
 
 import numpy as np
 from numpy.typing import ArrayLike
 
-from ._bytes_codecs import wrong
+from ._bytes_codecs import split, wrong
 from ._data_types import DataType
 from ._data_types import data_type as data_type_of
 from ._elements import empty, held, mask_of, put, spread
@@ -34,6 +34,8 @@ from .refusals import (
 NAME = "sharding_indexed"
 # What the index has for an inner chunk that isn't stored.
 _ABSENT = (1 << 64) - 1
+
+_R = TypeVar("_R")
 
 
 class _Configuration(NamedTuple):
@@ -59,8 +61,21 @@ def is_sharded(codecs: Sequence[Any]) -> bool:
     return len(codecs) == 1 and isinstance(codecs[0], dict) and codecs[0].get("name") == NAME
 
 
+def has_pythons(codecs: Any) -> bool:
+    """Whether these codecs are `sharding_indexed` alone, and its inner chunks have codecs that Python runs."""
+    if not isinstance(codecs, list) or not is_sharded(codecs):
+        return False
+    said = codecs[0].get("configuration")
+    inner = said.get("codecs") if isinstance(said, dict) else None
+    try:
+        return isinstance(inner, list) and (bool(split(inner)[1]) or has_pythons(inner))
+    except Refused:
+        # one of them, with a key that is wrong
+        return True
+
+
 def chain_of(codecs: Sequence[Any], shape: Sequence[int], data_type: Any, fill_value: Any = None) -> Chain:
-    """The chain of these codecs: the library's, or the one that Python runs where they are `sharding_indexed`."""
+    """The chain of these codecs: the library's, or the one that reads parts where they are `sharding_indexed`."""
     if isinstance(codecs, list) and is_sharded(codecs):
         return ShardedChain(codecs, shape, data_type, fill_value)
     return Chain(codecs, shape, data_type, fill_value)
@@ -106,13 +121,15 @@ class ShardedChain(Chain):
     """A chunk that is a shard: it is cut into inner chunks, each encoded by a chain of its own, and an index says
     where each of them is in the value.
 
-    Python cuts the chunk, reads and writes the index's numbers and joins the values; the inner chunks and the index
-    are encoded and decoded by the library. `unproved` begins with the codec's name for it. An inner chunk of fill
-    values alone isn't stored. What a read needs of a value is the index and the inner chunks with elements of the
-    answer, which may have Python's codecs; a write makes a value of the inner chunks as they are afterwards, in
-    the order of their numbers, and leaves the bytes of those that it doesn't touch. Raises what `Chain` does, and
-    of the inner chains what making and calling them raises.
+    What a read needs of a value is the index and the inner chunks with elements of the answer: Python reads the
+    index's numbers and cuts, and `unproved` begins with the codec's name for it; where all inner chunks are needed
+    the library reads the value. It encodes, decodes and writes values, too, where all codecs inside are its own.
+    Where the inner chunks have Python's codecs, Python cuts and joins: a write then makes a value of the inner
+    chunks as they are afterwards, in the order of their numbers, and leaves the bytes of those that it doesn't
+    touch. Raises what `Chain` does, and of the inner chains what making and calling them raises.
     """
+
+    _is_composed = True
 
     def __init__(
         self, codecs: Sequence[Any], shape: Sequence[int], data_type: Any, fill_value: Any = None
@@ -129,6 +146,8 @@ class ShardedChain(Chain):
             self._chunk_shape, self._is_last = said.chunk_shape, said.index_is_last
             self._grid = self._grid_of(said.chunk_shape)
             self._made_chains(said)
+            # the library's, where it runs all codecs
+            self._whole = None if has_pythons(self.codecs) else Chain(self.codecs, self.shape, data_type, fill_value)
         except Refused as error:
             self._locate(error)
             raise
@@ -184,10 +203,14 @@ class ShardedChain(Chain):
         """Raises the refusal of these codecs for such chunks, if there is one; so does making a chain."""
         self._chunk.check()
         self._index.check()
+        if self._whole is not None:
+            self._whole.check()
 
     @cached_property
     def representation(self) -> Representation:
         """How many bytes a value has: at most those of all inner chunks and the index, where these are bounded."""
+        if self._whole is not None:
+            return self._whole.representation
         size = self._chunk.representation.size
         if size is None or self._chunk.unproved:
             return Representation("unbounded", None)
@@ -199,7 +222,7 @@ class ShardedChain(Chain):
 
     @property
     def unproved(self) -> tuple[str, ...]:
-        """The codec's name, and those of the codecs that Python runs on inner chunks."""
+        """The codec's name, since Python cuts parts of chunks, and those of the codecs that it runs on inner chunks."""
         return NAME, *self._chunk.unproved
 
     # -- the index, and the inner chunks of a value
@@ -283,14 +306,32 @@ class ShardedChain(Chain):
 
     def _encode(self, elements: AnyArray) -> Bytes:
         """The value of elements that the type holds, of this shape."""
+        if self._whole is not None:
+            return self._whole._encode(elements)
         return self._joined([self._part(elements[(*place, ...)]) for place in self._places()])
 
     def decode(self, value: Any, out: AnyArray | None = None) -> AnyArray:
         """The chunk that a value stands for, an array of this shape; in `out` where it is given."""
+        whole = self._whole
+        if whole is not None:
+            return self._told_by(lambda: whole.decode(value, out), value)
+        return put(self._decoded(value), out)
+
+    def _told_by(self, call: Callable[[], _R], value: Any) -> _R:
+        """What the library's chain answers of a value; a refusal says which inner chunk it is of."""
+        try:
+            return call()
+        except Refused:
+            if value is not None:
+                self._decoded(value)
+            raise
+
+    def _decoded(self, value: Any) -> AnyArray:
+        """The chunk that a value stands for, inner chunk by inner chunk."""
         elements = empty(self._type, self.shape)
         for number, (place, part) in enumerate(zip(self._places(), self._stored(value), strict=True)):
             elements[(*place, ...)] = self._fill if part is None else self._opened(number, part)
-        return put(elements, out)
+        return elements
 
     def _opened(self, number: int, part: Any, inside: Any = None) -> AnyArray:
         """The elements of a stored inner chunk, or those that a selection means; a refusal says which it is."""
@@ -303,7 +344,10 @@ class ShardedChain(Chain):
 
     def reencode(self, value: Any, codecs: Sequence[Any]) -> Bytes:
         """The value, an array of bytes, that other codecs write for the chunk that a value stands for."""
-        other = chain_of(list(codecs), self.shape, self.data_type, self.fill_value)
+        if self._whole is not None:
+            whole = self._whole
+            return self._told_by(lambda: whole.reencode(value, codecs), value)
+        other = Chain(codecs, self.shape, self.data_type, self.fill_value)
         return other._encode(self.decode(value))
 
     # -- parts of chunks
@@ -329,13 +373,17 @@ class ShardedChain(Chain):
             found.append(Piece(number, (*inside_box, ...), (*(there for _, _, there in each), ...)))
         return found
 
-    def _read_pieces(self, chosen: Selection, source: "_Value", out: AnyArray | None) -> AnyArray:
+    def _read_pieces(self, selection: Any, source: "_Value", out: AnyArray | None) -> AnyArray:
         """The elements of a selection, in numpy's shape of it."""
+        chosen = select(selection, self.shape)
         self._check_rows(chosen)
+        pieces, length, whole = self._pieces(chosen), source.length(), self._whole
+        if whole is not None and len(pieces) == math.prod(self._grid):
+            value = source.piece(0, length)
+            return self._told_by(lambda: whole._read_inner(value, selection, out), value)
         elements = empty(self._type, chosen.shape)
-        length = source.length()
         entries = self._entries(source.piece(*self._index_range(length)))
-        for number, inside, there in self._pieces(chosen):
+        for number, inside, there in pieces:
             where = self._range(entries, number, length)
             if where is None:
                 elements[there] = self._fill
@@ -361,10 +409,9 @@ class ShardedChain(Chain):
         return self._read_inner(value, selection, out)
 
     def _read_inner(self, inner: Any, selection: Any, out: AnyArray | None = None) -> AnyArray:
-        chosen = select(selection, self.shape)
         if inner is None:
-            return self._filled(chosen, out)
-        return self._read_pieces(chosen, _Held(inner), out)
+            return self._filled(select(selection, self.shape), out)
+        return self._read_pieces(selection, _Held(inner), out)
 
     def read_many(self, value: Any, selections: Iterable[Any]) -> list[AnyArray]:
         """The elements of each of several selections, a list of what `read` answers one after another."""
@@ -373,7 +420,7 @@ class ShardedChain(Chain):
     def read_from(self, file: Any, selection: Any, out: AnyArray | None = None) -> AnyArray:
         """The elements that a selection means of the value that a file has, as `read` answers them: it asks for the
         index, and then for each inner chunk with some of them."""
-        return self._read_pieces(select(selection, self.shape), _Opened(Source(file)), out)
+        return self._read_pieces(selection, _Opened(Source(file)), out)
 
     def planned_ranges(self, selection: Any) -> None:
         """None: which bytes a read needs is known once it has the index."""
@@ -385,6 +432,9 @@ class ShardedChain(Chain):
     def _write(self, inner: Any, meant: Selection, elements: AnyArray) -> Bytes:
         """The value that is left of a value, or of None, where elements are written at a selection."""
         self._check_rows(meant)
+        if self._whole is not None:
+            whole = self._whole
+            return self._told_by(lambda: whole._write(inner, meant, elements), inner)
         new = spread(self._type, elements, meant.shape, meant.after)
         stored: list[Any] = [None] * math.prod(self._grid) if inner is None else self._stored(inner)
         for number, inside, there in self._pieces(meant):

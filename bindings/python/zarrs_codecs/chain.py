@@ -72,7 +72,8 @@ class Chain:
     or absent. Floats cross as unsigned integers of their size, complex numbers as two of them, `rN` as void
     elements; `string` and `bytes` have object arrays, an optional type (`{"optional": TYPE}`) masked ones.
     Where `gzip`, `zstd` or `blosc` come last, Python runs them, on whole values: nothing about them is
-    proved, and the last two need numcodecs.
+    proved, and the last two need numcodecs. So it does where they come last in the `codecs` of
+    `sharding_indexed`, alone in the list: Python then cuts the chunk, and the chain is a `ShardedChain`.
 
     A value goes in as any buffer and comes out as an array of `uint8`. A selection is a basic index of
     numpy, or a list or an array of elements' indices, a row for each. Each refusal is an exception of the
@@ -86,6 +87,16 @@ class Chain:
     Traceback (most recent call last):
     zarrs_codecs.refusals.UnknownName: UnknownName, by codec 1, 'adler32'
     """
+
+    # whether Python cuts the chunk
+    _is_composed = False
+
+    def __new__(cls, codecs: Sequence[Any] = (), *_: Any, **__: Any) -> "Chain":
+        if cls is not Chain:
+            return object.__new__(cls)
+        from ._sharding import ShardedChain, has_pythons
+
+        return object.__new__(ShardedChain if has_pythons(codecs) else cls)
 
     def __init__(
         self, codecs: Sequence[Any], shape: Sequence[int], data_type: Any, fill_value: Any = None
@@ -249,6 +260,8 @@ class Chain:
         array([5], dtype=uint8)
         """
         other = Chain(codecs, self.shape, self.data_type, self.fill_value)
+        if other._is_composed:
+            return other._encode(self.decode(value))
         try:
             at, length = lent(self._inner(value))
             inner = other._inner_codecs

@@ -146,7 +146,7 @@ class Overflow(_Wrong):
 
 
 class InvalidFillValue(_Wrong):
-    """The fill value doesn't fit the data type."""
+    """The fill value doesn't fit the data type, or the codecs of inner chunks change it."""
 
 
 class ReshapeDimension(_Wrong):
@@ -178,7 +178,7 @@ class OffsetTooLarge(_Wrong):
 
 
 class OffsetNotKept(_Wrong):
-    """The index codecs don't give back an offset unchanged."""
+    """The index codecs don't give back an offset or a size unchanged."""
 
 
 class MaskValue(_Wrong):
@@ -250,7 +250,7 @@ class MultipleAuto(_Wrong):
 
 
 class ZeroSize(_Wrong):
-    """A size of a reshape is zero."""
+    """A size of a reshape or of an inner chunk is zero."""
 
 
 class NotAPermutation(_Wrong):
