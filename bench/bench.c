@@ -498,6 +498,67 @@ static void optionals(void) {
     optional("optional decode 1 Mi, runs of 64", DECODE, 64);
 }
 
+/* ---- inner chunks of 64x64 behind which their index stands ---- */
+
+static bool plain_shard(void) {
+    if (job.call == DECODE) return shard_decode(job.in.bytes, job.in.len.bytes, 1024, 64, job.plain.bytes);
+    job.plain.len.bytes = shard_encode(job.in.bytes, 1024, 64, job.plain.bytes);
+    return true;
+}
+
+/* Every `zeros`th inner chunk is of fill values alone, or none. */
+static void shard(const char *name, enum call call, size_t zeros) {
+    if (!begin(name, call, "[1024,1024]", "\"uint32\"", "00000000",
+               "{\"name\":\"sharding_indexed\",\"configuration\":{\"chunk_shape\":[64,64],\"codecs\":[" LITTLE "],"
+               "\"index_codecs\":[" LITTLE "]}}"))
+        return;
+    size_t len = 4 << 20, most = len + 16 * 256;
+    uint8_t *bytes = noise_in(len), *value = room(most);
+    for (size_t i = 0; i < 256 && zeros; i += zeros)
+        for (size_t y = 0; y < 64; y++) memset(bytes + 4 * ((i / 16 * 64 + y) * 1024 + i % 16 * 64), 0, 256);
+    if (call == ENCODE) answers(0, 0, most);
+    else {
+        job.in = (struct buffers){NULL, NULL, value, {0, 0, shard_encode(bytes, 1024, 64, value)}};
+        answers(0, 0, len);
+    }
+    measure(plain_shard);
+}
+
+static bool plain_shard_texts(void) {
+    if (job.call == ENCODE)
+        return shard_texts_encode(job.in.bytes, job.in.offsets, 200000, 2000, job.plain.bytes);
+    return shard_texts_decode(job.in.bytes, job.in.len.bytes, 200000, 2000, job.plain.offsets, job.plain.bytes);
+}
+
+static void shard_texts(const char *name, enum call call) {
+    if (!begin(name, call, "[200000]", "\"string\"", "",
+               "{\"name\":\"sharding_indexed\",\"configuration\":{\"chunk_shape\":[2000],\"codecs\":[\"vlen-utf8\"],"
+               "\"index_codecs\":[" LITTLE "]}}"))
+        return;
+    size_t n = 200000;
+    uint64_t *offsets = room(8 * (n + 1));
+    for (size_t i = 0; i < n; i++) offsets[i + 1] = offsets[i] + noise_number() % 25;
+    uint8_t *bytes = noise_below(offsets[n], 26);
+    size_t value = 4 * n + offsets[n] + 100 * (4 + 16);
+    job.in = (struct buffers){NULL, offsets, bytes, {0, n + 1, offsets[n]}};
+    if (call == ENCODE) answers(0, 0, value);
+    else {
+        job.in = (struct buffers){NULL, NULL, room(value), {0, 0, value}};
+        shard_texts_encode(bytes, offsets, n, 2000, job.in.bytes);
+        answers(0, n + 1, offsets[n]);
+    }
+    measure(plain_shard_texts);
+}
+
+static void shards(void) {
+    shard("shard encode 1024x1024, inner chunks of 64x64", ENCODE, 0);
+    shard("shard decode 1024x1024, inner chunks of 64x64", DECODE, 0);
+    shard("shard encode 1024x1024, half of them left out", ENCODE, 2);
+    shard("shard decode 1024x1024, half of them left out", DECODE, 2);
+    shard_texts("shard encode 200,000 short texts, 2,000 in each", ENCODE);
+    shard_texts("shard decode 200,000 short texts, 2,000 in each", DECODE);
+}
+
 /* ---- a square chunk of u32 by transpose and bytes, the highest byte first ("chain"), or by bytes ("bytes") ---- */
 
 KERNEL(chain, transpose_u32(job.in.bytes, job.rows, job.columns, true, job.plain.bytes))
@@ -674,6 +735,7 @@ int main(int argc, char **argv) {
     all_texts();
     all_prefixed();
     optionals();
+    shards();
     squares();
     return status;
 }

@@ -211,29 +211,34 @@ bool texts_read(const uint8_t *value, size_t len, size_t n, bool checks, size_t 
     return true;
 }
 
-bool prefixed_encode(const uint8_t *bytes, const uint64_t *offsets, size_t n, uint8_t *value) {
+/* Texts between offsets that rise; they answer where the value ends. */
+static uint8_t *prefixed_part(const uint8_t *bytes, const uint64_t *offsets, size_t n, uint8_t *value) {
     uint32_t count = n;
-    if (count != n || !rise_to((const void *)offsets, n, offsets[n])) return false;
+    if (count != n) return NULL;
     memcpy(value, &count, 4);
     value += 4;
     for (size_t i = 0; i < n; i++) {
         uint64_t size = offsets[i + 1] - offsets[i];
         uint32_t length = size;
-        if (length != size) return false;
+        if (length != size) return NULL;
         memcpy(value, &length, 4);
         memcpy(value + 4, bytes + offsets[i], size);
         value += 4 + size;
     }
-    return true;
+    return value;
 }
 
-bool prefixed_decode(const uint8_t *value, size_t len, size_t n, uint64_t *offsets, uint8_t *bytes) {
+bool prefixed_encode(const uint8_t *bytes, const uint64_t *offsets, size_t n, uint8_t *value) {
+    return rise_to((const void *)offsets, n, offsets[n]) && prefixed_part(bytes, offsets, n, value);
+}
+
+/* From the first offset on. */
+static bool unprefixed_part(const uint8_t *value, size_t len, size_t n, uint64_t *offsets, uint8_t *bytes) {
     uint32_t number;
     if (len < 4) return false;
     memcpy(&number, value, 4);
     if (number != n) return false;
     size_t at = 4;
-    offsets[0] = 0;
     for (size_t i = 0; i < n; i++) {
         if (len - at < 4) return false;
         memcpy(&number, value + at, 4);
@@ -244,6 +249,39 @@ bool prefixed_decode(const uint8_t *value, size_t len, size_t n, uint64_t *offse
         at += number;
     }
     return at == len;
+}
+
+bool prefixed_decode(const uint8_t *value, size_t len, size_t n, uint64_t *offsets, uint8_t *bytes) {
+    offsets[0] = 0;
+    return unprefixed_part(value, len, n, offsets, bytes);
+}
+
+bool shard_texts_encode(const uint8_t *bytes, const uint64_t *offsets, size_t n, size_t part, uint8_t *value) {
+    size_t count = n / part, at = 0;
+    uint64_t index[2 * count];
+    if (!rise_to((const void *)offsets, n, offsets[n])) return false;
+    for (size_t i = 0; i < count; i++) {
+        uint8_t *end = prefixed_part(bytes, offsets + i * part, part, value + at);
+        if (!end) return false;
+        index[2 * i] = at;
+        index[2 * i + 1] = end - value - at;
+        at = end - value;
+    }
+    memcpy(value + at, index, sizeof index);
+    return true;
+}
+
+bool shard_texts_decode(const uint8_t *value, size_t len, size_t n, size_t part, uint64_t *offsets, uint8_t *bytes) {
+    size_t count = n / part;
+    if (len < 16 * count) return false;
+    const uint8_t *index = value + len - 16 * count;
+    offsets[0] = 0;
+    for (size_t i = 0; i < count; i++) {
+        uint64_t at = number_at(index, 2 * i), size = number_at(index, 2 * i + 1);
+        if (size > len || at > len - size) return false;
+        if (!unprefixed_part(value + at, size, part, offsets + i * part, bytes)) return false;
+    }
+    return true;
 }
 
 size_t optional_encode(const uint8_t *bytes, const uint8_t *mask, size_t n, uint8_t *value) {
@@ -278,6 +316,46 @@ bool optional_decode(const uint8_t *value, size_t len, size_t n, uint8_t *mask, 
         data += 4 * mask[i];
     }
     memset(bytes + 4 * i, 0, 4 * (n - i));
+    return true;
+}
+
+/* Whether rows of so many bytes are zeros, each so far behind the one before. */
+static bool is_zero(const uint8_t *in, size_t rows, size_t row, size_t stride) {
+    uint8_t found = 0;
+    for (size_t y = 0; y < rows && !found; y++, in += stride)
+        for (size_t i = 0; i < row; i++) found |= in[i];
+    return !found;
+}
+
+size_t shard_encode(const uint8_t *in, size_t side, size_t part, uint8_t *value) {
+    size_t grid = side / part, row = 4 * part, stride = 4 * side, at = 0;
+    uint64_t index[2 * grid * grid], *entry = index;
+    for (size_t top = 0; top < grid; top++)
+        for (size_t left = 0; left < grid; left++, entry += 2) {
+            const uint8_t *from = in + top * part * stride + left * row;
+            entry[0] = entry[1] = UINT64_MAX;
+            if (is_zero(from, part, row, stride)) continue;
+            entry[0] = at;
+            entry[1] = part * row;
+            for (size_t y = 0; y < part; y++, at += row) memcpy(value + at, from + y * stride, row);
+        }
+    memcpy(value + at, index, sizeof index);
+    return at + sizeof index;
+}
+
+bool shard_decode(const uint8_t *value, size_t len, size_t side, size_t part, uint8_t *out) {
+    size_t grid = side / part, row = 4 * part, stride = 4 * side, count = grid * grid;
+    if (len < 16 * count) return false;
+    const uint8_t *index = value + len - 16 * count;
+    for (size_t i = 0; i < count; i++) {
+        uint64_t at = number_at(index, 2 * i), size = number_at(index, 2 * i + 1);
+        uint8_t *to = out + i / grid * part * stride + i % grid * row;
+        bool is_missing = at == UINT64_MAX && size == UINT64_MAX;
+        if (!is_missing && (size > len || at > len - size || size != part * row)) return false;
+        for (size_t y = 0; y < part; y++, to += stride)
+            if (is_missing) memset(to, 0, row);
+            else memcpy(to, value + at + y * row, row);
+    }
     return true;
 }
 

@@ -40,6 +40,14 @@ bool prefixed_decode(const uint8_t *value, size_t len, size_t n, uint64_t *offse
 size_t optional_encode(const uint8_t *bytes, const uint8_t *mask, size_t n, uint8_t *value);
 bool optional_decode(const uint8_t *value, size_t len, size_t n, uint8_t *mask, uint8_t *bytes);
 
+/* Squares of u32 in inner squares, row by row, without those of zeros; behind them where each begins and how many bytes
+ * it has. They answer how many bytes the value has, and whether it is one. */
+size_t shard_encode(const uint8_t *in, size_t side, size_t part, uint8_t *value);
+bool shard_decode(const uint8_t *value, size_t len, size_t side, size_t part, uint8_t *out);
+/* The same of texts each behind its length, so many in an inner chunk, of which none is left out. */
+bool shard_texts_encode(const uint8_t *bytes, const uint64_t *offsets, size_t n, size_t part, uint8_t *value);
+bool shard_texts_decode(const uint8_t *value, size_t len, size_t n, size_t part, uint64_t *offsets, uint8_t *bytes);
+
 /* A window at row y and column x of a chunk. */
 struct window {
     size_t y, x, height, width;

@@ -130,6 +130,14 @@ def optional_decode(run):
     return make
 
 
+def shard(is_decoded):
+    """Inner chunks one behind the other, and the elements that they are cut of; the index, which stays the same, is left out."""
+    def make():
+        inner, elements = noise((16, 16, 64, 64)), noise((1024, 1024)).reshape(16, 64, 16, 64).transpose(0, 2, 1, 3)
+        return copies(elements, inner) if is_decoded else copies(inner, elements)
+    return make
+
+
 def square(side, is_turned):
     """A chunk as it is stored, and seen as its elements."""
     stored = noise((side, side)).astype(">u4" if is_turned else "<u4")
@@ -203,6 +211,8 @@ for x in (1003, 1000):
 for what, run in (("half of them", 1), ("runs of 64", 64)):
     row(f"optional encode 1 Mi, {what}", optional_encode(run))
     row(f"optional decode 1 Mi, {what}", optional_decode(run))
+row("shard encode 1024x1024, inner chunks of 64x64", shard(False))
+row("shard decode 1024x1024, inner chunks of 64x64", shard(True))
 row("chain encode 2048x2048", encode(2048))
 row("chain decode 2048x2048", decode(2048, True))
 for side, width in ((2048, 64), (2048, 256), (2048, 1024), (512, 64), (4096, 64), (4096, 256)):
