@@ -26,3 +26,4 @@ pub mod BlankLemmas
 pub mod FlushLemmas
 pub mod TightLemmas
 pub mod TightLaw
+pub mod JoinedLemmas

@@ -31,7 +31,8 @@ pub ends_rise : (at : ℕ) (xs : List (List ℕ)) → is_offsets (at ∷ ends at
 ends_rise at [] = refl
 ends_rise at (x ∷ xs) = rw (le-leb at (at + length x) (omega arith)) (ends_rise (at + length x) xs)
 
-at_end : {X : Type 0} (f : X → List ℕ) (at : ℕ) (ps : List X) → get_or (at ∷ ends at (map f ps)) (length (ends at (map f ps))) 0 ≡ at + length (flat_map f ps)
+-- the offset behind the last element
+pub at_end : {X : Type 0} (f : X → List ℕ) (at : ℕ) (ps : List X) → get_or (at ∷ ends at (map f ps)) (length (ends at (map f ps))) 0 ≡ at + length (flat_map f ps)
 at_end f at [] = omega arith
 at_end f at (p ∷ ps) = omega (arith, at_end f (at + length (f p)) ps, length-append (f p) (flat_map f ps))
 

@@ -1,4 +1,5 @@
 -- What a target's own parts are seen as.
+-- Source: zarrs, `ArrayBytesDecodeIntoTarget`.
 use Rattle.std.specs.Borrow.{GName}
 use Rattle.std.specs.Prelude.{ℕ, List, map, take, drop, ◌++◌}
 use Rattle.zarrs_array_bytes.specs.ArrayBytesFixedView.{view_of}
@@ -8,7 +9,7 @@ use Rattle.zarrs_array_bytes.specs.Held.{Held}
 use Rattle.zarrs_array_bytes.specs.declared.array_bytes_fixed_view.ArrayBytesFixedView.{ArrayBytesFixedView}
 use Rattle.zarrs_array_bytes.specs.declared.array_bytes_decode_into_target.ArrayBytesDecodeIntoTarget.{ArrayBytesDecodeIntoTarget}
 
--- the target
+-- what a target is seen as: a view of the elements, and one of each mask
 abbrev pub target_of : ArrayBytesDecodeIntoTarget → DecodeTarget
 target_of target = record { values = view_of target.values; masks = map view_of target.masks.items }
 
@@ -16,7 +17,7 @@ target_of target = record { values = view_of target.values; masks = map view_of 
 abbrev pub view_name : ArrayBytesFixedView → GName
 view_name view = view.bytes.ghost_name
 
--- those of the views of a target: of the elements, and of the masks
+-- the names of the references that a target's views write through: that of the elements, and those of the masks
 abbrev pub target_names : ArrayBytesDecodeIntoTarget → GName × List GName
 target_names target = (view_name target.values, map view_name target.masks.items)
 

@@ -1,10 +1,11 @@
 -- What a view's own parts are seen as.
+-- Source: zarrs, `ArrayBytesFixedDisjointView`.
 use Rattle.std.specs.Prelude.{◌≡◌, ℕ, List}
 use Rattle.zarrs_chunk.specs.Runs.{joined_runs}
 use Rattle.zarrs_array_bytes.specs.FixedView.{FixedView, written_view}
 use Rattle.zarrs_array_bytes.specs.declared.array_bytes_fixed_view.ArrayBytesFixedView.{ArrayBytesFixedView}
 
--- the view
+-- what a view is seen as: the array's bytes, and the places in it that are written
 abbrev pub view_of : ArrayBytesFixedView → FixedView
 view_of view =
     record { bytes = view.bytes.now; element_size = view.element_size; count = view.count; places = joined_runs view.runs.items }

@@ -18,7 +18,7 @@ pub record IsOverBlanks (mask : List ℕ) (type : ElementType) (held : Held) : T
   pub flags : list_all (λ byte. nat_lt byte 2) mask ≡ true
   pub blank : (place : ℕ) → place < length mask → slice_index mask place ≡ 0 → element_at type held place ≡ blank_element type
 
--- the outermost mask, of elements that may be absent, is over blanks
+-- under the outermost mask, of elements that may be absent, zeros, empty bytes or absent elements stand in the place of absent ones
 abbrev pub OuterAreBlank : ElementType → Held → Type 0
 OuterAreBlank (optional type) (masked inner mask) = IsOverBlanks mask.items type inner
 OuterAreBlank _ held = Unit {0}

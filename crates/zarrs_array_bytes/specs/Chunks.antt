@@ -1,4 +1,5 @@
 -- What the calls over a chunk's container return, as chunks.
+-- Source: zarrs, `extract_array_subset` and `update_array_bytes`.
 use Rattle.std.specs.Prelude.{ℕ, List, length, replicate, Result, Ok}
 use Rattle.zarrs_chunk.specs.Answer.{◌>>=◌, demand}
 use Rattle.zarrs_chunk.specs.ChunkShape.{product}
@@ -26,7 +27,7 @@ chunk_at type count places held = do
   _ ← validity type count held
   Ok (select (elements type count held) places)
 
--- the selection at the selected places, or the first error
+-- the elements at the selected places of a container, or the first error
 abbrev pub selected_chunk : ElementType → List ℕ → Selection → Held → Result Chunk CodecError
 selected_chunk type sizes selection held = do
   places ← places_of selection sizes

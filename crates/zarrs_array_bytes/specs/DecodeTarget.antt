@@ -1,4 +1,5 @@
 -- What a target is seen as, into which a chunk is decoded: a view of the elements, and one for each mask over them.
+-- Source: zarrs, `decode_into`.
 use Rattle.std.specs.Prelude.{◌≡◌, ℕ, ◌*◌, ◌==◌, ◌&&◌, Bool, true, false, List, [], ◌∷◌, length, Result}
 use Rattle.zarrs_chunk.specs.Answer.{◌>>=◌, demand}
 use Rattle.zarrs_chunk.specs.declared.codec_error.CodecError.{CodecError}

@@ -1,4 +1,5 @@
 -- A container in which each element is the fill value.
+-- Source: zarrs, `new_fill_value`.
 use Rattle.std.specs.Prelude.{ℕ, ◌+◌, ◌*◌, List, [], replicate, if◌then◌else◌}
 use Rattle.std.specs.List.{flat_map}
 use Rattle.zarrs_data_type.specs.ElementType.{ElementType, fixed, text, bytes, optional, element_size}

@@ -1,4 +1,5 @@
 -- What a view of an array's elements is seen as, into which those of a chunk are written.
+-- Source: zarrs, `ArrayBytesFixedDisjointView`.
 use Rattle.std.specs.Prelude.{ℕ, ◌*◌, ◌^◌, ◌==◌, nat_lt, List, length, Result, Ok}
 use Rattle.zarrs_chunk.specs.Answer.{◌>>=◌, demand}
 use Rattle.zarrs_chunk.specs.ChunkShape.{product}
@@ -36,6 +37,6 @@ written_view view new = record view { bytes = written_bytes view new }
 abbrev pub view_length : FixedView → ℕ
 view_length view = length view.places * view.element_size
 
--- there is one new element for each of the view's places
+-- there is one new element for each of the view's places, else the error
 abbrev pub elements_fit : FixedView → List ℕ → Result (Unit {0}) CodecError
 elements_fit view new = demand (length new == view_length view) TargetMismatch

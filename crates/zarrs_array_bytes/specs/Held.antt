@@ -1,4 +1,5 @@
 -- What a container of elements is seen as.
+-- Source: zarrs, `ArrayBytes`.
 use Rattle.std.specs.Prelude.{◌≡◌, ℕ, ◌+◌, ◌*◌, Bool, true, false, not, List, [], ◌∷◌, length, cond}
 use Rattle.std.proofs.Common.{refl, ap, Global}
 use Rattle.std.specs.Coded.{Coded, code_by, coded×, coded_ℕ, coded_bool, coded_list}
@@ -10,12 +11,12 @@ pub record Raw : Type 0 where
   pub items : List ℕ
   pub is_owned : Bool
 
--- what bytes that may be borrowed are seen as
+-- bytes, and whether they are owned or borrowed
 abbrev pub raw_of : CowSlice ℕ Global → Raw
 raw_of (cow.Borrowed r) = record { items = r.now; is_owned = false }
 raw_of (cow.Owned v) = record { items = v.items; is_owned = true }
 
--- the bytes
+-- the bytes alone, whoever owns them
 abbrev pub items_of : CowSlice ℕ Global → List ℕ
 items_of value = (raw_of value).items
 
@@ -55,6 +56,7 @@ raw_code =
 abbrev HeldParts : Type 0
 HeldParts = List Raw × (Bool × (Raw × List ℕ))
 
+-- a container by its parts: the masks, the outermost first; whether elements have one size; their bytes, and their offsets
 abbrev pub parts_of : Held → HeldParts
 parts_of (flen raw) = ([], (true, (raw, [])))
 parts_of (vlen raw offsets) = ([], (false, (raw, offsets)))

@@ -1,3 +1,4 @@
+-- Containers of elements.
 pub mod Held
 pub mod Offsets
 pub mod ArrayBytes
@@ -15,6 +16,7 @@ pub mod Cuts
 pub mod Given
 pub mod Extracted
 pub mod Filled
+pub mod Joined
 pub mod Sources
 pub mod Update
 pub mod Chunks

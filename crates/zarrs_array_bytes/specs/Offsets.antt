@@ -1,4 +1,5 @@
 -- Where elements of any length begin and end in their bytes.
+-- Source: zarrs, `ArrayBytesOffsets`.
 use Rattle.std.specs.Prelude.{ℕ, ◌-◌, Bool, true, false, List, [], ◌∷◌, length, slice_index, nat_le, ◌&&◌, Result, Ok}
 use Rattle.zarrs_chunk.specs.Answer.{◌>>=◌, demand}
 use Rattle.zarrs_chunk.specs.declared.codec_error.CodecError.{CodecError}
@@ -15,7 +16,7 @@ abbrev pub is_offsets : List ℕ → Bool
 is_offsets [] = false
 is_offsets (a ∷ rest) = rises (a ∷ rest)
 
--- the last number
+-- the last of a list of numbers
 abbrev pub last_of : List ℕ → ℕ
 last_of offsets = slice_index offsets (length offsets - 1)
 

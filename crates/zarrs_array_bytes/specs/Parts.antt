@@ -1,4 +1,5 @@
 -- Containers made of parts, and the parts of containers.
+-- Source: zarrs, `ArrayBytes`.
 use Rattle.std.specs.Prelude.{ℕ, ◌==◌, nat_lt, List, [], length, Result, Ok, Err}
 use Rattle.std.specs.List.{list_all}
 use Rattle.std.proofs.Common.{Bor, Global}
@@ -9,31 +10,31 @@ use Rattle.zarrs_chunk.specs.declared.codec_error.CodecError.TheVariants.{ArrayB
 use Rattle.zarrs_array_bytes.specs.Held.{Raw, raw_of, Held, flen, vlen, masked}
 use Rattle.zarrs_array_bytes.specs.Offsets.{last_of}
 
--- elements of any length: the last one ends where the bytes end
+-- a container of elements of any length, or the error: the last one ends where the bytes end
 abbrev pub with_offsets : Raw → List ℕ → Result Held CodecError
 with_offsets raw offsets = do
   _ ← demand (last_of offsets == length raw.items) InvalidOffsets
   Ok (vlen raw offsets)
 
--- elements under a mask of zeros and ones
+-- a container under a mask, or the error: each mask byte is 0 or 1
 abbrev pub with_mask : Held → Raw → Result Held CodecError
 with_mask inner mask = do
   _ ← demand (list_all (λ byte. nat_lt byte 2) mask.items) MaskValue
   Ok (masked inner mask)
 
--- the bytes of elements of one size
+-- the bytes of elements of one size; of any other container the error `ArrayBytesKind`
 abbrev pub fixed_part : Held → Result Raw CodecError
 fixed_part (flen raw) = Ok raw
 fixed_part (vlen raw offsets) = Err ArrayBytesKind
 fixed_part (masked inner mask) = Err ArrayBytesKind
 
--- the bytes and offsets of elements of any length
+-- the bytes and offsets of elements of any length; of any other container the error `ArrayBytesKind`
 abbrev pub variable_part : Held → Result (Raw × List ℕ) CodecError
 variable_part (flen raw) = Err ArrayBytesKind
 variable_part (vlen raw offsets) = Ok (raw, offsets)
 variable_part (masked inner mask) = Err ArrayBytesKind
 
--- what is under the outermost mask, and that mask
+-- what is under the outermost mask, and that mask; without a mask the error `ArrayBytesKind`
 abbrev pub optional_part : Held → Result (Held × Raw) CodecError
 optional_part (flen raw) = Err ArrayBytesKind
 optional_part (vlen raw offsets) = Err ArrayBytesKind
@@ -43,11 +44,11 @@ optional_part (masked inner mask) = Ok (inner, mask)
 abbrev pub raw_and_offsets : CowSlice ℕ Global × List ℕ → Raw × List ℕ
 raw_and_offsets parts = (raw_of parts.0, parts.1)
 
--- the same bytes, whoever owns them
+-- the bytes of elements of one size, whoever owns them; of any other container the error `ArrayBytesKind`
 abbrev pub fixed_items : Held → Result (List ℕ) CodecError
 fixed_items held = seen (λ raw. raw.items) (fixed_part held)
 
--- two values that are lent
+-- what two references point to
 abbrev pub lent_both : {A B : Type 0} → Bor A × Bor B → A × B
 lent_both pair = (pair.0.now, pair.1.now)
 

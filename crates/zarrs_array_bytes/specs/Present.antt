@@ -1,4 +1,5 @@
 -- Elements under a mask: those that are present, extracted and put back.
+-- Source: zarrs, `OptionalCodec`.
 use Rattle.std.specs.Prelude.{◌≡◌, ℕ, zero, suc, ◌*◌, ◌==◌, Bool, nat_lt, if◌then◌else◌, List, [], ◌∷◌, length, map, slice_index, take, Result, Ok}
 use Rattle.std.specs.List.{filter, list_all, range_with_len}
 use Rattle.zarrs_chunk.specs.Answer.{◌>>=◌, demand}
@@ -45,7 +46,7 @@ present_count mask = do
   _ ← demand (list_all (λ byte. nat_lt byte 2) mask) MaskValue
   Ok (length (present_places mask))
 
--- all elements are present
+-- under the mask all elements are present
 abbrev pub are_all_present : List ℕ → Bool
 are_all_present mask = length (present_places mask) == length mask
 

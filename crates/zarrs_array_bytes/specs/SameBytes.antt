@@ -7,7 +7,7 @@ use Rattle.zarrs_array_bytes.specs.Held.{Raw, Held, flen, vlen, masked}
 abbrev pub is_same_raw : Raw → Raw → Bool
 is_same_raw r q = pointwise nat_eq r.items q.items
 
--- the same kind, and in it the same bytes, offsets and masks
+-- two containers are of one kind, and have the same bytes, offsets and masks, whoever owns them
 abbrev pub is_same_held : Held → Held → Bool
 is_same_held (flen r) (flen q) = is_same_raw r q
 is_same_held (vlen r os) (vlen q us) = is_same_raw r q && pointwise nat_eq os us

@@ -24,11 +24,11 @@ pub record IsTight (type : ElementType) (held : Held) : Type 0 where
   pub flush : is_flush held ≡ true
   pub blank : AbsentAreBlank type held
 
--- the container is flush
+-- a container is flush: at every depth its offsets begin at 0 and end at the bytes' end, and each mask byte is 0 or 1
 abbrev pub IsFlush : Held → Type 0
 IsFlush held = is_flush held ≡ true
 
--- what is given is flush
+-- the container that is returned is flush
 abbrev pub GivesFlush : {E : Type 0} → Result Held E → Type 0
 GivesFlush result = IfOk result IsFlush
 
@@ -40,9 +40,13 @@ KeepsTight type held result = IsTight type held → IfOk result (IsTight type)
 abbrev pub ExtractsTight : {E : Type 0} → ElementType → Held → Result Held E → Type 0
 ExtractsTight type held result = AbsentAreBlank type held → IfOk result (IsTight type)
 
--- where they do in the old elements and in the new ones, what is made of both is tight
+-- where blank elements are under absent ones in the old elements and in the new ones, what is made of both is tight
 abbrev pub UpdatesTight : {E : Type 0} → ElementType → Held → Held → Result Held E → Type 0
 UpdatesTight type old new result = AbsentAreBlank type old → AbsentAreBlank type new → IfOk result (IsTight type)
+
+-- where a container is tight, and blank elements are under absent ones in another, what is made of both is tight
+abbrev pub AppendsTight : {E : Type 0} → ElementType → Held → Held → Result Held E → Type 0
+AppendsTight type held more result = IsTight type held → AbsentAreBlank type more → IfOk result (IsTight type)
 
 -- offsets counted from the first one
 abbrev pub from_first : List ℕ → List ℕ
@@ -52,7 +56,7 @@ from_first offsets = map (λ offset. offset - slice_index offsets 0) offsets
 abbrev pub without_front : Raw → List ℕ → Held
 without_front raw offsets = vlen (record raw { items = drop (slice_index offsets 0) raw.items }) (from_first offsets)
 
--- the same, where the last element ends where the bytes end
+-- a container of bytes and offsets without the bytes before the first offset, which are counted from it; or the error, where the last element doesn't end where the bytes end
 abbrev pub flush_with_offsets : Raw → List ℕ → Result Held CodecError
 flush_with_offsets raw offsets = do
   _ ← demand (last_of offsets == length raw.items) InvalidOffsets

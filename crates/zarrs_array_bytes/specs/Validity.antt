@@ -1,4 +1,5 @@
 -- Whether a container has the kind of a type and so many elements, and the first error where not.
+-- Source: zarrs, `validate`.
 use Rattle.std.specs.Prelude.{◌≡◌, ℕ, ◌+◌, ◌*◌, length, ◌==◌, ◌^◌, nat_lt, Result, Ok, Err}
 use Rattle.zarrs_chunk.specs.Answer.{◌>>=◌, demand}
 use Rattle.zarrs_chunk.specs.declared.codec_error.CodecError.{CodecError}
@@ -8,7 +9,7 @@ use Rattle.zarrs_data_type.specs.Element.{Chunk}
 use Rattle.zarrs_array_bytes.specs.Held.{Held, flen, vlen, masked}
 use Rattle.zarrs_array_bytes.specs.Elements.{elements}
 
--- 64 bits count the bytes of so many elements, or their offsets; under optional types those of the innermost type
+-- 64 bits count the bytes of so many elements, or their offsets, else `Overflow`; under optional types those of the innermost type
 abbrev pub sizes_fit : ElementType → ℕ → Result (Unit {0}) CodecError
 sizes_fit (fixed width components sign) count = demand (nat_lt (count * element_size width components) (2 ^ 64)) Overflow
 sizes_fit text count = demand (nat_lt (count + 1) (2 ^ 64)) Overflow
@@ -37,7 +38,7 @@ levels_fit refusal _ count _ = Err ArrayBytesKind
 abbrev pub HasElements : ElementType → ℕ → Held → Type 0
 HasElements type count held = levels_fit InvalidBytesLength type count held ≡ Ok tt
 
--- a chunk's container has so many elements of the type
+-- a container has so many elements of the type, or the first error
 abbrev pub validity : ElementType → ℕ → Held → Result (Unit {0}) CodecError
 validity type count held = do
   _ ← sizes_fit type count
@@ -47,7 +48,7 @@ validity type count held = do
 abbrev pub data_mismatch : LengthRefusal
 data_mismatch found expected = DataMismatch
 
--- new data have one element of the type for each of so many places
+-- new data have one element of the type for each of so many places, or the first error
 abbrev pub data_fit : ElementType → ℕ → Held → Result (Unit {0}) CodecError
 data_fit type count held = levels_fit data_mismatch type count held
 

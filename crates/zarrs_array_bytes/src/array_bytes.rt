@@ -163,6 +163,19 @@ impl<'a> ArrayBytes<'a> {
         }
     }
 
+    pub(crate) fn of_cuts(bytes: Vec<u8>, offsets: Vec<usize>) -> ArrayBytes<'a>
+        requires rising { is_offsets offsets.items ≡ true }
+        requires ending { last_of offsets.items ≡ length bytes.items }
+        ensures made { result ≡ vlen (owned_bytes bytes.items) offsets.items }
+    {
+        ArrayBytes {
+            parts: Parts::Variable(
+                CowSlice::Owned(bytes),
+                ArrayBytesOffsets::of_rising(offsets),
+            ),
+        }
+    }
+
     pub(crate) fn of_masked(
         alloc: Global,
         inner: ArrayBytes<'a>,

@@ -48,6 +48,14 @@ impl ArrayBytesOffsets {
         ArrayBytesOffsets { offsets }
     }
 
+    /// The offsets as a vector of their own.
+    pub(crate) fn into_numbers(self) -> Vec<usize>
+        ensures value { result.items ≡ self }
+        ensures rising { is_offsets self ≡ true }
+    {
+        self.offsets
+    }
+
     /// The offsets counted from the first one, in place.
     pub(crate) fn from_first(self) -> ArrayBytesOffsets
         ensures moved { result ≡ from_first self }

@@ -3,6 +3,7 @@
 //! The elements of a container are read by a data type, in row-major order.
 #![tactic(auto)]
 
+mod append;
 mod array_bytes;
 mod array_bytes_decode_into_target;
 mod array_bytes_fixed_view;
@@ -22,6 +23,7 @@ mod update;
 mod validate;
 mod write;
 
+pub use append::append_elements;
 pub use array_bytes::ArrayBytes;
 pub use array_bytes_decode_into_target::ArrayBytesDecodeIntoTarget;
 pub use array_bytes_fixed_view::ArrayBytesFixedView;

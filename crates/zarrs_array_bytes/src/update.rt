@@ -214,7 +214,7 @@ impl<'a> ArrayBytes<'a> {
         }
     }
 
-    fn variable_parts(&self) -> (&[u8], &[usize])
+    pub(crate) fn variable_parts(&self) -> (&[u8], &[usize])
         requires kind { IsOk (variable_part self.now) }
         ensures bytes { result.0.now ≡ bytes_in self.now }
         ensures offsets { result.1.now ≡ offsets_in self.now }
