@@ -1,3 +1,4 @@
+-- Regions that stay regions.
 pub mod Windows
 pub mod KeptRegions
 pub mod PlaceReaders

@@ -103,7 +103,7 @@ pub record TakesRegion (codecs : List ArrayMapping) (sizes : List ℕ) (region :
   pub counted : product sizes < 2 ^ 64
   pub inside : is_box_inside sizes region.starts region.lengths ≡ true
 
--- each codec accepts elements of the type
+-- each of the codecs accepts elements of the type
 abbrev pub TakeType : List ArrayMapping → ElementType → Type 0
 TakeType codecs type = All (λ codec. type_taken codec type ≡ Ok tt) codecs
 
@@ -138,6 +138,6 @@ abbrev pub EncodesMapped : List ArrayMapping → ElementType → List ℕ → Re
 EncodesMapped codecs type sizes region held result =
     GivesBy (IsEncodedRegion type) result (Ok (encoded_of codecs type (window_of sizes region) held))
 
--- the same of codecs
+-- runs of the places of the window that codecs take a region to are given, with a container of its elements, encoded from the region's; or the first error
 abbrev pub EncodesRegion : List ArrayToArrayCodec → ElementType → List ℕ → Region → Held → Result (Vec (ℕ × ℕ) Global × Held) CodecError → Type 0
 EncodesRegion codecs type sizes region held result = EncodesMapped (map mapping_of codecs) type sizes region held result

@@ -2,7 +2,7 @@
 use Rattle.std.specs.Prelude.{ℕ, List}
 use Rattle.zarrs_array_to_array.specs.declared.array_to_array_codec_partial.ArrayToArrayCodecPartial.{ArrayToArrayCodecPartial}
 
--- the reader of the moved chunk
+-- the reader of the moved chunk that a stage is over
 abbrev pub input_of : {C I : Type 0} → ArrayToArrayCodecPartial C I → I
 input_of stage = stage.input
 

@@ -18,7 +18,7 @@ type_taken (transpose order) type = demand (not (is_some (inner_of type))) (Unsu
 type_taken (reshape dims) type = Ok tt
 type_taken squeeze type = Ok tt
 
--- the sizes of the decoded chunk, where those of the moved one fix them
+-- the sizes of the decoded chunk, where those of the moved one fix them; or the first error
 abbrev pub sizes_before : ArrayMapping → List ℕ → Result (Option (List ℕ)) CodecError
 sizes_before (transpose order) sizes = seen (λ decoded. Some decoded) (transposed_back_sizes order sizes)
 sizes_before (reshape dims) sizes = Ok None
@@ -32,14 +32,14 @@ AnswersSizesBefore codec sizes result = AnswersValue memory result (sizes_before
 abbrev pub AnswersSource : ArrayMapping → List ℕ → Result (Option (List ℕ)) CodecError → Type 0
 AnswersSource codec encoded result = IfOk result (IsSource (coordinates codec) encoded)
 
--- what `encode` gives of a container: transposition its moved chunk or its first error, the others the container as it is
+-- what `encode` gives of a container: transposition one of the moved chunk, or its first error; the others the container as it is
 abbrev pub HeldMoved : ArrayMapping → ElementType → List ℕ → Held → Result Held CodecError → Type 0
 HeldMoved (transpose order) type sizes held result =
     GivesBy (Holds type) result (transpose_encoded order type sizes held)
 HeldMoved (reshape dims) type sizes held result = result ≡ Ok held
 HeldMoved squeeze type sizes held result = result ≡ Ok held
 
--- what `decode` gives of a container, in the same way
+-- what `decode` gives of a container: transposition one of the chunk moved back, or its first error; the others the container as it is
 abbrev pub HeldBack : ArrayMapping → ElementType → List ℕ → Held → Result Held CodecError → Type 0
 HeldBack (transpose order) type sizes held result =
     GivesBy (Holds type) result (transpose_decoded order type sizes held)
@@ -56,12 +56,12 @@ abbrev pub Moves : ArrayMapping → ElementType → List ℕ → Held → Result
 Moves codec type sizes held result =
     EncodesMoved (type_taken codec) (coordinates codec) type sizes held result
 
--- the same of the chunk moved back
+-- where the codec accepts such chunks and the container holds a moved one, the answer is a container of the chunk moved back, or `OutOfMemory`
 abbrev pub MovesBack : ArrayMapping → ElementType → List ℕ → Held → Result Held CodecError → Type 0
 MovesBack codec type sizes held result =
     DecodesMoved (type_taken codec) (coordinates codec) type sizes held result
 
--- where there is no such chunk, the container is handed on as it is, or the first error is returned
+-- where a container holds no chunk that the codec accepts, it is handed on as it is, or the first error is returned
 abbrev pub LeavesUnmoved : ArrayMapping → ElementType → List ℕ → Held → Result Held CodecError → Type 0
 LeavesUnmoved codec type sizes held result =
     LeavesUnfit (type_taken codec) (coordinates codec) type sizes held result

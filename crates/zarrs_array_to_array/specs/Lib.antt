@@ -1,3 +1,4 @@
+-- Codecs that move elements.
 pub mod Orders
 pub mod OrderLaws
 pub mod CoordinateLaws

@@ -11,7 +11,7 @@ use Rattle.zarrs_metadata.specs.TransposeConfiguration.{write_transpose}
 use Rattle.zarrs_metadata.specs.declared.plugin_create_error.PluginCreateError.{PluginCreateError}
 use Rattle.zarrs_array_to_array.specs.ArrayToArrayCodec.{ArrayMapping, transpose, reshape, squeeze}
 
--- the codec of a metadata, by its name; no other name is known
+-- the codec of a metadata, by its name, or the first error; no other name is known
 abbrev pub mapping_made : Metadata → Result ArrayMapping PluginCreateError
 mapping_made metadata =
     if is_transpose_name metadata.name then seen transpose (transpose_made metadata)
@@ -24,12 +24,12 @@ mapping_name (transpose order) = transpose_name
 mapping_name (reshape dims) = reshape_name
 mapping_name squeeze = squeeze_name
 
--- and its configuration
+-- the members of the configuration that are written of a codec
 abbrev pub mapping_configuration : ArrayMapping → Members
 mapping_configuration (transpose order) = write_transpose order
 mapping_configuration (reshape dims) = write_reshape dims
 mapping_configuration squeeze = write_squeeze
 
--- the codec that is made is the expected one, or the first cause is answered why there is none
+-- the codec that is made is the expected one, or the first error is returned
 abbrev pub MakesCodec : {C : Type 0} → Result C PluginCreateError → Result C PluginCreateError → Type 0
 MakesCodec result expected = Makes (λ codec. codec) result expected

@@ -34,19 +34,19 @@ SelectionsAreImages =
     (codec : ArrayMapping) (sizes : List ℕ) (m : CoordinateMap) (selection : Selection) → IsMapping codec → coordinates codec sizes ≡ Ok m → bounds_of selection sizes ≡ Ok tt
     → IsImage sizes m selection (selection_in codec sizes m.encoded selection)
 
--- it answers of places what its input answers of the places where they go, in their order
+-- a codec's reader answers of places what its input answers of the places where they go, in their order
 abbrev pub ReadersAskMappedPlaces : Type 0
 ReadersAskMappedPlaces =
     (codec : ArrayMapping) (sizes : List ℕ) (m : CoordinateMap) (in_part : Bool) (input : ArrayReader) (answer : List ℕ → Result Chunk CodecError) → IsMapping codec → All (λ size. 0 < size) sizes → coordinates codec sizes ≡ Ok m → input.sizes ≡ m.encoded
     → AnswersByPlaces input answer → AnswersByPlaces (reader_through codec sizes in_part input) (λ places. answer (map m.to places))
 
--- over a reader of the moved chunk it reads the chunk
+-- over a reader of the moved chunk a codec's reader reads the chunk
 abbrev pub ReadersReadChunks : Type 0
 ReadersReadChunks =
     (codec : ArrayMapping) (sizes : List ℕ) (m : CoordinateMap) (in_part : Bool) (input : ArrayReader) (chunk : Chunk) → IsMapping codec → All (λ size. 0 < size) sizes → coordinates codec sizes ≡ Ok m → input.sizes ≡ m.encoded
     → ReadsChunk input (moved_chunk m chunk) → ReadsChunk (reader_through codec sizes in_part input) chunk
 
--- where its input answers one element for every place, so does it
+-- where its input answers one element for every place, so does a codec's reader
 abbrev pub ReadersReadFills : Type 0
 ReadersReadFills =
     (codec : ArrayMapping) (sizes : List ℕ) (m : CoordinateMap) (in_part : Bool) (input : ArrayReader) (fill : Element) → IsMapping codec → All (λ size. 0 < size) sizes → coordinates codec sizes ≡ Ok m → input.sizes ≡ m.encoded

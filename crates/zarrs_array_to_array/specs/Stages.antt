@@ -27,15 +27,17 @@ MakesStage mapping form result = Gives (λ made. made) (outcome result) (seen (�
 abbrev pub IsStageOf : {C I : Type 0} → C → List ℕ → ArrayToArrayCodecPartial C I → Type 0
 IsStageOf codec sizes stage = (codec_of stage ≡ codec) × (sizes_of stage ≡ sizes)
 
--- the same of a codec that is one of several
+-- the stage has these sizes, and its codec is this one as plain data
 abbrev pub IsStageOfMapping : {I : Type 0} → ArrayMapping → List ℕ → ArrayToArrayCodecPartial ArrayToArrayCodec I → Type 0
 IsStageOfMapping mapping sizes stage = (mapping_of (codec_of stage) ≡ mapping) × (sizes_of stage ≡ sizes)
 
 -- ---- what is made of a stage for chunks of these sizes, this type and this fill value, by the codec
 
+-- a stage that transposes is made where the codec accepts such chunks, else the first error is returned
 abbrev pub MakesTransposer : {T I : Type 0} → List ℕ → List ℕ → ElementType → List ℕ → Result T (Refused I) → Type 0
 MakesTransposer order sizes type fill result = MakesStage (transpose order) (form_of sizes type fill) result
 
+-- a stage that reshapes is made where the codec accepts such chunks, else the first error is returned
 abbrev pub MakesReshaper : {T I : Type 0} → List Dim → List ℕ → ElementType → List ℕ → Result T (Refused I) → Type 0
 MakesReshaper dims sizes type fill result = MakesStage (reshape dims) (form_of sizes type fill) result
 
@@ -44,8 +46,10 @@ abbrev pub MakesSqueezerParts : {C : Type 0} → C → List ℕ → ElementType 
 MakesSqueezerParts codec sizes type fill result =
     MakesParts (λ codec. codec) codec squeeze (form_of sizes type fill) result
 
+-- a stage that squeezes is made where the codec accepts such chunks, else the first error is returned
 abbrev pub MakesSqueezer : {T I : Type 0} → List ℕ → ElementType → List ℕ → Result T (Refused I) → Type 0
 MakesSqueezer sizes type fill result = MakesStage squeeze (form_of sizes type fill) result
 
+-- a stage of any of the codecs is made where the codec accepts such chunks, else the first error is returned
 abbrev pub MakesMover : {T I : Type 0} → ArrayToArrayCodec → List ℕ → ElementType → List ℕ → Result T (Refused I) → Type 0
 MakesMover codec sizes type fill result = MakesStage (mapping_of codec) (form_of sizes type fill) result

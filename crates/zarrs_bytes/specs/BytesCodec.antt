@@ -1,4 +1,5 @@
 -- What the codec `bytes` answers, for which chunk a value stands, and which value is written for a chunk.
+-- Source: the Zarr v3 codec `bytes`.
 use Rattle.std.specs.Prelude.{◌≡◌, ℕ, ◌*◌, ◌<◌, ◌^◌, ◌==◌, ◌&&◌, nat_le, is_some, is_ok, if◌then◌else◌, Bool, true, false, not, Option, Some, None, List, [], length, map, Result, Ok, Err}
 use Rattle.std.proofs.Common.{Global}
 use Rattle.std.specs.List.{range_with_len}
@@ -24,7 +25,7 @@ use Rattle.zarrs_bytes.specs.declared.bytes_codec.TheConstants.{BYTES}
 
 -- ---- which chunks it takes
 
--- the same by its parts
+-- how many bytes the value of a chunk of these sizes, this type and this fill value has, or the first error
 abbrev pub length_by : Option Endianness → List ℕ → ElementType → List ℕ → Result ℕ CodecError
 length_by order sizes (fixed width components sign) fill = do
   _ ← demand (fill_fits (fixed width components sign) fill) InvalidFillValue
@@ -44,7 +45,7 @@ bytes_length order form = length_by order form.sizes form.type form.fill
 abbrev pub bytes_represented : Option Endianness → Form → Result BytesRepresentation CodecError
 bytes_represented order form = seen FixedSize (bytes_length order form)
 
--- the answer is that representation, or the first error of chunks that the codec doesn't accept; it is never out of memory
+-- the answer is the representation of the value of such a chunk, or the first error; it is never out of memory
 abbrev pub RepresentsNow : Option Endianness → List ℕ → ElementType → List ℕ → Result BytesRepresentation CodecError → Type 0
 RepresentsNow order sizes type fill result = result ≡ bytes_represented order (form_of sizes type fill)
 

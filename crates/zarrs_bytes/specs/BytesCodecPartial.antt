@@ -1,4 +1,5 @@
 -- What a partial coder of `bytes` is made of, and what it reads and writes of a chunk.
+-- Source: zarrs, `BytesPartialDecoder`.
 use Rattle.std.specs.Prelude.{◌≡◌, ℕ, Bool, true, Option, is_some, List, Result, Ok, Err, IfOk}
 use Rattle.zarrs_chunk.specs.Indexer.{selection_of}
 use Rattle.zarrs_chunk.specs.Selection.{places_of}
@@ -32,12 +33,12 @@ pub record BytesForm : Type 0 where
 abbrev pub form_in : BytesForm → Form
 form_in form = record { sizes = form.sizes; type = form.type; fill = form.fill }
 
--- the form of a decoder's chunk
+-- a coder's byte order, and the form of its chunk
 abbrev pub bytes_form_of : {H : Type 0} → BytesCodecPartial H → BytesForm
 bytes_form_of decoder =
     record { order = decoder.codec; sizes = decoder.shape; type = decoder.data_type; fill = decoder.fill_value }
 
--- the handle that a decoder reads
+-- the handle that a coder reads, or writes
 abbrev pub bytes_handle_of : {H : Type 0} → BytesCodecPartial H → H
 bytes_handle_of decoder = decoder.handle
 
@@ -62,7 +63,7 @@ abbrev pub HasForm : {H : Type 0} → Option Endianness → Form → Result (Byt
 HasForm order form result =
     IfOk result (λ coder. bytes_form_of coder ≡ record { order = order; sizes = form.sizes; type = form.type; fill = form.fill })
 
--- what a decoder reads at a selection by its grammar (`state` states what a handle keeps)
+-- the elements at a selection are read, of the chunk that the stored value stands for, or fill elements, by the places' bytes alone (`state` states what a handle keeps)
 abbrev pub Reads : {H : Type 0} → (H → StorageState) → BytesCodecPartial H → Indexer → Result Held CodecError → Type 0
 Reads state decoder indexer result =
     ReadsPart (bytes_grammar decoder.codec) (bytes_reads_part decoder.codec) (form_of decoder.shape decoder.data_type decoder.fill_value) (state decoder.handle) (selection_of indexer) result
@@ -73,7 +74,7 @@ CountsReads state calls before after indexer result =
     IfOk (places_of (selection_of indexer) before.shape) (λ places.
     MakesReads (coder_calls calls) (calls_for_runs (place_size before.data_type) (stored_in state before) (consecutive_runs places)) before after result)
 
--- that a call of a decoder changes nothing
+-- a reading call of a coder leaves all as it was, but for the failure that it answers
 abbrev pub Leaves : {H T L : Type 0} → (H → StorageState) → (H → L) → BytesCodecPartial H → BytesCodecPartial H → Result T CodecError → Type 0
 Leaves state lent before after result =
     OnlyReads (coder_state state) (coder_lent lent) bytes_form_of before after result
@@ -102,7 +103,7 @@ bytes_writer form sure in_part = record {
   written = bytes_written form.order (form_in form);
 }
 
--- what a write of a coder leaves at a selection by its grammar
+-- The value afterwards is the one that is written for the edited chunk, the places' bytes alone replaced; or the first error is returned. Only a lack of memory or a failure of the handle may come in its place.
 abbrev pub Edits : {H : Type 0} → (H → StorageState) → BytesCodecPartial H → BytesCodecPartial H → Indexer → Held → Result (Unit {0}) CodecError → Type 0
 Edits state before after indexer new result =
     EditsPart (bytes_grammar before.codec) (form_of before.shape before.data_type before.fill_value) (bytes_written before.codec (form_of before.shape before.data_type before.fill_value)) (state before.handle) (state after.handle) (selection_of indexer) new result

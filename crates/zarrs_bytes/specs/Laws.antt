@@ -66,7 +66,7 @@ LengthByCount =
     (order : Option Endianness) (sizes other_sizes : List ℕ) (type : ElementType) (fill : List ℕ)
     → product sizes ≡ product other_sizes → bytes_length order (form_of sizes type fill) ≡ bytes_length order (form_of other_sizes type fill)
 
--- Of more elements a value is longer: by as many bytes as the elements have that it has more. Fill values don't change it.
+-- Of more elements a value is longer, by as many bytes as those have that it has more. Fill values don't change it.
 abbrev pub LengthGrows : Type 0
 LengthGrows =
     (order : Option Endianness) (sizes other_sizes : List ℕ) (type : ElementType) (fill other_fill : List ℕ) (len other_len : ℕ)

@@ -1,3 +1,4 @@
+-- The codec `bytes`.
 pub mod ByteOrder
 pub mod BytesCodec
 pub mod BytesCodecPartial

@@ -22,7 +22,7 @@ use Rattle.zarrs_codec.specs.HandleCalls.{NeverFailsIf}
 abbrev pub place_bytes : ℕ → List ℕ → List ℕ
 place_bytes size places = flat_map (λ place. range_with_len (place * size) size) places
 
--- the same of the places of these runs, each a start and a length
+-- the numbers of the bytes at the places of these runs, each a start and a length
 abbrev pub run_byte_numbers : ℕ → List (ℕ × ℕ) → List ℕ
 run_byte_numbers size runs = place_bytes size (joined_runs runs)
 

@@ -60,7 +60,7 @@ abbrev pub reading_calls_at : ℕ → List ℕ → ℕ
 reading_calls_at size places =
     if are_scattered places then batch_count (length places) else reading_calls size (consecutive_runs places)
 
--- the same of what is stored: one, where nothing is
+-- how many reading calls a read of places makes: one; of many short runs in a stored value one for each batch
 abbrev pub calls_for_places : ℕ → Option (List ℕ) → List ℕ → ℕ
 calls_for_places size None places = 1
 calls_for_places size (Some value) places = reading_calls_at size places

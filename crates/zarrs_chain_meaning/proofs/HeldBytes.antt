@@ -43,7 +43,8 @@ element_bytes (optional type) (masked inner mask) place h = flag_bytes (slice_in
 pub held_bytes : (type : ElementType) (count : ℕ) (held : Held) → HeldHasBytes held → All HasBytes (elements type count held)
 held_bytes type count held h = All-map HasBytes (element_at type held) (range_with_len 0 count) (λ k d l. element_bytes type held (get_or (range_with_len 0 count) k d) h)
 
-chunk_bytes : (type : ElementType) (held : Held) (chunk : Chunk) → HeldHasBytes held → Holds type held chunk → All HasBytes chunk
+-- of the chunk that it holds too
+pub chunk_bytes : (type : ElementType) (held : Held) (chunk : Chunk) → HeldHasBytes held → Holds type held chunk → All HasBytes chunk
 chunk_bytes type held chunk small holds = subst (All HasBytes) holds.elements_are (held_bytes type (length chunk) held small)
 
 -- ---- what is written for a chunk is decoded again to what is kept of it

@@ -28,7 +28,7 @@ none_small size =
     rw none refl
 
 -- no elements take no bytes
-none_fit : (type : ElementType) → sizes_fit type 0 ≡ Ok tt
+pub none_fit : (type : ElementType) → sizes_fit type 0 ≡ Ok tt
 none_fit (fixed width components sign) = none_small (element_size width components)
 none_fit text = refl
 none_fit bytes = refl

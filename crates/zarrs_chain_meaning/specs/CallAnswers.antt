@@ -1,4 +1,5 @@
 -- What calls give that are asked about chunks of a form.
+-- Source: zarrs, `ArrayToBytesCodecTraits`.
 use Rattle.std.specs.Prelude.{ℕ, List, Result, IsOk}
 use Rattle.std.proofs.Common.{Global}
 use Rattle.std.specs.declared.borrow.CowSlice.{CowSlice}
@@ -14,7 +15,7 @@ use Rattle.zarrs_chain_meaning.specs.CodecMeaning.{codec_chunk, chain_representa
 use Rattle.zarrs_chain_meaning.specs.PlainChain.{PlainCodec, PlainChain}
 use Rattle.zarrs_data_type.specs.ElementType.{ElementType}
 
--- the codec takes such chunks
+-- an array-to-bytes codec takes such chunks: it says how many bytes their value has
 abbrev pub IsTaken : {B : Type 0} → BytesCodecs B → PlainCodec B → Form → Type 0
 IsTaken f codec form = IsOk (codec_representation f codec form.sizes form.type form.fill)
 
@@ -35,7 +36,7 @@ GivesChainRepresentation f chain form result =
 abbrev pub GivesCodecValue : {B : Type 0} → BytesCodecs B → PlainCodec B → Form → Held → Result (CowSlice ℕ Global) CodecError → Type 0
 GivesCodecValue f codec form held result = Gives items_of result (codec_held_value f codec form.sizes form.type form.fill held)
 
--- a container of the chunk that a value stands for, of a codec that takes such chunks; or the first error
+-- a container of the chunk that a value stands for is given, by an array-to-bytes codec that takes such chunks; or the first error
 abbrev pub GivesCodecChunk : {B : Type 0} → BytesCodecs B → PlainCodec B → Form → List ℕ → Result Held CodecError → Type 0
 GivesCodecChunk f codec form value result = GivesBy (Holds form.type) result (codec_chunk f codec form.sizes form.type form.fill value)
 

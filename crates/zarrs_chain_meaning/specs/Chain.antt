@@ -1,4 +1,5 @@
 -- What a chain's calls answer.
+-- Source: zarrs, `PartialDecoderCapability`.
 use Rattle.std.specs.Prelude.{ℕ, zero, suc, ◌&&◌, List, [], ◌∷◌, Option, None, Some, Result, Ok}
 use Rattle.std.specs.List.{list_all}
 use Rattle.zarrs_chunk.specs.Answer.{◌>>=◌, seen}
@@ -18,7 +19,7 @@ use Rattle.zarrs_chain_meaning.specs.ArrayStages.{arrays_map}
 use Rattle.zarrs_chain_meaning.specs.Meaning.{Decoder}
 use Rattle.zarrs_chain_meaning.specs.CodecMeaning.{codec_chunk, codec_value, chain_value, codec_representation, chain_representation}
 
--- the sizes of the chunk that a chain's array-to-bytes codec gets, and how many bytes it makes of it; or the first cause why the chain doesn't take such chunks
+-- the sizes of the chunk that a chain's array-to-bytes codec gets, and how many bytes it makes of it; or the first error
 abbrev pub taken_form : {B : Type 0} → BytesCodecs B → PlainChain B → List ℕ → ElementType → List ℕ → Result (List ℕ × BytesRepresentation) CodecError
 taken_form f chain sizes type fill = do
   encoded ← seen (λ m. m.encoded) (arrays_map type chain.array_to_array sizes)

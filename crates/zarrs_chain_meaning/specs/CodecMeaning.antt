@@ -71,37 +71,42 @@ codec_normal_element codec = (meaning codec).normal
 abbrev pub normal_form : {B : Type 0} → PlainCodec B → ElementType → Chunk → Chunk
 normal_form codec type chunk = map (codec_normal_element codec type) chunk
 
--- how many bytes the value of such a chunk has, or the first cause why the codec, or the chain, doesn't take such chunks
+-- how many bytes an array-to-bytes codec makes of a chunk of these sizes, this type and this fill value, or the first error
 abbrev pub codec_representation : {B : Type 0} → BytesCodecs B → PlainCodec B → Measure
 codec_representation f codec = (meaning codec).representation f
 
+-- how many bytes a chain makes of a chunk of these sizes, this type and this fill value, or the first error
 abbrev pub chain_representation : {B : Type 0} → BytesCodecs B → PlainChain B → Measure
 chain_representation f chain = (chain_meaning chain).representation f
 
--- what an array-to-bytes codec writes of a chunk that it takes; and a chain, or the first error
+-- the value that an array-to-bytes codec writes of a chunk, or the first error
 abbrev pub codec_value : {B : Type 0} → BytesCodecs B → PlainCodec B → Encoder
 codec_value f codec = (meaning codec).value f
 
+-- the value that a chain writes of a chunk, or the first error
 abbrev pub chain_value : {B : Type 0} → BytesCodecs B → PlainChain B → Encoder
 chain_value f chain = (chain_meaning chain).value f
 
--- the chunk that a value stands for, or the first error
+-- the chunk that a value stands for under an array-to-bytes codec, or the first error
 abbrev pub codec_chunk : {B : Type 0} → BytesCodecs B → PlainCodec B → Decoder
 codec_chunk f codec = (meaning codec).chunk f
 
+-- the chunk that a value stands for under a chain, or the first error
 abbrev pub chain_chunk : {B : Type 0} → BytesCodecs B → PlainChain B → Decoder
 chain_chunk f chain = (chain_meaning chain).chunk f
 
--- The value stands for the chunk, of these sizes, this type and this fill value.
+-- Under an array-to-bytes codec the value stands for the chunk, of these sizes, this type and this fill value.
 abbrev pub CodecStands : {B : Type 0} → BytesCodecs B → PlainCodec B → Standing
 CodecStands f codec = (meaning codec).Stands f
 
+-- Under a chain the value stands for the chunk, of these sizes, this type and this fill value.
 abbrev pub ChainStands : {B : Type 0} → BytesCodecs B → PlainChain B → Standing
 ChainStands f chain = (chain_meaning chain).Stands f
 
--- The value is written for the chunk, of these sizes, this type and this fill value.
+-- An array-to-bytes codec writes the value for the chunk, of these sizes, this type and this fill value.
 abbrev pub CodecWritten : {B : Type 0} → BytesCodecs B → PlainCodec B → Standing
 CodecWritten f codec = (meaning codec).Written f
 
+-- A chain writes the value for the chunk, of these sizes, this type and this fill value.
 abbrev pub ChainWritten : {B : Type 0} → BytesCodecs B → PlainChain B → Standing
 ChainWritten f chain = (chain_meaning chain).Written f

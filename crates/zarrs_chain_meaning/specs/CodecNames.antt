@@ -1,4 +1,5 @@
 -- The names of the codecs in metadata.
+-- Source: the Zarr v3 core specification, `codecs`; zarr-extensions; codec.zarrs.dev.
 use Rattle.std.specs.Prelude.{ℕ, Bool, ◌||◌, List, Option, Some, None, codes, if◌then◌else◌}
 use Rattle.std.specs.Str.{bytes_eq}
 use Rattle.zarrs_chain_meaning.specs.declared.codec_name.KnownCodec.{KnownCodec}
@@ -6,25 +7,28 @@ use Rattle.zarrs_chain_meaning.specs.declared.codec_name.KnownCodec.TheVariants.
 use Rattle.zarrs_metadata.specs.CodecMetadata.{is_transpose_name, is_reshape_name, is_squeeze_name, is_bytes_name, is_packbits_name}
 use Rattle.zarrs_vlen_v2.specs.VlenV2Metadata.{is_vlen_v2_name}
 
--- vlen, which is written by the first of its names
+-- the name by which `vlen` is written
 abbrev pub vlen_name : List ℕ
 vlen_name = codes "zarrs.vlen"
 
+-- the name is one of the two of `vlen`
 abbrev pub is_vlen_name : List ℕ → Bool
 is_vlen_name name = bytes_eq name vlen_name || bytes_eq name (codes "https://codec.zarrs.dev/array_to_bytes/vlen")
 
--- optional, which is written by the first of its names
+-- the name by which `optional` is written
 abbrev pub optional_name : List ℕ
 optional_name = codes "zarrs.optional"
 
+-- the name is one of the three of `optional`
 abbrev pub is_optional_name : List ℕ → Bool
 is_optional_name name =
     bytes_eq name optional_name || bytes_eq name (codes "optional") || bytes_eq name (codes "https://codec.zarrs.dev/array_to_bytes/optional")
 
--- sharding_indexed
+-- the name of `sharding_indexed`
 abbrev pub sharding_name : List ℕ
 sharding_name = codes "sharding_indexed"
 
+-- the name is that of `sharding_indexed`
 abbrev pub is_sharding_name : List ℕ → Bool
 is_sharding_name name = bytes_eq name sharding_name
 

@@ -92,7 +92,7 @@ SizesGoByCount {B} f =
     → IsChainOfMappings chain → All (λ size. 0 < size) sizes → All (λ size. 0 < size) others → product sizes ≡ product others
     → chain_representation f chain sizes type fill ≡ Ok r → chain_representation f chain others type fill ≡ Ok s → r ≡ s
 
--- And one with more elements has no smaller one.
+-- Of the chunks that a chain takes, one with more elements has no smaller representation.
 abbrev pub SizesGrow : {B : Type 0} → BytesCodecs B → Type 0
 SizesGrow {B} f =
     (chain : PlainChain B) (sizes others : List ℕ) (type : ElementType) (fill : List ℕ) (r s : BytesRepresentation)

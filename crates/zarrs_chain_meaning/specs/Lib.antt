@@ -1,3 +1,4 @@
+-- What chains mean.
 pub mod optional
 pub mod vlen
 pub mod vlen_v2

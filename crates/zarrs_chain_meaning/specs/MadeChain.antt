@@ -1,4 +1,5 @@
 -- What is made of metadata: codecs, and chains of them.
+-- Source: the Zarr v3 core specification, `codecs`; codec.zarrs.dev.
 use Rattle.std.specs.Prelude.{ℕ, ◌<◌, zero, suc, max, Bool, true, false, not, List, [], ◌∷◌, ◌++◌, Option, Some, None, is_some, ok_or, Result, Ok, Err}
 use Rattle.zarrs_chunk.specs.Answer.{◌>>=◌, demand, seen}
 use Rattle.zarrs_chain_meaning.specs.declared.codec_name.KnownCodec.{KnownCodec}
@@ -64,15 +65,15 @@ sharding_of_parts inside parts = do
   index ← inside parts.index_codecs
   Ok (sharding_codec_of inner index parts.chunk_shape (is_index_at_end parts.index_location))
 
--- the configuration of a metadata of `vlen`: another name is rejected before it is looked at
+-- the configuration of a metadata of `vlen`, or the first error: another name is rejected before it is looked at
 abbrev pub read_as_vlen : Metadata → Result VlenParts PluginCreateError
 read_as_vlen metadata = made_of is_vlen_name read_vlen metadata
 
--- and of one of `optional`
+-- the configuration of a metadata of `optional`, or the first error: another name is rejected before it is looked at
 abbrev pub read_as_optional : Metadata → Result OptionalChains PluginCreateError
 read_as_optional metadata = made_of is_optional_name read_optional metadata
 
--- and of one of `sharding_indexed`
+-- the configuration of a metadata of `sharding_indexed`, or the first error: another name is rejected before it is looked at
 abbrev pub read_as_sharding : Metadata → Result ShardingParts PluginCreateError
 read_as_sharding metadata = made_of is_sharding_name read_sharding metadata
 
@@ -148,10 +149,11 @@ finished so_far = do
   codec ← ok_or so_far.array_to_bytes MissingArrayToBytes
   Ok (record { array_to_array = so_far.array_to_array; array_to_bytes = codec; bytes_to_bytes = so_far.bytes_to_bytes })
 
+-- a chain of which no codec has been made yet
 abbrev pub nothing_gathered : {B : Type 0} → Gathered B
 nothing_gathered = record { array_to_array = []; array_to_bytes = None; bytes_to_bytes = [] }
 
--- the chain of a list, the chains inside made by `inside`
+-- the chain of a list of metadata, or the first error; `inside` makes the chains inside
 abbrev pub chain_made_by : {B : Type 0} → (List Metadata → Result (PlainChain B) PluginCreateError) → (Metadata → Result (Option B) PluginCreateError) → List Metadata → Result (PlainChain B) PluginCreateError
 chain_made_by inside makes metadatas = do
   all ← gathered inside makes metadatas nothing_gathered
@@ -163,6 +165,7 @@ chain_made_by inside makes metadatas = do
 abbrev pub depth_of : Metadata → ℕ
 depth_of metadata = members_depth (members_of metadata.configuration)
 
+-- the depth of the deepest of a list
 abbrev pub depth_all : List Metadata → ℕ
 depth_all [] = 0
 depth_all (metadata ∷ metadatas) = max (depth_of metadata) (depth_all metadatas)
@@ -176,7 +179,7 @@ abbrev pub chain_in : {B : Type 0} → (Metadata → Result (Option B) PluginCre
 chain_in makes zero metadatas = Err InvalidConfiguration
 chain_in makes (suc depth) metadatas = chain_made_by (chain_in makes depth) makes metadatas
 
--- the chain of a list, or the first cause why there is none; `makes` makes what the table of names doesn't know
+-- the chain of a list of metadata, or the first error; `makes` makes what the table of names doesn't know
 unfoldable pub chain_made : {B : Type 0} → (Metadata → Result (Option B) PluginCreateError) → List Metadata → Result (PlainChain B) PluginCreateError
 chain_made makes metadatas = chain_in makes (suc (depth_all metadatas)) metadatas
 

@@ -23,7 +23,7 @@ byte_elements items = map (λ byte. plain (byte ∷ [])) items
 abbrev pub all_bytes : Chunk → List ℕ
 all_bytes chunk = flat_map bytes_of chunk
 
--- a length's bytes, the lowest first; shut likewise
+-- the 8 bytes of a part's length, the lowest first; shut, since they compute to a long list
 unfoldable pub part_length_bytes : List ℕ → List ℕ
 part_length_bytes part = to_le_bytes w64 (length part)
 

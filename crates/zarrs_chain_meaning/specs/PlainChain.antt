@@ -1,4 +1,5 @@
 -- Chains of codecs as plain data.
+-- Source: zarrs, `CodecChain`, `VlenCodec` and `OptionalCodec`.
 use Rattle.std.specs.Prelude.{ℕ, Bool, Option, List}
 use Rattle.zarrs_data_type.specs.declared.endianness.Endianness.{Endianness}
 use Rattle.zarrs_array_to_array.specs.ArrayToArrayCodec.{ArrayMapping}

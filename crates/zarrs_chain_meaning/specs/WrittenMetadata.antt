@@ -1,4 +1,5 @@
 -- The metadata that is written of codecs and of chains.
+-- Source: the Zarr v3 core specification, `codecs`; codec.zarrs.dev.
 use Rattle.std.specs.Prelude.{ℕ, List, map}
 use Rattle.zarrs_metadata.specs.CodecMetadata.{codec_metadata}
 use Rattle.zarrs_metadata.specs.Data.{Members}

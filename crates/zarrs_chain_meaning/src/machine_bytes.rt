@@ -1,5 +1,9 @@
 //! What holds of all bytes of a machine, and the laws of chains ask for: they are below 256.
-ghost use Rattle.std.specs.Prelude.{◌≡◌, ◌<◌, ℕ, List, slice_index};
+ghost use Rattle.std.specs.Prelude.{◌≡◌, ◌<◌, All, ℕ, List, slice_index};
+ghost use Rattle.zarrs_data_type.specs.Element.{Chunk};
+ghost use Rattle.zarrs_data_type.specs.ElementType.{ElementType};
+ghost use Rattle.zarrs_array_bytes.specs.Validity.{Holds};
+ghost use Rattle.zarrs_packbits.specs.Laws.{HasBytes};
 ghost use Rattle.zarrs_codec.specs.BytesToBytesCodec.{AreBytes};
 ghost use Rattle.zarrs_array_bytes.specs.Held.{Raw, flen, vlen};
 ghost use Rattle.zarrs_chain_meaning.specs.MachineBytes.{HeldHasBytes};
@@ -46,4 +50,13 @@ pub fn elements_are_bytes(elements: &ArrayBytes<'_>)
     if let Ok((inner, _)) = elements.as_optional() {
         elements_are_bytes(inner);
     }
+}
+
+/// Those of the chunk that a container holds.
+#[tactic(auto, using(crate::proofs::HeldBytes::chunk_bytes))]
+pub fn chunks_are_bytes(elements: &ArrayBytes<'_>)
+    ensures chunks { (type : ElementType) (chunk : Chunk)
+        → Holds type elements.now chunk → All HasBytes chunk }
+{
+    elements_are_bytes(elements);
 }

@@ -14,16 +14,16 @@ abbrev pub ◌>>=◌ : {E A B : Type 0} → Result A E → (A → Result B E) �
 abbrev pub demand : {E : Type 0} → Bool → E → Result (Unit {0}) E
 demand passed cause = if passed then Ok tt else Err cause
 
--- no error is due
+-- a check passes: no error is due
 abbrev pub no_refusal : {E : Type 0} → Result (Unit {0}) E
 no_refusal = Ok tt
 
--- a result with its value viewed
+-- a result with its value viewed by a function, and its error as it is
 abbrev pub seen : {E X Y : Type 0} → (X → Y) → Result X E → Result Y E
 seen view (Ok x) = Ok (view x)
 seen view (Err e) = Err e
 
--- the number, where 64 bits hold it
+-- the number, where 64 bits hold it, else `Overflow`
 abbrev pub checked_u64 : ℕ → Result ℕ CodecError
 checked_u64 n = if nat_lt n (2 ^ 64) then Ok n else Err Overflow
 
@@ -33,20 +33,21 @@ checked_u64 n = if nat_lt n (2 ^ 64) then Ok n else Err Overflow
 abbrev pub never : {E : Type 0} → E → Bool
 never _ = false
 
--- out of memory
+-- the error is a lack of memory, `OutOfMemory`
 abbrev pub memory : CodecError → Bool
 memory OutOfMemory = true
 memory _ = false
 
--- the handle failed
+-- the error is a failure of the handle, `Storage`
 abbrev pub fault : CodecError → Bool
 fault (Storage _) = true
 fault _ = false
 
+-- the error is a lack of memory or a failure of the handle
 abbrev pub memory_or_fault : CodecError → Bool
 memory_or_fault e = memory e || fault e
 
--- the handle failed in the call that returned this result
+-- the call that returned this result met a failure of its handle
 abbrev pub is_fault : {T : Type 0} → Result T CodecError → Bool
 is_fault (Ok _) = false
 is_fault (Err e) = fault e

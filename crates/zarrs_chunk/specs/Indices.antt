@@ -1,4 +1,5 @@
 -- Tuples by their numbers, and numbers by their tuples.
+-- Source: zarrs, `unravel_index`.
 use Rattle.std.specs.Prelude.{◌≡◌, ℕ, ◌+◌, ◌/◌, ◌%◌, ◌≤◌, true, Option, Some, None, List, [], ◌∷◌}
 use Rattle.zarrs_chunk.specs.ChunkShape.{product}
 use Rattle.zarrs_chunk.specs.Tuples.{row_major, is_tuple_inside}

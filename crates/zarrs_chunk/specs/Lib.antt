@@ -1,3 +1,4 @@
+-- Answers, shapes and places.
 pub mod Answer
 pub mod AnswerLaws
 pub mod ArraySubset

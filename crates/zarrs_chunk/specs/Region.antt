@@ -1,4 +1,5 @@
 -- What an array subset is seen as.
+-- Source: zarrs, `ArraySubset`.
 use Rattle.std.specs.Prelude.{◌≡◌, ℕ, ◌+◌, ◌^◌, ◌<◌, List, length, slice_index}
 
 -- where each range of a box begins, and how long it is

@@ -1,4 +1,5 @@
 -- Which index tuples are selected, and their places in a chunk.
+-- Source: zarrs, `Indexer`.
 use Rattle.std.specs.Prelude.{ℕ, ◌==◌, List, Vec, map, length, Result, Ok}
 use Rattle.std.specs.List.{list_all}
 use Rattle.std.specs.declared.alloc.Global.{Global}
@@ -27,7 +28,7 @@ abbrev pub tuples_of : Selection → List (List ℕ)
 tuples_of (subset region) = box_tuples region.starts region.lengths
 tuples_of (indices tuples) = tuples
 
--- In bounds: one number or range an axis, and each inside its axis. An empty range has to lie inside too.
+-- The selection lies inside a chunk of these sizes, or the first error: it has one number or range an axis, and each is inside its axis. An empty range has to lie inside too.
 abbrev pub bounds_of : Selection → List ℕ → Result (Unit {0}) CodecError
 bounds_of (subset region) sizes = do
   _ ← demand (length region.starts == length sizes) IncompatibleDimensionality
@@ -36,11 +37,11 @@ bounds_of (indices tuples) sizes = do
   _ ← demand (list_all (λ tuple. length tuple == length sizes) tuples) IncompatibleDimensionality
   demand (list_all (λ tuple. is_tuple_inside sizes tuple) tuples) OutOfBounds
 
--- how many elements are selected
+-- how many elements are selected, or `Overflow`
 abbrev pub len_of : Selection → Result ℕ CodecError
 len_of selection = checked_u64 (length (tuples_of selection))
 
--- the row-major numbers of the tuples, in order
+-- the row-major numbers of the selected tuples, in order; or the first error, of the bounds before all others
 abbrev pub places_of : Selection → List ℕ → Result (List ℕ) CodecError
 places_of selection sizes = do
   _ ← bounds_of selection sizes

@@ -1,4 +1,5 @@
 -- Index tuples of a chunk, and their row-major numbers.
+-- Source: the Zarr v3 core specification, chunks; zarrs, `ArraySubset`.
 use Rattle.std.specs.Prelude.{ℕ, ◌+◌, ◌*◌, Bool, true, false, ◌&&◌, nat_lt, nat_le, List, [], ◌∷◌, map}
 use Rattle.std.specs.List.{flat_map, range_with_len}
 use Rattle.zarrs_chunk.specs.ChunkShape.{product}

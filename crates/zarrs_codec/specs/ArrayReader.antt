@@ -1,4 +1,5 @@
 -- What contracts see of a partial decoder of chunks.
+-- Source: zarrs, `ArrayPartialDecoderTraits`.
 use Rattle.std.specs.Prelude.{◌≡◌, ℕ, Bool, true, ◌&&◌, List, length, Result, Ok, Err}
 use Rattle.zarrs_chunk.specs.Answer.{◌>>=◌}
 use Rattle.zarrs_chunk.specs.Selection.{Selection, bounds_of, tuples_of}
@@ -38,6 +39,6 @@ pub record CountsTuples (reader : ArrayReader) (selection : Selection) (chunk : 
   pub inside : bounds_of selection reader.sizes ≡ Ok tt
   pub count : length chunk ≡ length (tuples_of selection)
 
--- so of every selection
+-- a reader answers selections inside the chunk alone, with an element for each tuple
 abbrev pub IsCounted : ArrayReader → Type 0
 IsCounted reader = (selection : Selection) (chunk : Chunk) → reader.answer selection ≡ Ok chunk → CountsTuples reader selection chunk

@@ -1,4 +1,5 @@
 -- What contracts see of a partial encoder of chunks.
+-- Source: zarrs, `ArrayPartialEncoderTraits`.
 use Rattle.std.specs.Prelude.{◌≡◌, ◌⊎◌, ℕ, Bool, false, Option, Some, is_some, List, [], length, Result, Ok, Err, IfErr}
 use Rattle.zarrs_chunk.specs.Answer.{◌>>=◌, no_refusal, seen}
 use Rattle.zarrs_chunk.specs.Indexer.{selection_of}
@@ -19,7 +20,7 @@ pub record ArrayWriter : Type 0 where
   pub checks : Selection → Held → Result (Unit {0}) CodecError
   pub written : Option (List ℕ) → Selection → Held → Result (List ℕ) CodecError
 
--- what stands in the place of one where a chunk is only read: nothing is asked of it
+-- what stands for a writer where a chunk is only read: nothing is asked of it
 abbrev pub no_writer : ArrayWriter
 no_writer = record {
   reads = λ stored. record { sizes = []; type = bytes; is_stored = is_some stored; answer = λ selection. Ok []; sure = λ selection. false; in_part = false };
@@ -45,14 +46,14 @@ abbrev pub IsRefusedWrite : {T : Type 0} → Result T CodecError → StorageStat
 IsRefusedWrite result old new =
     (new ≡ after_reading result old) ⊎ (apart_from_value new ≡ after_writing result old)
 
--- the same of a call of a coder: `state` is what it knows of its handle
+-- a write that failed made no writing call, or the one that failed (`state` is what a coder knows of its handle)
 abbrev pub LeftByRefusal : {C T : Type 0} → (C → StorageState) → C → C → Result T CodecError → Type 0
 LeftByRefusal state before after result = IsRefusedWrite result (state before) (state after)
 
--- the value that is stored once new elements are written at an indexer's places, or the first error
+-- the value that a handle keeps once new elements are written at an indexer's places, or the first error
 abbrev pub written_value : ArrayWriter → StorageState → Indexer → Held → Result (Option (List ℕ)) CodecError
 written_value writer state indexer new = seen Some (writer.written state.value (selection_of indexer) new)
 
--- that new elements can be written at an indexer's places, as far as that is seen without the handle, or the first error
+-- new elements can be written at an indexer's places, as far as that is seen without the handle; or the first error
 abbrev pub edit_check : ArrayWriter → Indexer → Held → Result (Unit {0}) CodecError
 edit_check writer indexer new = writer.checks (selection_of indexer) new

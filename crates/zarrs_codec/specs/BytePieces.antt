@@ -1,4 +1,5 @@
 -- Writing pieces of a stored value: each is the number of its first byte and how many bytes it has.
+-- Source: zarrs, `partial_encode_many`.
 use Rattle.std.specs.Prelude.{ℕ, zero, suc, ◌+◌, ◌-◌, ◌^◌, ◌==◌, nat_lt, max, List, [], ◌∷◌, ◌++◌, length, replicate, Result}
 use Rattle.std.specs.List.{list_all, range_with_len}
 use Rattle.zarrs_chunk.specs.Answer.{◌>>=◌, demand}

@@ -1,4 +1,5 @@
 -- The bytes of a stored value, by ranges of them.
+-- Source: zarrs, `ByteRange`.
 use Rattle.std.specs.Prelude.{◌≡◌, ℕ, ◌-◌, ◌<◌, nat_le, Bool, true, false, Option, Some, None, List, length, slice_index, Result, Ok}
 use Rattle.std.specs.List.{between, flat_map, list_all, range_with_len}
 use Rattle.zarrs_chunk.specs.Answer.{◌>>=◌, demand}

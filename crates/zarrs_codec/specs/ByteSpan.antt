@@ -1,4 +1,5 @@
 -- What a range of bytes is seen as.
+-- Source: zarrs, `ByteRange`.
 use Rattle.std.specs.Prelude.{ℕ}
 
 -- a range of bytes: the number of its first byte, and of the first one behind it

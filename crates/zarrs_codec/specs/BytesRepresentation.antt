@@ -1,4 +1,5 @@
 -- How many bytes the value of a chunk has.
+-- Source: zarrs, `BytesRepresentation`.
 use Rattle.std.specs.Prelude.{ℕ, Option, Some, None}
 use Rattle.zarrs_codec.specs.declared.bytes_representation.BytesRepresentation.{BytesRepresentation}
 use Rattle.zarrs_codec.specs.declared.bytes_representation.BytesRepresentation.TheVariants.{FixedSize, BoundedSize, UnboundedSize}

@@ -1,4 +1,5 @@
 -- Codecs of bytes to bytes, as functions, and the laws that they keep.
+-- Source: zarrs, `BytesToBytesCodecTraits`; the laws are own.
 use Rattle.std.specs.Prelude.{◌≡◌, ℕ, ◌<◌, ◌≤◌, ◌^◌, Result, Ok, Err, List, length, All}
 use Rattle.zarrs_chunk.specs.declared.codec_error.CodecError.{CodecError}
 use Rattle.zarrs_chunk.specs.declared.codec_error.CodecError.TheVariants.{BytesCodec}

@@ -37,7 +37,7 @@ abbrev pub after_write : {E T : Type 0} → Result T E → List ℕ → Option C
 after_write result numbers None = None
 after_write result numbers (Some calls) = Some (record calls { replaced = replaced_with result numbers calls.replaced })
 
--- a writing call that answered this left such a record; `calls` is the record of its object
+-- a writing call that answered this left such a record (`calls` is what the record of a handle is)
 abbrev pub CountsWrite : {C E T : Type 0} → (C → Option Calls) → C → C → List ℕ → Result T E → Type 0
 CountsWrite calls before after numbers result = calls after ≡ after_write result numbers (calls before)
 

@@ -1,4 +1,5 @@
 -- What the calls of an array-to-bytes codec give, by the functions that it computes. `OutOfMemory` may come at any time, and `Storage` never comes.
+-- Source: zarrs, `ArrayToBytesCodecTraits`.
 use Rattle.std.specs.Prelude.{◌≡◌, ℕ, Option, None, List, Result, Ok, IfOk, option_map}
 use Rattle.std.proofs.Common.{Global}
 use Rattle.std.specs.declared.borrow.CowSlice.{CowSlice}
@@ -28,6 +29,6 @@ DecodesBy decoded form value result = GivesBy (Holds form.type) result (decoded 
 abbrev pub GivesValid : ElementType → List ℕ → Result Held CodecError → Type 0
 GivesValid type sizes result = IfOk result (λ elements. validity type (product sizes) elements ≡ Ok tt)
 
--- no value of fewer bytes is answered where the codec opens the value, or else the first error
+-- the answer is that no value of fewer bytes is known, where the codec opens the value; or the first error
 abbrev pub CompactsNone : (Form → List ℕ → Result (Unit {0}) CodecError) → Form → List ℕ → Result (Option (CowSlice ℕ Global)) CodecError → Type 0
 CompactsNone opened form value result = Gives (option_map raw_of) result (seen (λ _. None) (opened form value))

@@ -37,7 +37,7 @@ MapsSizes coordinates sizes result = IfOk result (λ next. IsMapTo (coordinates 
 abbrev pub same_places : List ℕ → CoordinateMap
 same_places sizes = record { encoded = sizes; to = λ place. place; from = λ place. place }
 
--- one map after the other
+-- one map, and then the other
 abbrev pub composition : CoordinateMap → CoordinateMap → CoordinateMap
 composition first second = record {
   encoded = second.encoded;
@@ -53,6 +53,6 @@ inverse_map sizes m = record { encoded = sizes; to = m.from; from = m.to }
 abbrev pub origins : CoordinateMap → List ℕ
 origins m = map m.from (range_with_len 0 (product m.encoded))
 
--- the moved chunk
+-- the chunk with its elements where the map moves them
 abbrev pub moved_chunk : CoordinateMap → Chunk → Chunk
 moved_chunk m chunk = select chunk (origins m)

@@ -1,4 +1,5 @@
 -- What decoding into a target answers.
+-- Source: zarrs, `decode_into`.
 use Rattle.std.specs.Prelude.{ℕ, List, Result}
 use Rattle.zarrs_chunk.specs.Answer.{◌>>=◌, AnswersBy, memory}
 use Rattle.zarrs_chunk.specs.ChunkShape.{product}

@@ -29,7 +29,7 @@ abbrev pub wants_memory : {T : Type 0} → Result T CodecError → Bool
 wants_memory (Ok _) = false
 wants_memory (Err e) = memory e
 
--- the same of a writing call. One of a handle that tears takes memory before it fails: `OutOfMemory` may come in place of the failure.
+-- a writing call fails where it is its turn and else doesn't, and it is counted. One of a handle that tears takes memory before it fails: `OutOfMemory` may come in place of the failure.
 pub record TearsInTurn {T : Type 0} (tears : Bool) (result : Result T CodecError) (before after : Turn) : Type 0 where
   pub failure : Excused (tears && wants_memory result) (last_failure result None ≡ failure_due before)
   pub counted : after ≡ turn_after before

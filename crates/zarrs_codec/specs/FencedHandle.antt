@@ -12,11 +12,11 @@ use Rattle.zarrs_codec.specs.declared.testing.fenced_handle.FencedHandle.{Fenced
 abbrev pub has_byte : ℕ → ByteSpan → Bool
 has_byte byte range = nat_le range.start byte && nat_lt byte range.end
 
--- whether one of the ranges has it
+-- one of the ranges has the byte of this number
 abbrev pub is_fenced : List ByteSpan → ℕ → Bool
 is_fenced ranges byte = list_any (has_byte byte) ranges
 
--- its state: the bytes inside the ranges are sure
+-- the state of a handle that reads the bytes of its ranges alone: these are sure
 abbrev pub fenced_state : FencedHandle → StorageState
 fenced_state handle =
     record {

@@ -1,4 +1,5 @@
 -- What an array-to-bytes codec, or a chain of codecs, states of chunks, and what its calls give by it.
+-- Source: zarrs, `ArrayToBytesCodecTraits`.
 use Rattle.std.specs.Prelude.{◌≡◌, ℕ, false, List, Result, Ok, IfOk}
 use Rattle.std.proofs.Common.{Global}
 use Rattle.std.specs.declared.borrow.CowSlice.{CowSlice}

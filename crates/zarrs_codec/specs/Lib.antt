@@ -1,3 +1,4 @@
+-- Handles, and what all codecs share.
 pub mod ArrayReader
 pub mod ArrayWriter
 pub mod BytePieces

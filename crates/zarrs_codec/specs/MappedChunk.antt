@@ -1,4 +1,5 @@
 -- What a codec that moves elements makes of a chunk.
+-- Source: zarrs, `ArrayToArrayCodecTraits`.
 use Rattle.std.specs.Prelude.{◌≡◌, ◌⊎◌, ℕ, List, Result, Ok, Err, IfOk, IfErr, Option, Some, None}
 use Rattle.zarrs_chunk.specs.Answer.{◌>>=◌, Answers, AnswersBy, AnswersValue, GivesValue, checked_u64, memory, seen}
 use Rattle.zarrs_chunk.specs.ChunkShape.{product}
@@ -68,7 +69,7 @@ abbrev pub EncodesMoved : (ElementType → Result (Unit {0}) CodecError) → (Li
 EncodesMoved takes coordinates type sizes held result =
     IfOk (encoded_chunk (takes type) (coordinates sizes) type sizes held) (λ chunk. AnswersBy memory (Holds type) result (Ok chunk))
 
--- the same of the decoded chunk
+-- Where the codec accepts such chunks and the container holds a moved one, the answer is a container of the decoded chunk. Only lack of memory may come in its place.
 abbrev pub DecodesMoved : (ElementType → Result (Unit {0}) CodecError) → (List ℕ → Result CoordinateMap CodecError) → ElementType → List ℕ → Held → Result Held CodecError → Type 0
 DecodesMoved takes coordinates type sizes held result =
     IfOk (decoded_chunk (takes type) (coordinates sizes) type sizes held) (λ chunk. AnswersBy memory (Holds type) result (Ok chunk))
@@ -78,6 +79,6 @@ abbrev pub LeavesUnfit : (ElementType → Result (Unit {0}) CodecError) → (Lis
 LeavesUnfit takes coordinates type sizes held result =
     IfErr (map_for (takes type) (coordinates sizes) type sizes held) (λ cause. (result ≡ Ok held) ⊎ Answers memory (λ given. given) result (Err cause))
 
--- the same, by what a codec accepts and what it does to chunks of some sizes
+-- Where a container holds no chunk that a codec accepts, it is handed on as it is, or the first error is returned. Only lack of memory may come in its place.
 abbrev pub KeepsUnfit : {C : Type 0} → (C → ElementType → Result (Unit {0}) CodecError) → (C → List ℕ → Result CoordinateMap CodecError) → C → ElementType → List ℕ → Held → Result Held CodecError → Type 0
 KeepsUnfit takes coordinates codec type sizes held result = LeavesUnfit (takes codec) (coordinates codec) type sizes held result

@@ -1,10 +1,11 @@
 -- What a handle in memory is seen as.
+-- Source: zarrs, storage handles.
 use Rattle.std.specs.Prelude.{ℕ, true, Option, Some, None, List}
 use Rattle.std.specs.Option.{option_map}
 use Rattle.zarrs_codec.specs.StorageState.{StorageState}
 use Rattle.zarrs_codec.specs.declared.memory_handle.MemoryHandle.{MemoryHandle}
 
--- its value, or none
+-- the value of a handle in memory, or none
 abbrev pub handle_value : MemoryHandle → Option (List ℕ)
 handle_value handle = option_map (λ value. value.items) handle.value
 
@@ -12,7 +13,7 @@ handle_value handle = option_map (λ value. value.items) handle.value
 abbrev pub write_count : MemoryHandle → ℕ
 write_count handle = handle.write_calls
 
--- and how many of them were accepted
+-- how many writing calls were accepted, modulo 2^64
 abbrev pub accepted_count : MemoryHandle → ℕ
 accepted_count handle = handle.accepted_writes
 

@@ -5,10 +5,10 @@ use Rattle.zarrs_codec.specs.MemoryHandle.{memory_state}
 use Rattle.zarrs_codec.specs.StorageState.{StorageState}
 use Rattle.zarrs_codec.specs.declared.testing.recording_handle.RecordingHandle.{RecordingHandle}
 
--- its state: all bytes are sure, since it never fails
+-- the state of a handle that keeps a record of its calls: all bytes are sure, since it never fails
 abbrev pub recorded_state : RecordingHandle → StorageState
 recorded_state handle = memory_state handle.memory
 
--- its record
+-- the record that such a handle keeps
 abbrev pub recorded_calls : RecordingHandle → Calls
 recorded_calls handle = record { reads = handle.reads; replaced = joined_runs handle.replaced.items }

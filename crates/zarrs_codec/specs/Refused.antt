@@ -3,7 +3,7 @@ use Rattle.std.specs.Prelude.{Result, Ok, Err}
 use Rattle.zarrs_chunk.specs.declared.codec_error.CodecError.{CodecError}
 use Rattle.zarrs_codec.specs.declared.refused.Refused.{Refused}
 
--- that a coder was made, or the error
+-- a coder was made, or the error
 abbrev pub outcome : {T H : Type 0} → Result T (Refused H) → Result (Unit {0}) CodecError
 outcome (Ok _) = Ok tt
 outcome (Err refused) = Err refused.error

@@ -25,10 +25,12 @@ behind_length bytes = do
   _ ← demand (stored_length bytes == length (drop 8 bytes)) (BytesCodec 2)
   Ok (drop 8 bytes)
 
+-- the bytes that a sample codec makes: the reversed ones, or these behind their length
 abbrev pub sample_encoded_bytes : SampleBytesCodec → List ℕ → List ℕ
 sample_encoded_bytes Reverse bytes = reverse bytes
 sample_encoded_bytes Length bytes = length_bytes bytes ++ bytes
 
+-- the bytes that a sample codec reads, or the error
 abbrev pub sample_decoded_bytes : SampleBytesCodec → BytesRepresentation → List ℕ → Result (List ℕ) CodecError
 sample_decoded_bytes Reverse r bytes = Ok (reverse bytes)
 sample_decoded_bytes Length r bytes = behind_length bytes
@@ -39,6 +41,7 @@ with_length (FixedSize size) = if nat_lt (size + 8) (2 ^ 64) then FixedSize (siz
 with_length (BoundedSize size) = if nat_lt (size + 8) (2 ^ 64) then BoundedSize (size + 8) else UnboundedSize
 with_length UnboundedSize = UnboundedSize
 
+-- how many bytes a sample codec makes
 abbrev pub sample_representation : SampleBytesCodec → BytesRepresentation → BytesRepresentation
 sample_representation Reverse r = r
 sample_representation Length r = with_length r

@@ -114,9 +114,11 @@ length_grows UnboundedSize (BoundedSize n) h = absurd h
 
 -- ---- errors
 
+-- bytes as a result
 abbrev okay : List ℕ → Result (List ℕ) CodecError
 okay bytes = Ok bytes
 
+-- an error as a result
 abbrev refused : CodecError → Result (List ℕ) CodecError
 refused error = Err error
 

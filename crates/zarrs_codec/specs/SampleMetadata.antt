@@ -6,6 +6,7 @@ use Rattle.zarrs_metadata.specs.declared.plugin_create_error.PluginCreateError.{
 use Rattle.zarrs_codec.specs.declared.sample_bytes_codec.SampleBytesCodec.{SampleBytesCodec}
 use Rattle.zarrs_codec.specs.declared.sample_bytes_codec.SampleBytesCodec.TheVariants.{Reverse, Length}
 
+-- the name of a sample codec
 abbrev pub sample_name : SampleBytesCodec → List ℕ
 sample_name Reverse = codes "sample.reverse"
 sample_name Length = codes "sample.length"
@@ -17,7 +18,7 @@ sample_named name =
     else if bytes_eq name (codes "sample.length") then Some Length
     else None
 
--- its metadata, which has no configuration
+-- the metadata of a sample codec, which has no configuration
 abbrev pub sample_metadata : SampleBytesCodec → Metadata
 sample_metadata codec = record { name = sample_name codec; configuration = None; must_understand = true }
 

@@ -8,7 +8,7 @@ use Rattle.zarrs_codec.specs.FailingCall.{Turn, turn_of}
 use Rattle.zarrs_codec.specs.MemoryHandle.{handle_value}
 use Rattle.zarrs_codec.specs.declared.testing.watched_handle.WatchedHandle.{WatchedHandle}
 
--- its state: no byte is sure. (The logic has a number for the const parameter.)
+-- the state of a handle of which one call fails: no byte is sure (the logic has a number for the const parameter)
 abbrev pub watched_state : {TEARS : ℕ} → WatchedHandle TEARS → StorageState
 watched_state handle =
     record {
@@ -20,7 +20,7 @@ watched_state handle =
       accepted_writes = handle.calls.accepted_writes;
     }
 
--- which of its calls fails
+-- which call of the handle fails
 abbrev pub watched_turn : {TEARS : ℕ} → WatchedHandle TEARS → Turn
 watched_turn handle = turn_of handle.calls
 
@@ -33,7 +33,7 @@ abbrev pub half_of_made : Result (Unit {0}) CodecError → List ℕ → Option (
 half_of_made (Ok _) made value = Some (first_half made)
 half_of_made (Err _) made value = value
 
--- the same of a write of pieces
+-- half of what a failing write of pieces was to make of a value, or the old value where they don't fit
 abbrev pub half_of_pieces : List (ℕ × ℕ) → List ℕ → Option (List ℕ) → Option (List ℕ)
 half_of_pieces pieces bytes value =
     half_of_made (pieces_fit pieces (length bytes)) (with_pieces (value_or_empty value) pieces bytes) value
@@ -42,7 +42,7 @@ half_of_pieces pieces bytes value =
 abbrev pub torn_or_kept : {T : Type 0} → Bool → Result T CodecError → Option (List ℕ) → Option (List ℕ) → Option (List ℕ)
 torn_or_kept tears result torn value = if tears && is_fault result then torn else value
 
--- the same of a call: `torn` is what is torn of the value that there was
+-- a call that failed leaves what is torn of the value, where the handle tears and failed in it, else the value as it was
 abbrev pub Tears : {TEARS : ℕ} → {T : Type 0} → Bool → (Option (List ℕ) → Option (List ℕ)) → WatchedHandle TEARS → WatchedHandle TEARS → Result T CodecError → Type 0
 Tears tears torn before after result =
     OnErr result ((watched_state after).value ≡ torn_or_kept tears result (torn (watched_state before).value) (watched_state before).value)

@@ -1,4 +1,5 @@
 -- What the codec `crc32c` computes: the bytes, and behind them their checksum.
+-- Source: the Zarr v3 codec `crc32c`.
 use Rattle.std.specs.Prelude.{ℕ, ◌+◌, ◌-◌, ◌^◌, ◌==◌, nat_le, nat_lt, if◌then◌else◌, List, ◌++◌, length, take, drop, Result, Ok}
 use Rattle.std.specs.Int.{w32, to_le_bytes, from_le_bytes}
 use Rattle.zarrs_chunk.specs.Answer.{◌>>=◌, demand, seen}
@@ -27,17 +28,18 @@ with_checksum bytes = bytes ++ checksum_bytes bytes
 abbrev pub bytes_before : List ℕ → List ℕ
 bytes_before encoded = take (length encoded - 4) encoded
 
+-- the last four bytes
 abbrev pub last_four : List ℕ → List ℕ
 last_four encoded = drop (length encoded - 4) encoded
 
--- the bytes that stand before a checksum, where there is one and it is theirs
+-- the bytes that stand before a checksum, or the first error: there is one, and it is theirs
 abbrev pub checked_bytes : List ℕ → Result (List ℕ) CodecError
 checked_bytes encoded = do
   _ ← demand (nat_le 4 (length encoded)) (BytesCodec 1)
   _ ← demand (checksum_in (last_four encoded) == crc32c (bytes_before encoded)) (BytesCodec 2)
   Ok (bytes_before encoded)
 
--- the same of bytes that may be lent: lent ones stay so, and owned ones are cut
+-- the bytes before a checksum where it is theirs, or the first error: lent ones stay so, and owned ones are cut
 abbrev pub checked_raw : Raw → Result Raw CodecError
 checked_raw encoded =
     seen (λ items. record { items = items; is_owned = encoded.is_owned }) (checked_bytes encoded.items)

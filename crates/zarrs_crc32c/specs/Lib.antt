@@ -1,3 +1,4 @@
+-- The codec `crc32c`.
 pub mod Checksum
 pub mod Crc32cCodec
 pub mod Crc32cMetadata

@@ -1,4 +1,5 @@
 -- The elements of a type.
+-- Source: the Zarr v3 core specification, chunks.
 use Rattle.std.specs.Prelude.{◌≡◌, ℕ, List, length, All, if◌then◌else◌}
 use Rattle.zarrs_data_type.specs.ElementType.{ElementType, fixed, text, bytes, optional, element_size}
 use Rattle.zarrs_data_type.specs.FillValue.{is_null, front_of}
@@ -26,7 +27,7 @@ IsElement _ _ = ⊥
 abbrev pub AreElements : ElementType → Chunk → Type 0
 AreElements type chunk = All (IsElement type) chunk
 
--- the element that a fill value is
+-- the element that the bytes of a fill value are
 abbrev pub fill_element : ElementType → List ℕ → Element
 fill_element (fixed width count sign) fill = plain fill
 fill_element text fill = plain fill

@@ -1,4 +1,5 @@
 -- What a data type is seen as, and what follows from it.
+-- Source: the Zarr v3 core specification, data types; zarr-extensions.
 use Rattle.std.specs.Prelude.{◌≡◌, ℕ, zero, suc, ◌+◌, ◌*◌, ◌/◌, ◌^◌, ◌<◌, Bool, true, false, Option, Some, None, Result, Ok, cond, ◌==◌, nat_lt, ◌&&◌}
 use Rattle.std.proofs.Common.{refl, ap}
 use Rattle.std.specs.Coded.{Coded, code_by, coded×, coded_ℕ, coded_bool}
@@ -57,7 +58,7 @@ pub record IsFixedType (width count : ℕ) : Type 0 where
   pub components : 0 < count
   pub size : element_size width count < 2 ^ 64
 
--- the type of elements of `count` components of `width` bits, or the first cause why there is none
+-- the type of elements of `count` components of `width` bits, or the first error
 abbrev pub components_type : ℕ → ℕ → Bool → Result ElementType CodecError
 components_type width count sign = do
   _ ← demand (nat_lt 0 width && nat_lt 0 count) BitRange

@@ -1,4 +1,5 @@
 -- Which bytes are a fill value of a type.
+-- Source: zarrs, `FillValue`.
 use Rattle.std.specs.Prelude.{ℕ, ◌-◌, Bool, true, List, length, take, slice_index, nat_lt, ◌==◌, ◌&&◌, ◌||◌}
 use Rattle.zarrs_data_type.specs.ElementType.{ElementType, fixed, text, bytes, optional, element_size}
 

@@ -1,4 +1,5 @@
 -- The kind of a chunk.
+-- Source: the Zarr v3 core specification, array metadata.
 use Rattle.std.specs.Prelude.{ℕ, List}
 use Rattle.zarrs_data_type.specs.ElementType.{ElementType}
 

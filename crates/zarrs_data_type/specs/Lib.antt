@@ -1,3 +1,4 @@
+-- Types and fill values.
 pub mod ElementType
 pub mod DataType
 pub mod InnerType

@@ -1,4 +1,5 @@
 -- The sizes that a reshape gives a chunk, as plain data.
+-- Source: zarr-extensions, `reshape`.
 use Rattle.std.specs.Prelude.{◌≡◌, ℕ, suc, ◌<◌, Bool, true, false, not, ◌==◌, ◌&&◌, nat_le, List, [], ◌∷◌, Some, slice_get}
 use Rattle.std.specs.List.{list_all}
 
@@ -41,7 +42,7 @@ autos (input_dims axes ∷ dims) = autos dims
 abbrev pub is_reshape : List Dim → Bool
 is_reshape dims = nat_le (autos dims) 1 && has_no_zero dims
 
--- the same, size by size
+-- size by size, at most one is what the others leave, and none is the number zero
 pub record IsReshape (dims : List Dim) : Type 0 where
   pub positive : (i n : ℕ) → slice_get dims i ≡ Some (size n) → 0 < n
   pub one_auto : (i j : ℕ) → slice_get dims i ≡ Some auto → slice_get dims j ≡ Some auto → i ≡ j

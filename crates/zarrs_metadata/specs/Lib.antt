@@ -1,3 +1,4 @@
+-- Metadata.
 pub mod BytesConfiguration
 pub mod CodecMetadata
 pub mod Dims

@@ -1,4 +1,5 @@
 -- The metadata of a codec, as a JSON tree.
+-- Source: the Zarr v3 core specification, `codecs`.
 use Rattle.std.specs.Prelude.{ℕ, Bool, true, false, not, ◌&&◌, List, Option, Some, None, is_some, Result, Ok, Err, codes, if◌then◌else◌}
 use Rattle.serde_json.specs.Data.{Data, null, boolean, number, string, array, object, Members, no_members, member}
 use Rattle.serde_json.specs.Find.{as_bool, as_object, get_member}
@@ -31,7 +32,7 @@ metadata_in members = do
 abbrev pub metadata_named : List ℕ → Metadata
 metadata_named name = record { name = name; configuration = None; must_understand = true }
 
--- the same metadata, which has to be understood or need not be
+-- the metadata as it is, but for whether it has to be understood
 abbrev pub understood : Bool → Metadata → Metadata
 understood must_understand m = record { name = m.name; configuration = m.configuration; must_understand = must_understand }
 
@@ -44,7 +45,7 @@ metadata_of (string name) = Ok (metadata_named name)
 metadata_of (array items) = Err InvalidConfiguration
 metadata_of (object members) = metadata_in members
 
--- the same of a tree in which no number is a float
+-- the metadata of a JSON tree in which no number is a float, or the first error
 abbrev pub read_metadata : Data → Result Metadata PluginCreateError
 read_metadata tree = do
   _ ← demand (not (has_float tree)) InvalidConfiguration
@@ -55,10 +56,12 @@ abbrev pub must_understand_written : Bool → Members → Members
 must_understand_written true members = members
 must_understand_written false members = member (codes "must_understand") (boolean false) members
 
+-- these members, and the configuration in front of them where there is one
 abbrev pub configuration_written : Option Members → Members → Members
 configuration_written None members = members
 configuration_written (Some configuration) members = member (codes "configuration") (object configuration) members
 
+-- the members of the object that metadata is written as
 abbrev pub metadata_members : Metadata → Members
 metadata_members m =
     configuration_written m.configuration (must_understand_written m.must_understand (member (codes "name") (string m.name) no_members))

@@ -1,4 +1,5 @@
 -- The configuration of codec `optional`.
+-- Source: codec.zarrs.dev, `optional`.
 use Rattle.std.specs.Prelude.{List, Result, Ok, codes}
 use Rattle.serde_json.specs.Data.{Members, no_members, member}
 use Rattle.zarrs_chunk.specs.Answer.{◌>>=◌}
@@ -15,11 +16,11 @@ pub record OptionalChains : Type 0 where
   pub mask_codecs : List Metadata
   pub data_codecs : List Metadata
 
--- contracts see both
+-- what a configuration of `optional` is seen as: both chains' metadata
 abbrev pub optional_seen : OptionalCodecConfiguration → OptionalChains
 optional_seen (V1 c) = record { mask_codecs = metadatas_in c.mask_codecs; data_codecs = metadatas_in c.data_codecs }
 
--- the chains of a configuration, or the first cause why there are none
+-- the chains of a configuration, or the first error
 abbrev pub read_optional : Members → Result OptionalChains PluginCreateError
 read_optional configuration = do
   _ ← without_floats configuration
@@ -27,7 +28,7 @@ read_optional configuration = do
   data_codecs ← metadata_at (codes "data_codecs") configuration
   Ok (record { mask_codecs = mask_codecs; data_codecs = data_codecs })
 
--- how chains are written
+-- the members that are written of two chains
 abbrev pub write_optional : OptionalChains → Members
 write_optional c =
     member (codes "data_codecs") (metadata_list_tree c.data_codecs)

@@ -1,4 +1,5 @@
 -- Orders of axes: lists that name each of so many axes as they are long, once.
+-- Source: the Zarr v3 codec `transpose`.
 use Rattle.std.specs.Prelude.{◌≢◌, ℕ, ◌<◌, Bool, true, ◌&&◌, ◌==◌, not, nat_lt, List, [], ◌∷◌, length, slice_index}
 use Rattle.std.specs.List.{list_all, list_any}
 
@@ -11,7 +12,7 @@ is_distinct (axis ∷ axes) = not (list_any (λ other. axis == other) axes) && i
 abbrev pub is_order : List ℕ → Bool
 is_order order = list_all (λ axis. nat_lt axis (length order)) order && is_distinct order
 
--- the same, entry by entry
+-- entry by entry, the list is an order
 pub record IsOrder (order : List ℕ) : Type 0 where
   pub below : (i : ℕ) → i < length order → slice_index order i < length order
   pub distinct : (i j : ℕ) → i < j → j < length order → slice_index order i ≢ slice_index order j

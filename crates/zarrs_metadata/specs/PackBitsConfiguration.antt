@@ -1,4 +1,5 @@
 -- The configuration of codec `packbits`.
+-- Source: zarr-extensions, `packbits`.
 use Rattle.std.specs.Prelude.{ℕ, nat_le, Bool, true, List, Option, Some, None, option_and_then, Result, Ok, codes, if◌then◌else◌}
 use Rattle.std.specs.Str.{bytes_eq}
 use Rattle.serde_json.specs.Data.{Data, unsigned, null, number, string, Members, no_members, member}
@@ -13,7 +14,7 @@ use Rattle.zarrs_metadata.specs.declared.configuration.packbits.PackBitsCodecCon
 use Rattle.zarrs_metadata.specs.declared.plugin_create_error.PluginCreateError.{PluginCreateError}
 use Rattle.zarrs_metadata.specs.declared.plugin_create_error.PluginCreateError.TheVariants.{BitOrder}
 
--- contracts see its three fields
+-- what a configuration of `packbits` is seen as: its three fields
 abbrev pub packbits_seen : PackBitsCodecConfiguration → PackBitsCodecConfigurationV1
 packbits_seen (V1 c) = c
 
@@ -25,6 +26,7 @@ padding_named name =
     else if bytes_eq name (codes "last_byte") then Some LastByte
     else None
 
+-- the place of the padding byte that a tree names, where it is one of the three texts
 abbrev pub padding_in : Data → Option PackBitsPaddingEncoding
 padding_in tree = option_and_then padding_named (as_str tree)
 
@@ -34,7 +36,7 @@ are_bits_in_order None last = true
 are_bits_in_order (Some first) None = true
 are_bits_in_order (Some first) (Some last) = nat_le first last
 
--- the fields of a configuration, none where a key is missing or null; or the first cause why there are none
+-- the fields of a configuration, none where a key is missing or null; or the first error
 abbrev pub read_packbits : Members → Result PackBitsCodecConfigurationV1 PluginCreateError
 read_packbits configuration = do
   _ ← without_floats configuration
@@ -49,6 +51,7 @@ abbrev pub padding_or_none : Option PackBitsPaddingEncoding → PackBitsPaddingE
 padding_or_none None = PackBitsPaddingEncoding.None
 padding_or_none (Some padding) = padding
 
+-- the text of a place of the padding byte
 abbrev pub padding_name : PackBitsPaddingEncoding → List ℕ
 padding_name PackBitsPaddingEncoding.None = codes "none"
 padding_name FirstByte = codes "first_byte"
@@ -59,13 +62,13 @@ abbrev pub bit_tree : Option ℕ → Data
 bit_tree None = null
 bit_tree (Some n) = number (unsigned n)
 
--- how a configuration is written: always by its three keys
+-- the members that are written of a configuration: always its three keys
 abbrev pub write_packbits : PackBitsCodecConfigurationV1 → Members
 write_packbits c =
     member (codes "first_bit") (bit_tree c.first_bit)
     (member (codes "last_bit") (bit_tree c.last_bit)
     (member (codes "padding_encoding") (string (padding_name (padding_or_none c.padding_encoding))) no_members))
 
--- the same, with its padding given
+-- the settings of a configuration, with the padding byte declared: `none` where it isn't given
 abbrev pub with_padding_said : PackBitsCodecConfigurationV1 → PackBitsCodecConfigurationV1
 with_padding_said c = record { padding_encoding = Some (padding_or_none c.padding_encoding); first_bit = c.first_bit; last_bit = c.last_bit }

@@ -1,4 +1,5 @@
 -- The errors of reading metadata and of making the codecs of it.
+-- Source: zarrs, `PluginCreateError`.
 use Rattle.std.specs.Prelude.{ℕ, Bool, true, false, List, Result, codes}
 use Rattle.zarrs_chunk.specs.Answer.{Answers}
 use Rattle.zarrs_metadata.specs.declared.plugin_create_error.PluginCreateError.{PluginCreateError}
@@ -13,7 +14,7 @@ plugin_memory _ = false
 abbrev pub Makes : {T V : Type 0} → (T → V) → Result T PluginCreateError → Result V PluginCreateError → Type 0
 Makes view result expected = Answers plugin_memory view result expected
 
--- the variant's name, as its bytes
+-- the name of an error, as its bytes
 abbrev pub plugin_name_of : PluginCreateError → List ℕ
 plugin_name_of OutOfMemory = codes "OutOfMemory"
 plugin_name_of UnknownName = codes "UnknownName"

@@ -1,4 +1,5 @@
 -- The configuration of codec `reshape`.
+-- Source: zarr-extensions, `reshape`.
 use Rattle.std.specs.Prelude.{zero, negsuc, List, [], ◌∷◌, Option, Some, None, map, Result, Ok, Err, codes}
 use Rattle.serde_json.specs.Data.{Data, Num, unsigned, negative, float, null, boolean, number, string, array, object, Items, no_items, item, Members, no_members, member}
 use Rattle.serde_json.specs.Find.{as_array, get_member}
@@ -12,7 +13,7 @@ use Rattle.zarrs_metadata.specs.declared.configuration.reshape.ReshapeCodecConfi
 use Rattle.zarrs_metadata.specs.declared.plugin_create_error.PluginCreateError.{PluginCreateError}
 use Rattle.zarrs_metadata.specs.declared.plugin_create_error.PluginCreateError.TheVariants.{InvalidConfiguration}
 
--- contracts see its sizes
+-- what a configuration of `reshape` is seen as: its sizes
 abbrev pub reshape_seen : ReshapeCodecConfiguration → List Dim
 reshape_seen (V1 c) = c.shape
 
@@ -40,7 +41,7 @@ dims_in (item tree items) = do
   dims ← dims_in items
   Ok (dim ∷ dims)
 
--- the sizes of a configuration, or the first cause why there are none
+-- the sizes of a configuration, or the first error
 abbrev pub read_reshape : Members → Result (List Dim) PluginCreateError
 read_reshape configuration = do
   _ ← without_floats configuration
@@ -59,6 +60,6 @@ dim_tree (input_dims axes) = numbers_tree axes
 abbrev pub dims_tree : List Dim → Data
 dims_tree dims = array (items_of (map dim_tree dims))
 
--- how sizes are written
+-- the members that are written of sizes
 abbrev pub write_reshape : List Dim → Members
 write_reshape dims = member (codes "shape") (dims_tree dims) no_members

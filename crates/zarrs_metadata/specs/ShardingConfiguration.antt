@@ -1,4 +1,5 @@
 -- The configuration of codec `sharding_indexed`.
+-- Source: the Zarr v3 codec `sharding_indexed`.
 use Rattle.std.specs.Prelude.{ℕ, List, Option, Some, None, option_and_then, ok_or, Result, Ok, codes, if◌then◌else◌}
 use Rattle.std.specs.Str.{bytes_eq}
 use Rattle.serde_json.specs.Data.{Data, string, Members, no_members, member}
@@ -23,7 +24,7 @@ pub record ShardingParts : Type 0 where
   pub index_codecs : List Metadata
   pub index_location : ShardingIndexLocation
 
--- contracts see these four
+-- what a configuration of `sharding_indexed` is seen as: these four parts
 abbrev pub sharding_seen : ShardingCodecConfiguration → ShardingParts
 sharding_seen (V1 c) =
     record { chunk_shape = c.chunk_shape; codecs = metadatas_in c.codecs; index_codecs = metadatas_in c.index_codecs; index_location = c.index_location }
@@ -38,7 +39,7 @@ abbrev pub shard_index_in : Option Data → Result ShardingIndexLocation PluginC
 shard_index_in None = Ok End
 shard_index_in (Some tree) = needed (option_and_then shard_index_named (as_str tree))
 
--- the parts of a configuration, or the first cause why there are none
+-- the parts of a configuration, or the first error
 abbrev pub read_sharding : Members → Result ShardingParts PluginCreateError
 read_sharding configuration = do
   _ ← without_floats configuration
@@ -50,11 +51,12 @@ read_sharding configuration = do
   chunk_shape ← ok_or (shape_of sizes) ZeroSize
   Ok (record { chunk_shape = chunk_shape; codecs = codecs; index_codecs = index_codecs; index_location = index_location })
 
+-- the text of a place of the index
 abbrev pub shard_index_name : ShardingIndexLocation → List ℕ
 shard_index_name Start = codes "start"
 shard_index_name End = codes "end"
 
--- how the parts are written
+-- the members that are written of the parts
 abbrev pub write_sharding : ShardingParts → Members
 write_sharding c =
     member (codes "chunk_shape") (numbers_tree c.chunk_shape)

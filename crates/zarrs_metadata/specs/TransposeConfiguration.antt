@@ -1,4 +1,5 @@
 -- The configuration of codec `transpose`.
+-- Source: the Zarr v3 codec `transpose`.
 use Rattle.std.specs.Prelude.{ℕ, List, Result, codes}
 use Rattle.serde_json.specs.Data.{Members, no_members, member}
 use Rattle.serde_json.specs.Find.{get_member}
@@ -9,11 +10,11 @@ use Rattle.zarrs_metadata.specs.declared.configuration.transpose.TransposeCodecC
 use Rattle.zarrs_metadata.specs.declared.configuration.transpose.TransposeCodecConfiguration.TheVariants.{V1}
 use Rattle.zarrs_metadata.specs.declared.plugin_create_error.PluginCreateError.{PluginCreateError}
 
--- contracts see its order
+-- what a configuration of `transpose` is seen as: its order
 abbrev pub transpose_seen : TransposeCodecConfiguration → List ℕ
 transpose_seen (V1 c) = c.order
 
--- the order of a configuration, or the first cause why there is none
+-- the order of a configuration, or the first error
 abbrev pub read_transpose : Members → Result (List ℕ) PluginCreateError
 read_transpose configuration = do
   _ ← without_floats configuration
@@ -21,6 +22,6 @@ read_transpose configuration = do
   axes ← number_list tree
   transpose_order_of axes
 
--- how an order is written
+-- the members that are written of an order
 abbrev pub write_transpose : List ℕ → Members
 write_transpose order = member (codes "order") (numbers_tree order) no_members

@@ -10,7 +10,7 @@ use Rattle.zarrs_chunk.specs.Answer.{◌>>=◌, demand, seen}
 use Rattle.zarrs_metadata.specs.declared.plugin_create_error.PluginCreateError.{PluginCreateError}
 use Rattle.zarrs_metadata.specs.declared.plugin_create_error.PluginCreateError.TheVariants.{InvalidConfiguration}
 
--- the JSON tree of a lent value, where there is one
+-- the JSON tree of a value that is lent, where there is one
 abbrev pub lent_tree : Option (Bor Value) → Option Data
 lent_tree value = option_map (λ v. view v.now) value
 

@@ -1,4 +1,5 @@
 -- The configuration of codec `vlen`.
+-- Source: codec.zarrs.dev, `vlen`.
 use Rattle.std.specs.Prelude.{ℕ, List, Option, Some, None, option_and_then, Result, Ok, codes, if◌then◌else◌}
 use Rattle.std.specs.Str.{bytes_eq}
 use Rattle.serde_json.specs.Data.{Data, string, Members, no_members, member}
@@ -29,7 +30,7 @@ abbrev pub vlen_parts : List MetadataV3 → List MetadataV3 → VlenIndexDataTyp
 vlen_parts index_codecs data_codecs index_data_type index_location =
     record { index_codecs = metadatas_seen index_codecs; data_codecs = metadatas_seen data_codecs; index_data_type = index_data_type; index_location = index_location }
 
--- contracts see these four
+-- what a configuration of `vlen` is seen as: these four parts
 abbrev pub vlen_seen : VlenCodecConfiguration → VlenParts
 vlen_seen (V0 c) = vlen_parts c.index_codecs.items c.data_codecs.items c.index_data_type None
 vlen_seen (V0_1 c) =
@@ -54,7 +55,7 @@ abbrev pub index_location_in : Option Data → Result (Option VlenIndexLocation)
 index_location_in None = Ok None
 index_location_in (Some tree) = seen Some (needed (option_and_then index_location_named (as_str tree)))
 
--- the parts of a configuration, or the first cause why there are none
+-- the parts of a configuration, or the first error
 abbrev pub read_vlen : Members → Result VlenParts PluginCreateError
 read_vlen configuration = do
   _ ← without_floats configuration
@@ -64,10 +65,12 @@ read_vlen configuration = do
   index_location ← index_location_in (get_member (codes "index_location") configuration)
   Ok (record { index_codecs = index_codecs; data_codecs = data_codecs; index_data_type = index_data_type; index_location = index_location })
 
+-- the text of a type of offsets
 abbrev pub index_data_type_name : VlenIndexDataType → List ℕ
 index_data_type_name UInt32 = codes "uint32"
 index_data_type_name UInt64 = codes "uint64"
 
+-- the text of a place of the index
 abbrev pub index_location_name : VlenIndexLocation → List ℕ
 index_location_name Start = codes "start"
 index_location_name End = codes "end"
@@ -77,7 +80,7 @@ abbrev pub index_location_members : Option VlenIndexLocation → Members
 index_location_members None = no_members
 index_location_members (Some location) = member (codes "index_location") (string (index_location_name location)) no_members
 
--- how the parts are written
+-- the members that are written of the parts
 abbrev pub write_vlen : VlenParts → Members
 write_vlen c =
     member (codes "data_codecs") (metadata_list_tree c.data_codecs)

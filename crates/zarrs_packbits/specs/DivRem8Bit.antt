@@ -1,4 +1,5 @@
 -- Where the bits of components stand in memory.
+-- Source: zarrs, `div_rem_8bit`.
 use Rattle.std.specs.Prelude.{ℕ, ◌+◌, ◌*◌, ◌/◌, ◌%◌}
 
 -- the place of a bit among the bytes of components, where each has `bits` bits and whole bytes

@@ -23,7 +23,7 @@ PackBitsWrittenStands =
     (settings : PackBitsSettings) (sizes : List ℕ) (type : ElementType) (fill value : List ℕ) (chunk : Chunk)
     → PackBitsWritten settings (form_of sizes type fill) value chunk → PackBitsStands settings (form_of sizes type fill) value (normal_chunk settings type chunk)
 
--- What is decoded of it is the normal form.
+-- What is decoded of a value that is written for a chunk is the chunk's normal form.
 abbrev pub DecodedIsNormal : Type 0
 DecodedIsNormal =
     (settings : PackBitsSettings) (sizes : List ℕ) (type : ElementType) (fill value : List ℕ) (chunk : Chunk)

@@ -1,3 +1,4 @@
+-- The codec `packbits`.
 pub mod Bits
 pub mod BlockBits
 pub mod BitStream

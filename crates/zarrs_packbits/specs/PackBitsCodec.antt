@@ -1,4 +1,5 @@
 -- What the codec `packbits` answers, for which chunk a value stands, and which value is written for a chunk.
+-- Source: zarr-extensions, `packbits`.
 use Rattle.std.specs.Prelude.{◌≡◌, ℕ, ◌==◌, true, List, length, drop, map, Result, Ok}
 use Rattle.std.specs.List.{range_with_len}
 use Rattle.std.proofs.Common.{Global}

@@ -5,6 +5,7 @@ use Rattle.zarrs_packbits.specs.PackBitsCodec.{PackBitsStands, PackBitsWritten, 
 use Rattle.zarrs_packbits.specs.PackBitsSettings.{PackBitsSettings}
 use Rattle.zarrs_packbits.specs.PartialRead.{packbits_plan, packbits_read}
 
+-- what the codec states of chunks: for which a value stands, which value is written, what calls answer
 abbrev pub packbits_grammar : PackBitsSettings → Grammar
 packbits_grammar settings = record {
   Stands = PackBitsStands settings;

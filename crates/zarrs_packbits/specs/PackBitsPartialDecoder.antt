@@ -1,4 +1,5 @@
 -- What a partial decoder of `packbits` is made of, and what it reads of a chunk.
+-- Source: zarrs, `PackBitsPartialDecoder`.
 use Rattle.std.specs.Prelude.{◌≡◌, ℕ, Bool, Option, is_some, List, Result, IfOk, Vec}
 use Rattle.std.proofs.Common.{Global}
 use Rattle.zarrs_chunk.specs.Answer.{GivesBy}
@@ -34,7 +35,7 @@ pub record PackBitsForm : Type 0 where
 abbrev pub packbits_form_in : PackBitsForm → Form
 packbits_form_in form = record { sizes = form.sizes; type = form.type; fill = form.fill }
 
--- the form of a decoder's chunk
+-- a decoder's settings, and the form of its chunk
 abbrev pub packbits_form_of : {H : Type 0} → PackBitsPartialDecoder H → PackBitsForm
 packbits_form_of decoder =
     record { settings = decoder.codec; sizes = decoder.shape; type = decoder.data_type; fill = decoder.fill_value }
@@ -56,12 +57,12 @@ abbrev pub HasPackBitsForm : {H : Type 0} → PackBitsSettings → Form → Resu
 HasPackBitsForm settings form result =
     IfOk result (λ decoder. packbits_form_of decoder ≡ record { settings = settings; sizes = form.sizes; type = form.type; fill = form.fill })
 
--- what a decoder reads at a selection by its grammar (`state` is what a handle keeps)
+-- the elements at a selection are read, of the chunk that the stored value stands for, or fill elements, by the places' bits alone (`state` is what a handle keeps)
 abbrev pub PackBitsReads : {H : Type 0} → (H → StorageState) → PackBitsPartialDecoder H → Indexer → Result Held CodecError → Type 0
 PackBitsReads state decoder indexer result =
     ReadsPart (packbits_grammar decoder.codec) (packbits_reads_part decoder.codec) (form_of decoder.shape decoder.data_type decoder.fill_value) (state decoder.handle) (selection_of indexer) result
 
--- that a call of a decoder changes nothing
+-- a call of a decoder leaves all as it was, but for the failure that it answers
 abbrev pub PackBitsLeaves : {H T L : Type 0} → (H → StorageState) → (H → L) → PackBitsPartialDecoder H → PackBitsPartialDecoder H → Result T CodecError → Type 0
 PackBitsLeaves state lent before after result =
     OnlyReads (decoder_state state) (λ decoder. lent (packbits_handle_of decoder)) packbits_form_of before after result

@@ -1,4 +1,5 @@
 -- Which bits a codec `packbits` keeps, and how it packs the chunks that it accepts.
+-- Source: zarrs, `PackBitsCodec`.
 use Rattle.std.specs.Prelude.{◌≡◌, ℕ, ◌+◌, ◌-◌, ◌*◌, ◌==◌, ◌&&◌, nat_le, nat_lt, Bool, true, false, not, Option, Some, None, List, Result, Ok, Err, is_ok, if◌then◌else◌}
 use Rattle.zarrs_chunk.specs.Answer.{◌>>=◌, demand, checked_u64, seen}
 use Rattle.zarrs_chunk.specs.ChunkShape.{product}
@@ -35,7 +36,7 @@ is_reversed (Some first) (Some last) = nat_lt last first
 is_reversed (Some first) None = false
 is_reversed None last = false
 
--- a codec's settings, or the error
+-- a codec's settings, or the error: the last bit isn't below the first
 abbrev pub packbits_settings : PackBitsPaddingEncoding → Option ℕ → Option ℕ → Result PackBitsSettings PluginCreateError
 packbits_settings padding first last = do
   _ ← demand (not (is_reversed first last)) BitOrder
@@ -97,7 +98,7 @@ packbits_length settings form = seen value_len (packed_layout settings form)
 abbrev pub packbits_represented : PackBitsSettings → Form → Result BytesRepresentation CodecError
 packbits_represented settings form = seen FixedSize (packbits_length settings form)
 
--- the same, and `OutOfMemory` never comes in its place
+-- the answer is the representation of the value of such a chunk, or the first error; it is never out of memory
 abbrev pub PackBitsRepresentsNow : PackBitsSettings → List ℕ → ElementType → List ℕ → Result BytesRepresentation CodecError → Type 0
 PackBitsRepresentsNow settings sizes type fill result = result ≡ packbits_represented settings (form_of sizes type fill)
 

@@ -55,7 +55,7 @@ read_packed_places l type fill (Some value) places = do
   _ ← demand (all_below (length value) (packed_places_bytes l places)) InvalidByteRange
   Ok (map (packed_element l value) places)
 
--- the same by the settings, or the first error
+-- the elements at places, by their bits alone, or fill elements where nothing is stored; or the first error
 abbrev pub read_places_of : PackBitsSettings → Form → Option (List ℕ) → List ℕ → Result Chunk CodecError
 read_places_of settings form stored places = do
   l ← packed_layout settings form

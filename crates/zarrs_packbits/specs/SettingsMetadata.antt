@@ -1,4 +1,5 @@
 -- The metadata of a codec `packbits`.
+-- Source: zarr-extensions, `packbits`.
 use Rattle.std.specs.Prelude.{Some, Result}
 use Rattle.zarrs_chunk.specs.Answer.{◌>>=◌}
 use Rattle.zarrs_metadata.specs.CodecMetadata.{made_of, is_packbits_name}
@@ -19,11 +20,11 @@ read_settings configuration = do
   fields ← read_packbits configuration
   settings_of fields
 
--- the settings of a metadata
+-- the settings of a metadata, or the first error
 abbrev pub settings_made : Metadata → Result PackBitsSettings PluginCreateError
 settings_made metadata = made_of is_packbits_name read_settings metadata
 
--- how settings are written
+-- the members that are written of settings
 abbrev pub write_settings : PackBitsSettings → Members
 write_settings settings =
     write_packbits (record { padding_encoding = Some settings.padding; first_bit = settings.first_bit; last_bit = settings.last_bit })

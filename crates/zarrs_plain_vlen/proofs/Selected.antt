@@ -72,7 +72,7 @@ checked_if : (test : Bool) (a b : ℕ) → nat_lt a (2 ^ 64) ≡ test → (if te
 checked_if true a b t h = sym (ok_is a b h)
 checked_if false a b t h = absurd cc
 
-checked_is : (a b : ℕ) → checked_u64 a ≡ Ok b → b ≡ a
+pub checked_is : (a b : ℕ) → checked_u64 a ≡ Ok b → b ≡ a
 checked_is a b h = checked_if (nat_lt a (2 ^ 64)) a b refl h
 
 data_length : (order : Option Endianness) (n len : ℕ) → bytes_length order (form_of (n ∷ []) byte_type (0 ∷ [])) ≡ Ok len → len ≡ n

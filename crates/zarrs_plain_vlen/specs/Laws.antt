@@ -27,7 +27,7 @@ VlenReadSelects {B} f =
     → All (λ size. 0 < size) sizes → CodecStands f (plain_codec_of form content) sizes type fill value chunk → All (λ place. place < product sizes) places
     → vlen_read form (product sizes) value places ≡ Ok (select chunk places)
 
--- A read rests on these bytes alone: two values of one length that have the same bytes there are read alike at these places, or rejected for the same cause.
+-- Two values of one length that have the same bytes where a read of these places rests are read alike there, or rejected for the same cause.
 abbrev pub VlenReadsAlike : Type 0
 VlenReadsAlike =
     (form : PlainForm) (count : ℕ) (value other places : List ℕ)

@@ -75,7 +75,7 @@ rests_on form count value places =
     head_numbers form.at_end (length value)
     ++ (numbers_or_none (seen (λ layout. span_numbers layout.index) (layout_of form.at_end value)) ++ numbers_or_none (elements_at form count value places))
 
--- the same of what is stored: of nothing it rests on no bytes
+-- the numbers of the bytes that a read of places rests on; none, where nothing is stored
 abbrev pub stored_rests_on : PlainForm → ℕ → Option (List ℕ) → List ℕ → List ℕ
 stored_rests_on form count None places = []
 stored_rests_on form count (Some value) places = rests_on form count value places

@@ -1,3 +1,4 @@
+-- The codecs `vlen-utf8` and `vlen-bytes`.
 pub mod VlenV2Codec
 pub mod PrefixedValues
 pub mod MemberLaws

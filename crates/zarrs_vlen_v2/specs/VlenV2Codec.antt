@@ -1,4 +1,5 @@
 -- The codecs `vlen-utf8` and `vlen-bytes`: how many elements there are, and each behind its length.
+-- Source: zarr-extensions, `vlen-utf8` and `vlen-bytes`.
 use Rattle.std.specs.Int.{w32, to_le_bytes, from_le_bytes}
 use Rattle.std.specs.List.{flat_map, list_all}
 use Rattle.std.specs.Prelude.{ℕ, zero, suc, ◌+◌, ◌-◌, ◌^◌, ◌==◌, Bool, true, false, ◌&&◌, nat_lt, nat_le, List, [], ◌∷◌, ◌++◌, length, take, drop, Result, Ok, ◌≡◌}

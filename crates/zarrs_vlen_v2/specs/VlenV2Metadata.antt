@@ -1,4 +1,5 @@
 -- The metadata of the codecs `vlen-utf8` and `vlen-bytes`, which have no settings.
+-- Source: zarr-extensions, `vlen-utf8` and `vlen-bytes`.
 use Rattle.std.specs.Prelude.{ℕ, Bool, List, Option, Some, None, is_some, ok_or, Result, Ok, codes, if◌then◌else◌}
 use Rattle.std.specs.Str.{bytes_eq}
 use Rattle.zarrs_chunk.specs.Answer.{◌>>=◌}
@@ -16,13 +17,14 @@ abbrev pub vlen_v2_name : VlenV2Codec → List ℕ
 vlen_v2_name Utf8 = codes "vlen-utf8"
 vlen_v2_name Bytes = codes "vlen-bytes"
 
--- the codec of a name
+-- the codec of a name, where it is one of the two
 abbrev pub vlen_v2_named : List ℕ → Option VlenV2Codec
 vlen_v2_named name =
     if bytes_eq name (vlen_v2_name Utf8) then Some Utf8
     else if bytes_eq name (vlen_v2_name Bytes) then Some Bytes
     else None
 
+-- the name is that of `vlen-utf8` or of `vlen-bytes`
 abbrev pub is_vlen_v2_name : List ℕ → Bool
 is_vlen_v2_name name = is_some (vlen_v2_named name)
 

@@ -1,4 +1,5 @@
 -- The codec `optional`: a mask chain writes which elements are present, and a data chain those.
+-- Source: codec.zarrs.dev, `optional`.
 use Rattle.std.specs.Prelude.{ℕ, ◌+◌, ◌^◌, Bool, false, nat_lt, if◌then◌else◌, List, [], ◌∷◌, replicate, Result, Ok, Err, map, ◌≡◌, ◌<◌, true, ◌++◌, length, zero, suc, ◌==◌, nat_le, take, drop}
 use Rattle.zarrs_bytes.specs.BytesCodec.{IsChunk}
 use Rattle.zarrs_chain_meaning.specs.BytesStages.{in_memory}
@@ -32,7 +33,7 @@ blank_fill (optional type) = 0 ∷ []
 abbrev pub bounded : ℕ → BytesRepresentation
 bounded size = if nat_lt size (2 ^ 64) then BoundedSize size else UnboundedSize
 
--- two lengths of 8 bytes, and what they count; unbounded where one is
+-- how many bytes mask and data have with their two lengths of 8 bytes; unbounded where one of them is
 abbrev pub both_representations : BytesRepresentation → BytesRepresentation → BytesRepresentation
 both_representations (FixedSize mask) (FixedSize data') = bounded (16 + mask + data')
 both_representations (FixedSize mask) (BoundedSize data') = bounded (16 + mask + data')
@@ -63,10 +64,11 @@ present_of [] = []
 present_of (present element ∷ chunk) = element ∷ present_of chunk
 present_of (_ ∷ chunk) = present_of chunk
 
--- the two lengths, the mask and the data
+-- the value of `optional`: the lengths of mask and data, the mask, the data
 abbrev pub optional_layout : List ℕ → List ℕ → List ℕ
 optional_layout mask data' = part_length_bytes mask ++ (part_length_bytes data' ++ (mask ++ data'))
 
+-- the value that `optional` writes of a chunk, by the encoders of its two chains; or the first error
 abbrev pub optional_value : Encoder → Encoder → List ℕ → ElementType → Chunk → Result (List ℕ) CodecError
 optional_value mask data' sizes (optional type) chunk = do
   mask_part ← mask sizes flag_type (0 ∷ []) (map flag_of chunk)
@@ -76,7 +78,7 @@ optional_value mask data' sizes type chunk = Ok []
 
 -- ---- the chunk of a value
 
--- the mask and the data, and nothing else, behind their lengths
+-- the mask and the data of a value, or the first error: nothing else stands behind their lengths
 abbrev pub optional_parts : List ℕ → Result (List ℕ × List ℕ) CodecError
 optional_parts value = do
   _ ← demand (nat_le 16 (length value)) (InvalidBytesLength (length value) 16)
@@ -114,6 +116,7 @@ under_flags (false ∷ flags) chunk = absent ∷ under_flags flags chunk
 under_flags (true ∷ flags) [] = absent ∷ under_flags flags []
 under_flags (true ∷ flags) (element ∷ chunk) = present element ∷ under_flags flags chunk
 
+-- the chunk that a value stands for, by the decoders of its two chains; or the first error
 abbrev pub optional_chunk : Decoder → Decoder → List ℕ → ElementType → List ℕ → Result Chunk CodecError
 optional_chunk mask data' sizes (optional type) value = do
   parts ← optional_parts value
@@ -148,6 +151,7 @@ pub record OptionalStands (mask content : Standing) (sizes : List ℕ) (type : E
   pub mask_stands : mask sizes flag_type (0 ∷ []) mask_part (map flag_of chunk)
   pub data_stands : PartStands content type (blank_fill type) data_part (present_of chunk)
 
+-- the value stands for the chunk, whose type is optional
 abbrev pub OptionalStandsFor : Standing → Standing → List ℕ → ElementType → List ℕ → Chunk → Type 0
 OptionalStandsFor mask content sizes (optional type) value chunk = OptionalStands mask content sizes type value chunk
 OptionalStandsFor mask content sizes type value chunk = ⊥
@@ -161,6 +165,7 @@ pub record OptionalWritten (mask content : Standing) (sizes : List ℕ) (type : 
   pub mask_written : mask sizes flag_type (0 ∷ []) mask_part (map flag_of chunk)
   pub data_written : PartWritten content type (blank_fill type) data_part (present_of chunk)
 
+-- the value is written for the chunk, whose type is optional
 abbrev pub OptionalWrittenFor : Standing → Standing → List ℕ → ElementType → List ℕ → Chunk → Type 0
 OptionalWrittenFor mask content sizes (optional type) value chunk = OptionalWritten mask content sizes type value chunk
 OptionalWrittenFor mask content sizes type value chunk = ⊥

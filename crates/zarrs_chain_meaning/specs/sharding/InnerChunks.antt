@@ -1,4 +1,5 @@
 -- A chunk divided into inner chunks of one shape, which are numbered row by row.
+-- Source: the Zarr v3 codec `sharding_indexed`.
 use Rattle.std.specs.List.{range_with_len}
 use Rattle.std.specs.Prelude.{ℕ, ◌+◌, ◌*◌, ◌/◌, ◌%◌, ◌==◌, ◌&&◌, Bool, true, false, List, [], ◌∷◌, map, get_or, ◌≡◌, ◌<◌}
 use Rattle.zarrs_array_bytes.specs.Elements.{select}
@@ -32,7 +33,7 @@ tuple_in_shard shape numbers tuple = []
 abbrev pub grid : List ℕ → List ℕ → List ℕ
 grid shape sizes = quotients shape sizes
 
--- how many there are
+-- how many inner chunks there are, so many along each axis
 abbrev pub inner_chunk_count : List ℕ → List ℕ → ℕ
 inner_chunk_count shape sizes = product (grid shape sizes)
 

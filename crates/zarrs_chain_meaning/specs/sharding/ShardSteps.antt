@@ -34,7 +34,7 @@ inner_start shape numbers = []
 abbrev pub inner_region : List ℕ → List ℕ → Region
 inner_region shape numbers = record { starts = inner_start shape numbers; lengths = shape }
 
--- the shape of the index of such a grid
+-- the shape of the index is given: so many inner chunks along each axis, and for each its offset and its length
 abbrev pub GivesIndexShape : List ℕ → Result (List ℕ) CodecError → Type 0
 GivesIndexShape counts result = GivesValue result (Ok (counts ++ 2 ∷ []))
 
@@ -50,7 +50,7 @@ index_bytes value size at_end = do
   _ ← demand (nat_le size (length value)) (InvalidBytesLength (length value) size)
   Ok (index_part_of at_end size value)
 
--- the bytes of a span, or the error
+-- the bytes of a value at a span, or the error where it ends behind the value
 abbrev pub stored_span : List ℕ → ℕ → ℕ → Result (List ℕ) CodecError
 stored_span value offset size = do
   _ ← demand (nat_le (offset + size) (length value)) InvalidByteRange

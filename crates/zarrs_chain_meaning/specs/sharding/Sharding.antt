@@ -1,4 +1,5 @@
 -- The codec `sharding_indexed`: the values of inner chunks, and an index of where the value of each begins and how long it is.
+-- Source: the Zarr v3 codec `sharding_indexed`.
 use Rattle.std.specs.Cmp.Lexicographic.{pointwise}
 use Rattle.std.specs.List.{list_all}
 use Rattle.std.specs.Prelude.{ℕ, ◌+◌, ◌*◌, ◌-◌, ◌^◌, ◌==◌, nat_eq, nat_lt, nat_le, if◌then◌else◌, Bool, true, false, not, ◌&&◌, Option, Some, None, List, [], ◌∷◌, ◌++◌, length, take, drop, replicate, map, All, Result, Ok, Err, ◌≡◌, ◌<◌, ◌≤◌}
@@ -79,7 +80,7 @@ missing_chunk shape type fill = replicate (product shape) (fill_element type fil
 
 -- ---- which chunks, and how many bytes
 
--- so many inner chunks, each of at most so many bytes, and the index
+-- how many bytes so many inner chunks and an index have at most
 abbrev pub shard_bound : ℕ → BytesRepresentation → ℕ → BytesRepresentation
 shard_bound count (FixedSize inner) index = bounded (count * inner + index)
 shard_bound count (BoundedSize inner) index = bounded (count * inner + index)

@@ -2,7 +2,7 @@
 use Rattle.std.specs.Prelude.{Bool, Option, Some, None}
 use Rattle.zarrs_data_type.specs.declared.endianness.Endianness.{Endianness}
 
--- the byte order of the offsets, whether they have 64 bits, whether the index stands at the end
+-- what a plain `vlen` leaves open: the byte order of the offsets, whether they have 64 bits, whether the index stands at the end
 pub record PlainForm : Type 0 where
   pub order : Endianness
   pub wide : Bool

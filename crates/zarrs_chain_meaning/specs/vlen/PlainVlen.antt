@@ -7,7 +7,7 @@ use Rattle.zarrs_chain_meaning.specs.vlen.PlainForm.{PlainForm}
 use Rattle.zarrs_chain_meaning.specs.vlen.VlenSettings.{is_wide, is_at_end}
 use Rattle.zarrs_chain_meaning.specs.declared.vlen.plain_vlen.PlainVlen.{PlainVlen}
 
--- the form of a plain `vlen`
+-- the form of a `PlainVlen`
 abbrev pub plain_form : PlainVlen → PlainForm
 plain_form codec =
     record { order = codec.endianness; wide = is_wide codec.index_data_type; at_end = is_at_end codec.index_location }

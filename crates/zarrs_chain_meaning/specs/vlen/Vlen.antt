@@ -1,4 +1,5 @@
 -- The codec `vlen`: texts and byte strings as an index chain writes their offsets and a data chain their bytes.
+-- Source: codec.zarrs.dev, `vlen`.
 use Rattle.std.specs.Cmp.Lexicographic.{pointwise}
 use Rattle.std.specs.Int.{w32, w64, to_le_bytes, from_le_bytes}
 use Rattle.std.specs.List.{range_with_len}
@@ -38,7 +39,7 @@ offset_type wide = fixed (if wide then 64 else 32) 1 false
 unfoldable pub offset_bytes : Bool → ℕ → List ℕ
 offset_bytes wide offset = if wide then to_le_bytes w64 offset else to_le_bytes w32 offset
 
--- the number that an offset's bytes spell; shut likewise
+-- the number that an offset's bytes spell; shut, since it computes to a long sum
 unfoldable pub offset_of : Bool → List ℕ → ℕ
 offset_of wide items = if wide then from_le_bytes w64 items else from_le_bytes w32 items
 
@@ -71,11 +72,12 @@ is_same_bytes _ _ = false
 
 -- ---- the value of a chunk
 
--- the length, the index and then the data, or the data, the index and then the length
+-- the value of `vlen`: the length of the index, the index, the data; or, with the index at the end, the data, the index, its length
 abbrev pub arranged : Bool → List ℕ → List ℕ → List ℕ → List ℕ
 arranged false head index data' = head ++ (index ++ data')
 arranged true head index data' = data' ++ (index ++ head)
 
+-- the value that `vlen` writes of a chunk, by the encoders of its two chains; or the first error
 abbrev pub vlen_value : Bool → Bool → (ElementType → Element → Element) → Encoder → Encoder → Chunk → Result (List ℕ) CodecError
 vlen_value wide at_end keep index data' chunk = do
   let offsets = offset_elements wide (chunk_offsets chunk)
@@ -88,7 +90,7 @@ vlen_value wide at_end keep index data' chunk = do
 
 -- ---- the chunk of a value
 
--- the index and the data, behind the index's length or before it
+-- the index and the data of a value, or the first error
 abbrev pub vlen_value_parts : Bool → List ℕ → Result (List ℕ × List ℕ) CodecError
 vlen_value_parts false value = do
   _ ← demand (nat_le 8 (length value)) (InvalidBytesLength (length value) 8)
@@ -101,6 +103,7 @@ vlen_value_parts true value = do
   _ ← demand (nat_le size (length value - 8)) IndexLength
   Ok (take size (drop (length value - 8 - size) value), take (length value - 8 - size) value)
 
+-- the chunk of so many elements that a value stands for, by the decoders of its two chains; or the first error
 abbrev pub vlen_chunk : Bool → Bool → Decoder → Decoder → ℕ → List ℕ → Result Chunk CodecError
 vlen_chunk wide at_end index data' count value = do
   parts ← vlen_value_parts at_end value

@@ -1,4 +1,5 @@
 -- The settings of vlen as contracts see them.
+-- Source: codec.zarrs.dev, `vlen`.
 use Rattle.std.specs.Prelude.{Bool, true, false}
 use Rattle.zarrs_metadata.specs.declared.codec.vlen.VlenIndexDataType.{VlenIndexDataType}
 use Rattle.zarrs_metadata.specs.declared.codec.vlen.VlenIndexDataType.TheVariants.{UInt32, UInt64}

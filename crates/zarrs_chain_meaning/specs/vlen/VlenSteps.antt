@@ -1,4 +1,5 @@
 -- The steps of a codec `vlen`, each by what its calls are given.
+-- Source: codec.zarrs.dev, `vlen`.
 use Rattle.zarrs_data_type.specs.Form.{form_of, Form}
 use Rattle.std.specs.Prelude.{◌≡◌, ℕ, ◌+◌, ◌-◌, ◌/◌, Bool, true, false, if◌then◌else◌, List, [], ◌∷◌, length, map, take, drop, slice_index, Result, Ok, IsOk}
 use Rattle.std.specs.List.{flat_map}
