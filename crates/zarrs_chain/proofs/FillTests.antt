@@ -305,7 +305,7 @@ variable_at type fill held items offsets chunk told v parts e holds =
     let m = variable_so held items offsets parts in
     ap ok (e ∙ ap (λ (xs : List ℕ). list_all (is_item fill) (cuts (length offsets - 1) offsets xs)) m.2 ∙ sym (variable_tested type fill m.0 offsets chunk v (subst (λ (x : Held). Holds type x chunk) m.1 holds)))
 
-fixed_so : (held : Held) (items : List ℕ) → ok items ≡ fixed_items held → (raw : Raw) × (held ≡ flen raw) × (items ≡ raw.items)
+pub fixed_so : (held : Held) (items : List ℕ) → ok items ≡ fixed_items held → (raw : Raw) × (held ≡ flen raw) × (items ≡ raw.items)
 fixed_so (flen raw) items e = (raw, refl, ok_is items raw.items e)
 fixed_so (vlen raw others) items e = absurd cc
 fixed_so (masked inner mask) items e = absurd cc

@@ -52,7 +52,7 @@ optional_same keep same bytes element = refl
 
 -- ---- plain codecs
 
-bytes_is : (B : Type 0) (order : Option Endianness) → KeepsAll {B = B} (bytes_codec order)
+pub bytes_is : (B : Type 0) (order : Option Endianness) → KeepsAll {B = B} (bytes_codec order)
 unfolding meaning
 bytes_is B order = λ type element. refl
 

@@ -1,5 +1,5 @@
 -- What chains hand on as it is.
-use Rattle.std.proofs.Common.{◌≡◌, ◌∙◌, ℕ, true, false, Option, Some, None, Result, Ok, Err, IfOk, refl, sym, ap, Global}
+use Rattle.std.proofs.Common.{◌≡◌, ◌∙◌, ℕ, true, Option, Some, None, Result, Ok, Err, IfOk, refl, sym, ap, Global}
 use Rattle.std.specs.Prelude.{is_none}
 use Rattle.std.proofs.lemmas.Bool.{false≢true}
 use Rattle.std.specs.declared.borrow.CowSlice.{CowSlice}
@@ -17,7 +17,7 @@ use Rattle.zarrs_chain.specs.ChainView.{plain_codec}
 use Rattle.zarrs_chain.specs.declared.array_to_bytes_codec.ArrayToBytesCodec.{ArrayToBytesCodec}
 use Rattle.zarrs_chain.specs.declared.array_to_bytes_codec.ArrayToBytesCodec.TheVariants.{Bytes}
 
-none_is : {A : Type 0} (o : Option A) → is_none o ≡ true → o ≡ None
+pub none_is : {A : Type 0} (o : Option A) → is_none o ≡ true → o ≡ None
 none_is None h = refl
 none_is (Some x) h = absurd (false≢true h)
 

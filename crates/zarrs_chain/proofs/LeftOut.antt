@@ -1,9 +1,7 @@
 -- Which inner chunks are left out, as the code finds it.
-use Rattle.std.proofs.Common.{◌≡◌, ℕ, nat_eq, ◌&&◌, Bool, true, false, List, [], ◌∷◌, map, Result, Ok, refl, ap, sym, subst, ◌∙◌}
-use Rattle.std.specs.Cmp.Lexicographic.{pointwise}
+use Rattle.std.proofs.Common.{◌≡◌, ℕ, ◌&&◌, Bool, true, false, List, [], ◌∷◌, map, Result, Ok, refl, ap, sym, subst, ◌∙◌}
 use Rattle.std.specs.List.{list_all}
 use Rattle.std.specs.Prelude.{IsOkAnd}
-use Rattle.std.proofs.lemmas.Bool.{eq-eqb}
 use Rattle.std.proofs.lemmas.List.Folds.{list_all-map}
 use Rattle.zarrs_chunk.specs.declared.codec_error.CodecError.{CodecError}
 use Rattle.zarrs_data_type.specs.Element.{Element, plain, absent, present, Chunk, fill_element}
@@ -46,7 +44,7 @@ filled_left_out keep type fill (element ∷ chunk) n h =
     let rest = filled_left_out keep type fill chunk n (second_true (is_same_element element (fill_element type fill)) (list_all (λ e. is_same_element e (fill_element type fill)) chunk) h) in
     (λ i. is_same_element (keep type (same i)) (fill_element type fill) && rest i) ∙ ap (λ b. b && true) n
 
-same_left_out : {B : Type 0} (codec : PlainCodec B) (type : ElementType) (fill : List ℕ) (chunk : Chunk) → KeepsAll codec → is_left_out (codec_normal_element codec) type fill chunk ≡ is_left_out (λ _ element. element) type fill chunk
+pub same_left_out : {B : Type 0} (codec : PlainCodec B) (type : ElementType) (fill : List ℕ) (chunk : Chunk) → KeepsAll codec → is_left_out (codec_normal_element codec) type fill chunk ≡ is_left_out (λ _ element. element) type fill chunk
 same_left_out codec type fill [] same = refl
 same_left_out codec type fill (element ∷ chunk) same = λ i. is_same_element (same type element i) (fill_element type fill) && same_left_out codec type fill chunk same i
 

@@ -14,8 +14,12 @@ pub mod ShardForms
 pub mod ShardIndex
 pub mod ShardEncode
 pub mod ShardDecode
+pub mod ShardRows
 pub mod ShardRead
 pub mod ShardReading
+pub mod ShardContents
+pub mod InnerBytes
+pub mod ShardJoined
 pub mod ShardWrites
 pub mod CodecRelations
 pub mod MakeSteps
@@ -29,3 +33,6 @@ pub mod PlainForms
 pub mod TurnedLast
 pub mod BytesBehind
 pub mod KeptBytes
+pub mod InnerPlaces
+pub mod KeptInner
+pub mod KeptParts

@@ -37,7 +37,7 @@ representation_at f codec sizes type fill =
     ap (λ x. codec_representation f x sizes type fill) (plain_optional_at codec)
     ∙ representation_opened f (plain_chain (out-OptionalCodec _ codec).mask_codecs.value) (plain_chain (out-OptionalCodec _ codec).data_codecs.value) sizes type fill
 
-ok_of : {X : Type 0} (r : Result X CodecError) → IsOk r → (x : X) × (r ≡ Ok x)
+pub ok_of : {X : Type 0} (r : Result X CodecError) → IsOk r → (x : X) × (r ≡ Ok x)
 ok_of (Ok x) taken = (x, refl)
 ok_of (Err cause) taken = absurd cc
 

@@ -1,6 +1,6 @@
 -- A codec `sharding_indexed`, one level as the code opens it.
 use Rattle.std.proofs.Common.{◌≡◌, ℕ, ◌==◌, Bool, true, false, List, length, Result, Ok, Err, IsOk, ap, refl, sym, subst, ◌∙◌}
-use Rattle.zarrs_chunk.specs.Answer.{◌>>=◌, Answers, AnswersBy, checked_u64, demand, memory}
+use Rattle.zarrs_chunk.specs.Answer.{◌>>=◌, checked_u64, demand}
 use Rattle.zarrs_chunk.specs.ChunkShape.{product}
 use Rattle.zarrs_chunk.specs.declared.codec_error.CodecError.{CodecError}
 use Rattle.zarrs_chunk.specs.declared.codec_error.CodecError.TheVariants.{IncompatibleDimensionality, IndivisibleShape, InvalidFillValue}
@@ -8,7 +8,7 @@ use Rattle.zarrs_data_type.specs.Element.{Chunk, fill_element}
 use Rattle.zarrs_data_type.specs.ElementType.{ElementType}
 use Rattle.zarrs_array_bytes.specs.Elements.{elements}
 use Rattle.zarrs_array_bytes.specs.Held.{Held}
-use Rattle.zarrs_array_bytes.specs.Validity.{Holds, sizes_fit, validity}
+use Rattle.zarrs_array_bytes.specs.Validity.{sizes_fit, validity}
 use Rattle.zarrs_bytes.proofs.Coding.{ok}
 use Rattle.zarrs_codec.specs.BytesToBytesCodec.{BytesCodecs}
 use Rattle.zarrs_codec.specs.declared.bytes_representation.BytesRepresentation.{BytesRepresentation}

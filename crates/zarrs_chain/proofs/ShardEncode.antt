@@ -1,31 +1,23 @@
 -- What is written of a shard, inner chunk by inner chunk.
-use Rattle.std.proofs.Common.{◌≡◌, ℕ, suc, ◌+◌, ◌*◌, ◌-◌, ◌<◌, ◌≤◌, ◌^◌, nat_lt, Bool, true, false, List, [], ◌∷◌, ◌++◌, length, drop, replicate, Option, Some, None, Result, Ok, Err, arith, refl, ap, sym, ◌∙◌}
+use Rattle.std.proofs.Common.{◌≡◌, ℕ, suc, ◌+◌, ◌*◌, ◌<◌, ◌≤◌, ◌^◌, nat_lt, Bool, true, false, List, [], ◌∷◌, ◌++◌, length, drop, replicate, Option, Some, None, Result, Ok, Err, arith, refl, ap, sym, ◌∙◌}
 use Rattle.std.proofs.lemmas.List.{append_assoc, append-nil, at_drop_all, drop_more, drop_at, length-append, length-replicate}
 use Rattle.std.proofs.lemmas.List.FromFn.{get_or-map-range_with_len}
 use Rattle.zarrs_chunk.specs.Answer.{◌>>=◌, demand, seen}
-use Rattle.zarrs_chunk.specs.ChunkShape.{product}
 use Rattle.zarrs_chunk.specs.declared.codec_error.CodecError.{CodecError}
 use Rattle.zarrs_chunk.specs.declared.codec_error.CodecError.TheVariants.{OffsetNotKept}
 use Rattle.zarrs_chunk.proofs.Inside.{lt_test}
 use Rattle.zarrs_data_type.specs.Element.{Chunk}
 use Rattle.zarrs_data_type.specs.ElementType.{ElementType}
-use Rattle.zarrs_array_bytes.specs.Elements.{elements, select}
-use Rattle.zarrs_array_bytes.specs.Held.{Held}
-use Rattle.zarrs_array_bytes.specs.Validity.{validity}
-use Rattle.zarrs_array_bytes.proofs.UpdatedLemmas.{length-elements}
-use Rattle.zarrs_array_to_array.proofs.MappedChunks.{holds_elements}
+use Rattle.zarrs_array_bytes.specs.Elements.{select}
 use Rattle.zarrs_bytes.proofs.Coding.{ok, bind_ok}
 use Rattle.zarrs_codec.specs.BytesToBytesCodec.{BytesCodecs}
 use Rattle.zarrs_chain_meaning.specs.BytesStages.{in_memory}
-use Rattle.zarrs_chain_meaning.specs.Chain.{held_value}
 use Rattle.zarrs_chain_meaning.specs.CodecMeaning.{chain_representation, chain_value, codec_normal_element, normal_form}
 use Rattle.zarrs_chain_meaning.specs.Meaning.{Encoder, Keeping}
-use Rattle.zarrs_chain_meaning.specs.PlainChain.{PlainChain}
 use Rattle.zarrs_chain_meaning.specs.sharding.InnerChunks.{grid, inner_chunk_count, inner_chunk_places, inner_chunks_of}
 use Rattle.zarrs_chain_meaning.specs.sharding.Sharding.{first_offset, index_numbers, index_shape, index_size, inner_value, inner_values, is_left_out, joined_values, missing, shard_layout, shard_value}
 use Rattle.zarrs_chain_meaning.specs.vlen.Vlen.{is_same_bytes, offset_bytes, offset_elements, offset_type}
 use Rattle.zarrs_chain_meaning.proofs.ArraySteps.{ok_is, next_answer}
-use Rattle.zarrs_chain_meaning.proofs.ChainRelations.{held_value_is}
 use Rattle.zarrs_chain_meaning.proofs.ChainSteps.{next_err}
 use Rattle.zarrs_chain_meaning.proofs.InnerChunks.{inner_chunks_long}
 use Rattle.zarrs_chain_meaning.proofs.ShardNormal.{numbers_long}

@@ -1,7 +1,8 @@
 -- What is known of a chunk that `sharding_indexed` takes.
-use Rattle.std.proofs.Common.{◌≡◌, ℕ, zero, suc, ◌+◌, ◌*◌, ◌<◌, ◌≤◌, ◌^◌, ◌==◌, nat_lt, if◌then◌else◌, Bool, true, false, List, [], ◌∷◌, ◌++◌, length, Result, Ok, Err, IsOk, arith, refl, ap, sym, subst, ◌∙◌}
+use Rattle.std.proofs.Common.{◌≡◌, ℕ, zero, suc, ◌+◌, ◌*◌, ◌<◌, ◌≤◌, ◌^◌, ◌==◌, nat_lt, Bool, true, false, List, length, Result, Ok, IsOk, arith, refl, sym, subst, ◌∙◌}
 use Rattle.std.specs.List.{All}
-use Rattle.zarrs_chunk.specs.Answer.{◌>>=◌, checked_u64, demand}
+use Rattle.std.proofs.Math.Nat.{mul-le-mul_right}
+use Rattle.zarrs_chunk.specs.Answer.{checked_u64, demand}
 use Rattle.zarrs_chunk.specs.ChunkShape.{product}
 use Rattle.zarrs_chunk.specs.declared.codec_error.CodecError.{CodecError}
 use Rattle.zarrs_chunk.specs.declared.codec_error.CodecError.TheVariants.{IncompatibleDimensionality, IndivisibleShape, Overflow}
@@ -21,7 +22,7 @@ use Rattle.zarrs_chain_meaning.proofs.ArraySteps.{counted_so, err, ok_is, ok_no_
 use Rattle.zarrs_chain_meaning.proofs.CodecLaws.{chain_laws}
 use Rattle.zarrs_chain_meaning.proofs.InnerChunks.{is_cut, positive_product}
 use Rattle.zarrs_chain_meaning.proofs.NestedStages.{is_positive}
-use Rattle.zarrs_chain_meaning.proofs.ShardNormal.{IsShardTaken, shard_taken}
+use Rattle.zarrs_chain_meaning.proofs.ShardNormal.{shard_taken}
 use Rattle.zarrs_chain_meaning.proofs.OptionalSteps.{counted_small}
 use Rattle.zarrs_chain_meaning.proofs.ShardSizes.{cut_count}
 use Rattle.zarrs_array_to_array.proofs.PlaneRows.{places_are_bytes}
@@ -77,21 +78,25 @@ taken_normal f inner index shape sizes type fill h =
     let known = from_ok (shard_represented f inner index shape sizes type fill) h in
     (shard_taken shape (codec_normal_element (plain_chain inner).array_to_bytes) (chain_representation f (plain_chain inner)) (chain_representation f (plain_chain index)) sizes type fill known.0 known.1).filled
 
--- ---- the fill element alone
+-- ---- fewer elements, and the fill element alone
 
-less_fits : (n size : ℕ) (test : Bool) → nat_lt (n * size) (2 ^ 64) ≡ test → 0 < n → ◌≡◌ {A = Result (Unit {0}) CodecError} (demand test Overflow) (Ok tt) → nat_lt (1 * size) (2 ^ 64) ≡ true
-less_fits n size true e l h = let more = at_least n size l in lt_test (1 * size) (2 ^ 64) (omega (arith, more, from_lt_test (n * size) (2 ^ 64) e))
-less_fits n size false e l h = absurd cc
+less_fits : (fewer n size : ℕ) (test : Bool) → nat_lt (n * size) (2 ^ 64) ≡ test → fewer ≤ n → ◌≡◌ {A = Result (Unit {0}) CodecError} (demand test Overflow) (Ok tt) → nat_lt (fewer * size) (2 ^ 64) ≡ true
+less_fits fewer n size true e l h = let more = mul-le-mul_right size l in lt_test (fewer * size) (2 ^ 64) (omega (arith, more, from_lt_test (n * size) (2 ^ 64) e))
+less_fits fewer n size false e l h = absurd cc
 
--- where 64 bits count the bytes of some elements, they count those of one
-pub one_fits : (type : ElementType) (n : ℕ) → 0 < n → sizes_fit type n ≡ Ok tt → sizes_fit type 1 ≡ Ok tt
-one_fits (fixed width components sign) n l h = rw (less_fits n (element_size width components) (nat_lt (n * element_size width components) (2 ^ 64)) refl l h) refl
-one_fits text n l h = refl
-one_fits bytes n l h = refl
-one_fits (optional type) n l h = one_fits type n l h
+less_counted : (fewer n : ℕ) (test : Bool) → nat_lt (n + 1) (2 ^ 64) ≡ test → fewer ≤ n → ◌≡◌ {A = Result (Unit {0}) CodecError} (demand test Overflow) (Ok tt) → nat_lt (fewer + 1) (2 ^ 64) ≡ true
+less_counted fewer n true e l h = lt_test (fewer + 1) (2 ^ 64) (omega (arith, l, from_lt_test (n + 1) (2 ^ 64) e))
+less_counted fewer n false e l h = absurd cc
+
+-- where 64 bits count the bytes of some elements, or their offsets, they count those of fewer
+pub fewer_fit : (type : ElementType) (fewer n : ℕ) → fewer ≤ n → sizes_fit type n ≡ Ok tt → sizes_fit type fewer ≡ Ok tt
+fewer_fit (fixed width components sign) fewer n l h = rw (less_fits fewer n (element_size width components) (nat_lt (n * element_size width components) (2 ^ 64)) refl l h) refl
+fewer_fit text fewer n l h = rw (less_counted fewer n (nat_lt (n + 1) (2 ^ 64)) refl l h) refl
+fewer_fit bytes fewer n l h = rw (less_counted fewer n (nat_lt (n + 1) (2 ^ 64)) refl l h) refl
+fewer_fit (optional type) fewer n l h = fewer_fit type fewer n l h
 
 pub one_room : (type : ElementType) (sizes : List ℕ) → All is_positive sizes → sizes_fit type (product sizes) ≡ Ok tt → sizes_fit type 1 ≡ Ok tt
-one_room type sizes positive h = one_fits type (product sizes) (positive_product sizes positive) h
+one_room type sizes positive h = let one : 1 ≤ product sizes = omega (arith, positive_product sizes positive) in fewer_fit type 1 (product sizes) one h
 
 -- ---- how many inner chunks there are
 

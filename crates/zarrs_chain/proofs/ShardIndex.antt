@@ -1,16 +1,16 @@
 -- The index of a shard, as the code makes and reads it.
-use Rattle.std.proofs.Common.{◌≡◌, ℕ, zero, suc, ◌+◌, ◌*◌, ◌-◌, ◌<◌, ◌^◌, nat_eq, Bool, true, false, List, [], ◌∷◌, ◌++◌, length, map, Option, Result, Ok, Err, IsOk, IfOk, arith, refl, ap, sym, subst, ◌∙◌}
+use Rattle.std.proofs.Common.{◌≡◌, ℕ, ◌*◌, ◌-◌, ◌<◌, ◌^◌, nat_eq, Bool, true, false, List, [], ◌∷◌, ◌++◌, length, map, Result, Ok, Err, IfOk, arith, refl, ap, sym, subst, ◌∙◌}
 use Rattle.std.specs.Cmp.Lexicographic.{pointwise}
 use Rattle.std.specs.List.{All}
 use Rattle.std.specs.Prelude.{IsOkAnd, Vec}
 use Rattle.std.specs.declared.alloc.Global.{Global}
 use Rattle.std.proofs.lemmas.List.{length-map}
 use Rattle.std.proofs.lemmas.List.Elements.{All-nil, All-cons, All-append}
-use Rattle.zarrs_chunk.specs.Answer.{◌>>=◌, Answers, AnswersBy, demand, memory, seen}
+use Rattle.zarrs_chunk.specs.Answer.{◌>>=◌, Answers, demand, memory, seen}
 use Rattle.zarrs_chunk.specs.ChunkShape.{product}
 use Rattle.zarrs_chunk.specs.declared.codec_error.CodecError.{CodecError}
 use Rattle.zarrs_chunk.specs.declared.codec_error.CodecError.TheVariants.{ArrayBytesKind, OffsetNotKept}
-use Rattle.zarrs_data_type.specs.Element.{plain, Chunk, Element}
+use Rattle.zarrs_data_type.specs.Element.{Chunk}
 use Rattle.zarrs_data_type.specs.ElementType.{ElementType}
 use Rattle.zarrs_array_bytes.specs.Elements.{elements}
 use Rattle.zarrs_array_bytes.specs.Held.{Held, Raw, flen, vlen, masked}
@@ -20,17 +20,16 @@ use Rattle.zarrs_array_bytes.proofs.ElementLaw.{AreElements-held}
 use Rattle.zarrs_bytes.specs.BytesCodec.{IsChunk}
 use Rattle.zarrs_bytes.proofs.Coding.{ok, bind_ok}
 use Rattle.zarrs_codec.specs.BytesToBytesCodec.{BytesCodecs, IsLawful}
-use Rattle.zarrs_codec.specs.declared.bytes_representation.BytesRepresentation.{BytesRepresentation}
 use Rattle.zarrs_chain_meaning.specs.Chain.{held_value}
 use Rattle.zarrs_chain_meaning.specs.CodecMeaning.{chain_chunk, chain_representation, chain_value, codec_normal_element, normal_form}
 use Rattle.zarrs_chain_meaning.specs.Laws.{IsChainOfMappings}
 use Rattle.zarrs_chain_meaning.specs.PlainChain.{PlainChain, PlainCodec}
 use Rattle.zarrs_chain_meaning.specs.sharding.Sharding.{fixed_size}
 use Rattle.zarrs_chain_meaning.specs.vlen.Vlen.{is_same_bytes, offset_bytes, offset_elements, offset_type, offsets_in_chunk}
-use Rattle.zarrs_chain_meaning.specs.vlen.VlenSteps.{bytes_from, lent_bytes, read_offsets}
-use Rattle.zarrs_chain_meaning.proofs.ArraySteps.{err, error_is, ok_is, ok_no_err, next_answer}
+use Rattle.zarrs_chain_meaning.specs.vlen.VlenSteps.{bytes_from, read_offsets}
+use Rattle.zarrs_chain_meaning.proofs.ArraySteps.{err, error_is, ok_is, ok_no_err}
 use Rattle.zarrs_chain_meaning.proofs.ChainRelations.{held_value_is}
-use Rattle.zarrs_chain_meaning.proofs.ChainSteps.{held_chunk, next_err}
+use Rattle.zarrs_chain_meaning.proofs.ChainSteps.{held_chunk}
 use Rattle.zarrs_chain_meaning.proofs.CodecLaws.{chain_keeps, chain_value_found}
 use Rattle.zarrs_chain_meaning.proofs.NestedEncode.{same_bytes}
 use Rattle.zarrs_chain_meaning.proofs.NestedKept.{offsets_have}
@@ -39,9 +38,9 @@ use Rattle.zarrs_chain_meaning.proofs.OptionalSteps.{chunk_long}
 use Rattle.zarrs_chain_meaning.proofs.ShardNormal.{elements_long, product_two}
 use Rattle.zarrs_chain_meaning.proofs.ShardStands.{fixed_so}
 use Rattle.zarrs_chain_meaning.proofs.VlenOffsets.{fixed_held, holds_from, numbers_in, numbers_long}
-use Rattle.zarrs_chain.specs.ChainView.{plain_chain, plain_codec}
+use Rattle.zarrs_chain.specs.ChainView.{plain_chain}
 use Rattle.zarrs_chain.specs.declared.codec_chain.CodecChain.{CodecChain}
-use Rattle.zarrs_chain.specs.sharding.ShardingCalls.{KeepsAll, index_size_of, shard_index_part}
+use Rattle.zarrs_chain.specs.sharding.ShardingCalls.{KeepsAll, shard_index_part}
 use Rattle.zarrs_chain.proofs.KeepsAll.{all_same}
 use Rattle.zarrs_chain.proofs.VlenDecode.{bytes_there, fixed_there}
 use Rattle.zarrs_chain.proofs.VlenKept.{held_same}

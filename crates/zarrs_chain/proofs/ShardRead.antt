@@ -43,16 +43,21 @@ new_fits (optional type) count (masked inner mask) e =
     then_ok (length_is data_mismatch (length mask.items) count) (levels_fit data_mismatch type count inner) (length_due data_mismatch (length mask.items) count (length_found InvalidBytesLength (length mask.items) count parts.0)) (new_fits type count inner parts.1)
 new_fits _ count held e = absurd cc
 
+-- new elements, one for each place, are written
+pub written_at : (type : ElementType) (count : ℕ) (places : List ℕ) (held new : Held) → validity type count held ≡ Ok tt → validity type (length places) new ≡ Ok tt
+    → update_at_places type count places held new ≡ Ok (update (elements type count held) places (elements type (length places) new))
+written_at type count places held new valid new_valid =
+    asked (new_fits type (length places) new (both_ok (sizes_fit type (length places)) (levels_fit InvalidBytesLength type (length places) new) new_valid).1)
+  where
+    asked : data_fit type (length places) new ≡ Ok tt → update_at_places type count places held new ≡ Ok (update (elements type count held) places (elements type (length places) new))
+    asked fits = rw (valid, fits) refl
+
 pub inner_updated : (type : ElementType) (shape sizes places : List ℕ) (number count : ℕ) (held content : Held) → count ≡ product sizes → places ≡ inner_chunk_places shape sizes number → validity type (product sizes) held ≡ Ok tt → validity type (product shape) content ≡ Ok tt
     → update_at_places type count places held content ≡ Ok (update (elements type (product sizes) held) (inner_chunk_places shape sizes number) (elements type (product shape) content))
 inner_updated type shape sizes places number count held content n p valid new =
     let long : length places ≡ product shape = ap length p ∙ places_long shape sizes number in
-    let fits : data_fit type (length places) content ≡ Ok tt = ap (λ k. data_fit type k content) long ∙ new_fits type (product shape) content (both_ok (sizes_fit type (product shape)) (levels_fit InvalidBytesLength type (product shape) content) new).1 in
-    let here : validity type count held ≡ Ok tt = ap (λ k. validity type k held) n ∙ valid in
-    asked here fits ∙ ap ok (λ i. update (elements type (n i) held) (p i) (elements type (long i) content))
-  where
-    asked : validity type count held ≡ Ok tt → data_fit type (length places) content ≡ Ok tt → update_at_places type count places held content ≡ Ok (update (elements type count held) places (elements type (length places) content))
-    asked a b = rw (a, b) refl
+    written_at type count places held content (ap (λ k. validity type k held) n ∙ valid) (ap (λ k. validity type k content) long ∙ new)
+    ∙ ap ok (λ i. update (elements type (n i) held) (p i) (elements type (long i) content))
 
 -- ---- one inner chunk
 

@@ -1,19 +1,15 @@
 -- The answers of the calls that read a shard.
-use Rattle.std.proofs.Common.{◌≡◌, ℕ, suc, ◌+◌, ◌*◌, ◌%◌, ◌<◌, ◌≤◌, nat_le, nat_eq, Bool, true, false, List, [], ◌∷◌, ◌++◌, length, drop, get_or, replicate, Result, Ok, Err, refl, ap, sym, subst, ◌∙◌}
-use Rattle.std.specs.List.{range_with_len}
+use Rattle.std.proofs.Common.{◌≡◌, ℕ, suc, ◌+◌, ◌*◌, ◌%◌, ◌<◌, nat_eq, Bool, true, false, List, [], ◌∷◌, ◌++◌, length, drop, get_or, replicate, Result, Ok, refl, ap, sym, subst, ◌∙◌}
 use Rattle.std.proofs.lemmas.Bool.{eq-eqb}
-use Rattle.std.proofs.lemmas.List.{append-nil, length-replicate}
-use Rattle.std.proofs.lemmas.List.FromFn.{fill_by_all}
-use Rattle.zarrs_chunk.specs.Answer.{◌>>=◌, AnswersBy, GivesBy, checked_u64, demand, fault, memory, seen}
+use Rattle.std.proofs.lemmas.List.{length-replicate}
+use Rattle.zarrs_chunk.specs.Answer.{◌>>=◌, AnswersBy, GivesBy, checked_u64, memory, seen}
 use Rattle.zarrs_chunk.specs.ChunkShape.{product}
-use Rattle.zarrs_chunk.specs.Runs.{joined_runs}
 use Rattle.zarrs_chunk.specs.declared.codec_error.CodecError.{CodecError}
-use Rattle.zarrs_chunk.specs.declared.codec_error.CodecError.TheVariants.{InvalidByteRange, InvalidBytesLength}
-use Rattle.zarrs_data_type.specs.Element.{absent, Chunk, fill_element}
+use Rattle.zarrs_data_type.specs.Element.{Chunk, fill_element}
 use Rattle.zarrs_data_type.specs.ElementType.{ElementType}
 use Rattle.zarrs_data_type.specs.FillValue.{fill_fits}
-use Rattle.zarrs_array_bytes.specs.Chunks.{chunk_at, fill_chunk, update_at_places}
-use Rattle.zarrs_array_bytes.specs.Elements.{elements, select}
+use Rattle.zarrs_array_bytes.specs.Chunks.{fill_chunk, update_at_places}
+use Rattle.zarrs_array_bytes.specs.Elements.{elements}
 use Rattle.zarrs_array_bytes.specs.Held.{Held}
 use Rattle.zarrs_array_bytes.specs.Update.{update}
 use Rattle.zarrs_array_bytes.specs.Validity.{Holds, sizes_fit, validity}
@@ -25,14 +21,12 @@ use Rattle.zarrs_codec.specs.BytesToBytesCodec.{BytesCodecs}
 use Rattle.zarrs_codec.proofs.Fences.{second_true}
 use Rattle.zarrs_chain_meaning.specs.CodecMeaning.{chain_chunk, chain_representation}
 use Rattle.zarrs_chain_meaning.specs.Meaning.{Decoder}
-use Rattle.zarrs_chain_meaning.specs.PlainChain.{PlainChain}
 use Rattle.zarrs_chain_meaning.specs.sharding.InnerChunks.{grid, inner_chunk_places, is_divided, joined_inner_chunks}
-use Rattle.zarrs_chain_meaning.specs.sharding.Sharding.{Span, spanned_bytes, index_part_of, index_shape, index_size, inner_chunk_at, inner_chunks_at, is_stored, shard_chunk, spans_of}
-use Rattle.zarrs_chain_meaning.specs.sharding.ShardSteps.{divided_grid, index_bytes, stored_span}
+use Rattle.zarrs_chain_meaning.specs.sharding.Sharding.{Span, index_shape, index_size, inner_chunk_at, inner_chunks_at, is_stored, spans_of}
+use Rattle.zarrs_chain_meaning.specs.sharding.ShardSteps.{divided_grid, index_bytes}
 use Rattle.zarrs_chain_meaning.specs.vlen.Vlen.{offset_bytes, offset_type, offsets_in_chunk}
-use Rattle.zarrs_chain_meaning.proofs.ArraySteps.{ok_is, ok_no_err}
-use Rattle.zarrs_chain_meaning.proofs.ChainSteps.{held_chunk, next_err}
-use Rattle.zarrs_chain_meaning.proofs.InnerChunks.{joined_long}
+use Rattle.zarrs_chain_meaning.proofs.ArraySteps.{ok_is}
+use Rattle.zarrs_chain_meaning.proofs.ChainSteps.{held_chunk}
 use Rattle.zarrs_chain.specs.ChainView.{plain_chain}
 use Rattle.zarrs_chain.specs.declared.codec_chain.CodecChain.{CodecChain}
 use Rattle.zarrs_chain.specs.sharding.ShardingCalls.{ReadsShard, index_size_of}
@@ -76,7 +70,8 @@ pub record WalksTo (decode : Decoder) (shape sizes : List ℕ) (type : ElementTy
   pub valid : validity type (product sizes) held ≡ Ok tt
   pub rest : chunk_behind decode shape sizes type fill value number (spans_of (drop (number * 2) numbers)) (elements type (product sizes) held) ≡ all
 
-filled_is : (type : ElementType) (fill : List ℕ) (n count : ℕ) → count ≡ n → fill_fits type fill ≡ true → sizes_fit type n ≡ Ok tt → fill_chunk type count fill ≡ Ok (replicate n (fill_element type fill))
+-- fill elements are answered where they fit
+pub filled_is : (type : ElementType) (fill : List ℕ) (n count : ℕ) → count ≡ n → fill_fits type fill ≡ true → sizes_fit type n ≡ Ok tt → fill_chunk type count fill ≡ Ok (replicate n (fill_element type fill))
 filled_is type fill n count same fits room = ap (λ k. fill_chunk type k fill) same ∙ here
   where
     here : fill_chunk type n fill ≡ Ok (replicate n (fill_element type fill))
@@ -114,7 +109,7 @@ walk_goes_on decode shape sizes type fill value numbers number span held more al
 
 -- ---- the index
 
-same_long : (shape sizes : List ℕ) → is_divided shape sizes ≡ true → length shape ≡ length sizes
+pub same_long : (shape sizes : List ℕ) → is_divided shape sizes ≡ true → length shape ≡ length sizes
 same_long [] [] h = refl
 same_long (part ∷ shape) (size ∷ sizes) h = ap suc (same_long shape sizes (second_true (nat_eq (size % part) 0) (is_divided shape sizes) h))
 same_long [] (size ∷ sizes) h = absurd cc

@@ -1,9 +1,8 @@
 -- What calls give that write a shard.
-use Rattle.std.proofs.Common.{◌≡◌, ℕ, ◌+◌, ◌<◌, ◌≤◌, ◌^◌, nat_eq, suc, ◌%◌, Bool, true, false, List, [], ◌∷◌, length, drop, Option, Some, None, Result, Ok, Err, arith, refl, ap, sym, subst, ◌∙◌}
+use Rattle.std.proofs.Common.{◌≡◌, ℕ, ◌+◌, ◌<◌, ◌≤◌, ◌^◌, true, List, length, drop, Option, Result, Ok, Err, arith, ap, sym, subst, ◌∙◌}
 use Rattle.std.specs.Prelude.{IsOkAnd}
 use Rattle.std.specs.List.{All}
-use Rattle.std.proofs.lemmas.Bool.{eq-eqb}
-use Rattle.zarrs_chunk.specs.Answer.{◌>>=◌, Gives, checked_u64, seen}
+use Rattle.zarrs_chunk.specs.Answer.{Gives, checked_u64, seen}
 use Rattle.zarrs_chunk.specs.ChunkShape.{product}
 use Rattle.zarrs_chunk.specs.declared.codec_error.CodecError.{CodecError}
 use Rattle.zarrs_data_type.specs.Element.{Chunk}
@@ -12,50 +11,58 @@ use Rattle.zarrs_array_bytes.specs.Chunks.{chunk_at}
 use Rattle.zarrs_array_bytes.specs.Elements.{elements, select}
 use Rattle.zarrs_array_bytes.specs.Held.{Held}
 use Rattle.zarrs_array_bytes.specs.Validity.{Holds, validity}
+use Rattle.zarrs_array_to_array.proofs.CoordinateMaps.{length-select}
 use Rattle.zarrs_codec.specs.BytesToBytesCodec.{BytesCodecs}
-use Rattle.zarrs_codec.proofs.Fences.{second_true}
-use Rattle.zarrs_chain_meaning.specs.Chain.{held_value}
-use Rattle.zarrs_chain_meaning.specs.CodecMeaning.{chain_representation, chain_value, codec_normal_element}
+use Rattle.zarrs_chain_meaning.specs.CodecMeaning.{chain_representation}
 use Rattle.zarrs_chain_meaning.specs.sharding.InnerChunks.{grid, inner_chunk_count, inner_chunk_places, inner_chunks_of, is_divided}
-use Rattle.zarrs_chain_meaning.specs.sharding.Sharding.{index_size, is_left_out, shard_value}
-use Rattle.zarrs_chain_meaning.specs.sharding.ShardSteps.{divided_grid}
-use Rattle.zarrs_chain_meaning.proofs.ArraySteps.{ok_is}
-use Rattle.zarrs_chain_meaning.proofs.InnerChunks.{inner_chunk_long}
+use Rattle.zarrs_chain_meaning.specs.sharding.Sharding.{index_size}
 use Rattle.zarrs_chain_meaning.proofs.NestedStages.{is_positive}
-use Rattle.zarrs_chain.specs.ChainView.{plain_chain, plain_codec}
+use Rattle.zarrs_chain.specs.ChainView.{plain_chain}
 use Rattle.zarrs_chain.specs.declared.codec_chain.CodecChain.{CodecChain}
 use Rattle.zarrs_chain.specs.declared.sharding.written_shard.WrittenShard.{WrittenShard}
-use Rattle.zarrs_chain.specs.sharding.ShardWalk.{WritesInner, WritesPart, inner_part, written_behind, written_seen, written_with}
+use Rattle.zarrs_chain.specs.sharding.ShardWalk.{inner_part, written_behind, written_seen, written_with}
 use Rattle.zarrs_chain.specs.sharding.ShardingCalls.{index_size_of}
 use Rattle.zarrs_chain.proofs.ShardEncode.{written_end, written_no_more, written_one_more}
 use Rattle.zarrs_chain.proofs.ShardForms.{count_smaller, small_counted}
 
--- ---- one inner chunk
-
--- ---- the inner chunk of a number
+-- ---- the inner chunk at places
 
 -- the container of it
-pub next_held : (shape sizes : List ℕ) (type : ElementType) (number count : ℕ) (held made : Held) (places : List ℕ) → count ≡ product sizes → places ≡ inner_chunk_places shape sizes number → validity type (product sizes) held ≡ Ok tt
-    → IsOkAnd (chunk_at type count places held) (Holds type made) → Holds type made (select (elements type (product sizes) held) (inner_chunk_places shape sizes number))
-next_held shape sizes type number count held made places n p valid h =
-    let here = subst (λ (ps : List ℕ). IsOkAnd (chunk_at type (product sizes) ps held) (Holds type made)) p (subst (λ (k : ℕ). IsOkAnd (chunk_at type k places held) (Holds type made)) n h) in
+pub next_held : (sizes : List ℕ) (type : ElementType) (count : ℕ) (held made : Held) (found places : List ℕ) → count ≡ product sizes → found ≡ places → validity type (product sizes) held ≡ Ok tt
+    → IsOkAnd (chunk_at type count found held) (Holds type made) → Holds type made (select (elements type (product sizes) held) places)
+next_held sizes type count held made found places n p valid h =
+    let here = subst (λ (ps : List ℕ). IsOkAnd (chunk_at type (product sizes) ps held) (Holds type made)) p (subst (λ (k : ℕ). IsOkAnd (chunk_at type k found held) (Holds type made)) n h) in
     rw valid at here
 
 -- holds as many elements as an inner chunk has
-pub next_valid : (shape sizes : List ℕ) (type : ElementType) (number : ℕ) (chunk : Chunk) (made : Held) → Holds type made (select chunk (inner_chunk_places shape sizes number)) → validity type (product shape) made ≡ Ok tt
-next_valid shape sizes type number chunk made h =
-    subst (λ (k : ℕ). validity type k made ≡ Ok tt) (inner_chunk_long shape sizes chunk number) h.valid
+pub next_valid : (shape : List ℕ) (type : ElementType) (chunk : Chunk) (places : List ℕ) (made : Held) → length places ≡ product shape → Holds type made (select chunk places) → validity type (product shape) made ≡ Ok tt
+next_valid shape type chunk places made long h =
+    subst (λ (k : ℕ). validity type k made ≡ Ok tt) (length-select chunk places ∙ long) h.valid
 
 -- which are its own
-pub next_elements : (shape sizes : List ℕ) (type : ElementType) (number : ℕ) (chunk : Chunk) (made : Held) → Holds type made (select chunk (inner_chunk_places shape sizes number)) → elements type (product shape) made ≡ select chunk (inner_chunk_places shape sizes number)
-next_elements shape sizes type number chunk made h =
-    ap (λ (k : ℕ). elements type k made) (sym (inner_chunk_long shape sizes chunk number)) ∙ h.elements_are
+next_elements : (shape : List ℕ) (type : ElementType) (chunk : Chunk) (places : List ℕ) (made : Held) → length places ≡ product shape → Holds type made (select chunk places) → elements type (product shape) made ≡ select chunk places
+next_elements shape type chunk places made long h =
+    ap (λ (k : ℕ). elements type k made) (sym (length-select chunk places ∙ long)) ∙ h.elements_are
 
-pub next_written : {B T V : Type 0} (view : T → V) (result : Result T CodecError) (go : Option (List ℕ) → V) (f : BytesCodecs B) (chain : CodecChain B) (shape sizes : List ℕ) (type : ElementType) (fill : List ℕ) (number : ℕ) (chunk : Chunk) (made : Held)
-    → Holds type made (select chunk (inner_chunk_places shape sizes number)) → Gives view result (seen go (inner_part f chain shape type fill (elements type (product shape) made)))
-    → Gives view result (seen go (inner_part f chain shape type fill (select chunk (inner_chunk_places shape sizes number))))
-next_written view result go f chain shape sizes type fill number chunk made h w =
-    subst (λ (c : Chunk). Gives view result (seen go (inner_part f chain shape type fill c))) (next_elements shape sizes type number chunk made h) w
+pub next_written : {B T V : Type 0} (view : T → V) (result : Result T CodecError) (go : Option (List ℕ) → V) (f : BytesCodecs B) (chain : CodecChain B) (shape : List ℕ) (type : ElementType) (fill : List ℕ) (chunk : Chunk) (places : List ℕ) (made : Held) → length places ≡ product shape
+    → Holds type made (select chunk places) → Gives view result (seen go (inner_part f chain shape type fill (elements type (product shape) made)))
+    → Gives view result (seen go (inner_part f chain shape type fill (select chunk places)))
+next_written view result go f chain shape type fill chunk places made long h w =
+    subst (λ (c : Chunk). Gives view result (seen go (inner_part f chain shape type fill c))) (next_elements shape type chunk places made long h) w
+
+-- as it is written of the number
+pub next_numbered : {B : Type 0} (f : BytesCodecs B) (chain : CodecChain B) (shape sizes : List ℕ) (type : ElementType) (fill : List ℕ) (held : Held) (number : ℕ) (places : List ℕ) (old now : WrittenShard) → places ≡ inner_chunk_places shape sizes number
+    → seen (written_with (written_seen old)) (inner_part f chain shape type fill (select (elements type (product sizes) held) places)) ≡ Ok (written_seen now)
+    → seen (written_with (written_seen old)) (inner_part f chain shape type fill (select (elements type (product sizes) held) (inner_chunk_places shape sizes number))) ≡ Ok (written_seen now)
+next_numbered f chain shape sizes type fill held number places old now e w =
+    ap (λ (ps : List ℕ). seen (written_with (written_seen old)) (inner_part f chain shape type fill (select (elements type (product sizes) held) ps))) (sym e) ∙ w
+
+-- or not
+pub next_refused : {B : Type 0} (f : BytesCodecs B) (chain : CodecChain B) (shape sizes : List ℕ) (type : ElementType) (fill : List ℕ) (held : Held) (number : ℕ) (places : List ℕ) (old : WrittenShard) (cause : CodecError) → places ≡ inner_chunk_places shape sizes number
+    → seen (written_with (written_seen old)) (inner_part f chain shape type fill (select (elements type (product sizes) held) places)) ≡ Err cause
+    → seen (written_with (written_seen old)) (inner_part f chain shape type fill (select (elements type (product sizes) held) (inner_chunk_places shape sizes number))) ≡ Err cause
+next_refused f chain shape sizes type fill held number places old cause e w =
+    ap (λ (ps : List ℕ). seen (written_with (written_seen old)) (inner_part f chain shape type fill (select (elements type (product sizes) held) ps))) (sym e) ∙ w
 
 -- ---- all of them
 

@@ -10,7 +10,7 @@ use Rattle.zarrs_chain_meaning.specs.CallAnswers.{GivesChainRepresentation}
 use Rattle.zarrs_chain.specs.ChainView.{plain_chain}
 use Rattle.zarrs_chain.specs.declared.codec_chain.CodecChain.{CodecChain}
 
--- how many bytes the value of such a chunk has, or the first error
+-- a chain gives how many bytes the value of such a chunk has, or the first error
 abbrev pub ChainRepresents : {B : Type 0} → BytesCodecs B → CodecChain B → List ℕ → ElementType → List ℕ → Result BytesRepresentation CodecError → Type 0
 ChainRepresents f chain sizes type fill result = GivesChainRepresentation f (plain_chain chain) (form_of sizes type fill) result
 

@@ -9,6 +9,7 @@ use Rattle.zarrs_chain_meaning.specs.Chain.{codec_held_value, held_value, taken_
 use Rattle.zarrs_chain_meaning.specs.CodecMeaning.{chain_chunk, codec_representation, ChainStands, CodecStands, ChainWritten, CodecWritten}
 use Rattle.zarrs_chain_meaning.specs.PlainChain.{PlainChain, PlainCodec}
 
+-- what a chain states of chunks: for which a value stands, which value is written, what calls answer
 abbrev pub chain_grammar : {B : Type 0} → BytesCodecs B → PlainChain B → Grammar
 chain_grammar f chain = record {
   Stands = λ form. ChainStands f chain form.sizes form.type form.fill;
@@ -28,7 +29,7 @@ pub record TakenWritten {B : Type 0} (f : BytesCodecs B) (codec : PlainCodec B) 
   pub count_is : length chunk ≡ product form.sizes
   pub written : CodecWritten f codec form.sizes form.type form.fill value chunk
 
--- the grammar of an array-to-bytes codec that stands in no chain
+-- what an array-to-bytes codec by itself, in no chain, states of chunks
 abbrev pub codec_grammar : {B : Type 0} → BytesCodecs B → PlainCodec B → Grammar
 codec_grammar f codec = record {
   Stands = TakenStands f codec;

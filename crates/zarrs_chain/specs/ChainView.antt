@@ -1,4 +1,5 @@
 -- Chains of codecs as the plain chains that contracts speak of.
+-- Source: zarrs, `CodecChain`.
 use Rattle.std.specs.Prelude.{◌≡◌, ℕ, List, map, Vec}
 use Rattle.std.proofs.Common.{ap}
 use Rattle.std.specs.declared.alloc.Global.{Global}
@@ -19,6 +20,7 @@ use Rattle.zarrs_chain.specs.declared.vlen.vlen_codec.VlenCodec.{VlenCodec, Vlen
 use Rattle.zarrs_array_to_array.specs.declared.array_to_array_codec.ArrayToArrayCodec.{ArrayToArrayCodec}
 
 unfoldable mutual
+  -- an array-to-bytes codec as plain data
   pub plain_codec : {B : Type 0} → ArrayToBytesCodec B → PlainCodec B
   plain_codec (Bytes order) = bytes_codec order
   plain_codec (PackBits settings) = packbits_codec settings
@@ -27,18 +29,22 @@ unfoldable mutual
   plain_codec (Optional codec) = plain_optional codec
   plain_codec (Sharding codec) = plain_sharding codec
 
+  -- a `vlen` with its chains as plain data
   pub plain_vlen : {B : Type 0} → VlenCodec B → PlainCodec B
   plain_vlen (VlenCodec' p ia ix ib q da dx db index_data_type index_location) =
       vlen_codec (map mapping_of ia.items) (plain_codec ix) ib.items (map mapping_of da.items) (plain_codec dx) db.items (is_wide index_data_type) (is_at_end index_location)
 
+  -- an `optional` with its chains as plain data
   pub plain_optional : {B : Type 0} → OptionalCodec B → PlainCodec B
   plain_optional (OptionalCodec' p ma mx mb q da dx db) =
       optional_codec (map mapping_of ma.items) (plain_codec mx) mb.items (map mapping_of da.items) (plain_codec dx) db.items
 
+  -- a `sharding_indexed` with its chains as plain data
   pub plain_sharding : {B : Type 0} → ShardingCodec B → PlainCodec B
   plain_sharding (ShardingCodec' chunk_shape p sa sx sb q ia ix ib index_location) =
       sharding_codec (map mapping_of sa.items) (plain_codec sx) sb.items (map mapping_of ia.items) (plain_codec ix) ib.items chunk_shape (is_index_at_end index_location)
 
+-- a chain as plain data
 abbrev pub plain_chain : {B : Type 0} → CodecChain B → PlainChain B
 plain_chain chain = record {
   array_to_array = map mapping_of chain.array_to_array.items;

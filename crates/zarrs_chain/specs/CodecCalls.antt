@@ -18,7 +18,7 @@ use Rattle.zarrs_chain_meaning.specs.CallAnswers.{IsTaken, GivesCodecValue}
 use Rattle.zarrs_chain.specs.ChainView.{plain_codec}
 use Rattle.zarrs_chain.specs.declared.array_to_bytes_codec.ArrayToBytesCodec.{ArrayToBytesCodec}
 
--- the codec takes such chunks
+-- an array-to-bytes codec takes chunks of these sizes, this type and this fill value
 abbrev pub CodecAccepts : {B : Type 0} → BytesCodecs B → ArrayToBytesCodec B → List ℕ → ElementType → List ℕ → Type 0
 CodecAccepts f codec sizes type fill = IsTaken f (plain_codec codec) (form_of sizes type fill)
 

@@ -1,9 +1,11 @@
+-- Chains.
 pub mod vlen
 pub mod optional
 pub mod sharding
 pub mod ChainGrammar
 pub mod CodecCalls
 pub mod ChainCalls
+pub mod ChainJson
 pub mod Making
 pub mod Compact
 pub mod ChainView

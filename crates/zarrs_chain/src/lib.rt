@@ -22,6 +22,7 @@ mod vlen;
 
 pub use array_to_bytes_codec::ArrayToBytesCodec;
 pub use codec_chain::CodecChain;
+pub use metadata::chain_json_error::ChainJsonError;
 pub use optional::optional_codec::OptionalCodec;
 pub use sharding::sharding_codec::ShardingCodec;
 pub use vlen::vlen_codec::VlenCodec;

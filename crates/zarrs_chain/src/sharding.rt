@@ -1,12 +1,18 @@
 //! The codec `sharding_indexed`: chunks divided into inner chunks.
 pub(crate) mod create;
 pub(crate) mod fill_elements;
+pub(crate) mod inner_places;
+pub(crate) mod joined_rows;
+pub(crate) mod kept_bytes;
+pub(crate) mod kept_inner_chunk;
 pub(crate) mod left_out;
 pub(crate) mod normal_form;
+pub(crate) mod shard_contents;
 pub(crate) mod shard_decode;
 pub(crate) mod shard_encode;
 pub(crate) mod shard_form;
 pub(crate) mod shard_index;
+pub(crate) mod shard_rows;
 pub(crate) mod sharding_codec;
 pub(crate) mod sharding_codec_traits;
 pub(crate) mod written_shard;

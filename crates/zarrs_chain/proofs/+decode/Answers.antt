@@ -1,7 +1,7 @@
-use Rattle.std.proofs.Common.{◌≡◌, ◌∙◌, ap, arith, false, get_or, refl, sym, true, subst, map, List, Ok, IfOk, rules, length, Err, ◌+◌, ◌*◌, ◌<◌, ◌^◌, ◌∷◌, []}
+use Rattle.std.proofs.Common.{◌≡◌, ℕ, ◌∙◌, ap, arith, false, get_or, refl, sym, true, subst, map, List, Ok, IfOk, rules, length, Err, ◌+◌, ◌*◌, ◌/◌, ◌<◌, ◌≤◌, ◌^◌, ◌∷◌, []}
 use Rattle.std.proofs.lemmas.Result.{err_from_is_err_and}
 use Rattle.std.specs.List.{All, list_all}
-use Rattle.zarrs_array_bytes.specs.Held.{raw_of}
+use Rattle.zarrs_array_bytes.specs.Held.{flen, raw_of}
 use Rattle.zarrs_array_bytes.specs.Present.{present_count}
 use Rattle.zarrs_array_bytes.specs.Validity.{Holds, sizes_fit, validity}
 use Rattle.zarrs_array_to_array.specs.Mapping.{mapping_of}
@@ -33,17 +33,34 @@ use Rattle.zarrs_chain_meaning.specs.optional.Optional.{blank_fill, flag_type}
 use Rattle.zarrs_chain_meaning.specs.Parts.{byte_elements}
 use Rattle.zarrs_chunk.specs.ChunkShape.{product}
 use Rattle.zarrs_array_bytes.specs.Offsets.{last_of}
-use Rattle.zarrs_chain_meaning.specs.vlen.VlenSteps.{data_part, index_offsets}
+use Rattle.zarrs_chain_meaning.specs.vlen.VlenSteps.{data_part, index_offsets, lent_bytes}
 use Rattle.zarrs_chain.specs.declared.vlen.vlen_codec.VlenCodec.{out-VlenCodec}
 use Rattle.zarrs_chain.specs.declared.optional.optional_codec.OptionalCodec.{out-OptionalCodec}
 use Rattle.zarrs_chain.proofs.OptionalRoom.{mask_long}
 use Rattle.zarrs_chain.proofs.TakenTight.{vlen_tight}
 use Rattle.zarrs_chain.proofs.ShardIndex.{index_form, numbers_answered, numbers_counted, numbers_refused, rows_there}
-use Rattle.zarrs_chain_meaning.specs.sharding.Sharding.{is_stored}
+use Rattle.zarrs_chain_meaning.specs.sharding.Sharding.{is_stored, missing_chunk}
 use Rattle.zarrs_chain_meaning.specs.sharding.ShardingSettings.{is_index_at_end}
 use Rattle.zarrs_chain.specs.declared.sharding.sharding_codec.ShardingCodec.{out-ShardingCodec}
-use Rattle.zarrs_chain.proofs.ShardRead.{inner_read, walk_is}
+use Rattle.zarrs_chunk.specs.Runs.{joined_runs, places_in}
+use Rattle.zarrs_chain_meaning.specs.sharding.Sharding.{spans_of}
+use Rattle.zarrs_chain_meaning.proofs.ArraySteps.{ok_is}
+use Rattle.zarrs_chain_meaning.proofs.InnerChunks.{is_cut}
+use Rattle.zarrs_chain_meaning.proofs.ShardReads.{spans_long}
+use Rattle.zarrs_chain.proofs.ShardContents.{append_ends, append_goes_on, append_refused, fill_held, fill_there, inner_appended, more_counted, room_inside}
+use Rattle.zarrs_chain.proofs.ShardJoined.{joined_answered, places_from}
+use Rattle.zarrs_chain.proofs.ShardRead.{answers_long, inner_read, walk_is}
 use Rattle.zarrs_chain.proofs.ShardReading.{count_is, not_stored, one_replaced, shard_answered, walk_begins, walk_goes_on}
+use Rattle.zarrs_chain.specs.sharding.ShardRows.{chunks_in}
+use Rattle.zarrs_chain_meaning.specs.sharding.InnerChunks.{inner_chunk_count, joined_inner_chunks}
+use Rattle.zarrs_array_bytes.specs.Elements.{elements}
+use Rattle.zarrs_chain.proofs.InnerBytes.{content_read, content_whole, blank_read, reads_begin, reads_on, reads_refused, reads_end, chunks_more, halved, long_more, whole_more, chunk_joined, items_there, lent_holds}
+use Rattle.zarrs_chain.proofs.ShardRows.{less_room}
+use Rattle.zarrs_chain.proofs.ShardForms.{inner_smaller}
+use Rattle.zarrs_data_type.specs.ElementType.{fixed_size_of}
+use Rattle.std.specs.Prelude.{is_none}
+use Rattle.std.specs.declared.borrow.CowSlice.{CowSlice}
+use Rattle.std.specs.declared.alloc.Global.{Global}
 use Rattle.zarrs_chain.proofs.+decode.Goals as goal
 
 pub decode::chain_decode-returns : goal.decode::chain_decode-returns
@@ -421,9 +438,237 @@ sharding::shard_decode::read_all-loop-number-preserved g t c =
       tight = c.in_ok-elements-2.ensures.tight;
     }
 
+pub sharding::shard_contents::append_inner-append_elements-requires-clause-more_valid : goal.sharding::shard_contents::append_inner-append_elements-requires-clause-more_valid
+sharding::shard_contents::append_inner-append_elements-requires-clause-more_valid g t c =
+    let read = inner_read g.B.BytesToBytesCodecTraits.functions (plain_chain c.args.chain.now) c.args.inner.now c.args.data_type.now c.args.fill.now c.args.value.now c.in_ok-bytes_at.field-0.now c.args.span c.in_ok-content.content (sym c.in_ok-bytes_at.ensures.answer) c.in_ok-content.ensures.exact.is in
+    ap (λ n. validity c.args.data_type.now n c.in_ok-content.content) c.requires.inner_long ∙ read.1
+
+pub sharding::shard_contents::append_inner-returns-clause-answer : goal.sharding::shard_contents::append_inner-returns-clause-answer
+sharding::shard_contents::append_inner-returns-clause-answer g t c =
+    let content = c.in_ok-content.content in
+    let type = c.args.data_type.now in
+    let read = inner_read g.B.BytesToBytesCodecTraits.functions (plain_chain c.args.chain.now) c.args.inner.now type c.args.fill.now c.args.value.now c.in_ok-bytes_at.field-0.now c.args.span content (sym c.in_ok-bytes_at.ensures.answer) c.in_ok-content.ensures.exact.is in
+    inner_appended type c.args.count c.args.each c.args.elements content _ c.append_elements.result (read.0 ∙ ap (λ n. ok (elements type n content)) (sym c.requires.inner_long)) c.append_elements.ensures.answer
+
+pub sharding::shard_contents::read_contents-returns-in_err-blank-clause-answer : goal.sharding::shard_contents::read_contents-returns-in_err-blank-clause-answer
+sharding::shard_contents::read_contents-returns-in_err-blank-clause-answer g t c =
+    let shape = c.args.inner.now in
+    let sizes = c.args.shape.now in
+    let type = c.args.data_type.now in
+    let fill = c.args.fill.now in
+    let form = c.requires.form in
+    let each = count_is (product shape) c.in_ok-each.each form.inner_counted c.in_ok-each.ensures.answer in
+    let smaller = inner_smaller shape sizes (subst (All (λ size. 0 < size)) c.as_slice.ensures.value c.as_slice.ensures.positive) (subst (All (λ size. 0 < size)) c.as_slice-2.ensures.value c.as_slice-2.ensures.positive) form.divided in
+    let room = room_inside shape sizes type fill (product shape) form smaller in
+    record {
+      is =
+          let p = err_from_is_err_and c.from_residual-in_err-blank.result c.from_residual-in_err-blank.ensures.1 in
+          rw (p.1, p.2) (λ ne. absurd (fill_there type fill (product shape) c.in_ok-each.each c.in_err-blank.field-0.0 each form.filling room (c.in_err-blank.ensures.exact.is ne)));
+      no_fault = search rules;
+    }
+
+pub sharding::shard_contents::read_contents-returns-in_err-contents-clause-answer : goal.sharding::shard_contents::read_contents-returns-in_err-contents-clause-answer
+sharding::shard_contents::read_contents-returns-in_err-contents-clause-answer g t c =
+    let type = c.args.data_type.now in
+    let fill = c.args.fill.now in
+    let form = c.requires.form in
+    let room = room_inside c.args.inner.now c.args.shape.now type fill 0 form (omega arith) in
+    record {
+      is =
+          let p = err_from_is_err_and c.from_residual-in_err-contents.result c.from_residual-in_err-contents.ensures.1 in
+          rw (p.1, p.2) (λ ne. absurd (fill_there type fill 0 0 c.in_err-contents.field-0.0 refl form.filling room (c.in_err-contents.ensures.exact.is ne)));
+      no_fault = search rules;
+    }
+
+pub sharding::shard_contents::read_contents-returns-in_err-contents-2-clause-answer : goal.sharding::shard_contents::read_contents-returns-in_err-contents-2-clause-answer
+sharding::shard_contents::read_contents-returns-in_err-contents-2-clause-answer g t c =
+    let f = g.B.BytesToBytesCodecTraits.functions in
+    let chain = plain_chain c.args.chain.now in
+    let numbers = c.args.numbers.now in
+    let number = c.loop-number.number in
+    let inside : number * 2 + 1 < length numbers = omega arith in
+    record {
+      is =
+          let p = err_from_is_err_and c.from_residual-in_err-contents-2.result c.from_residual-in_err-contents-2.ensures.1 in
+          rw (p.1, p.2) (λ ne. append_refused (chain_chunk f chain) c.args.inner.now c.args.data_type.now c.args.fill.now c.args.value.now numbers number c.loop-number.count (get_or numbers (number * 2) 0, get_or numbers (number * 2 + 1) 0) c.loop-number.contents _ c.in_err-contents-2.field-0.0 c.loop-number.invariant.walk inside refl (c.in_err-contents-2.ensures.answer.is ne));
+      no_fault = search rules;
+    }
+
+pub sharding::shard_contents::read_contents-loop-number-preserved : goal.sharding::shard_contents::read_contents-loop-number-preserved
+sharding::shard_contents::read_contents-loop-number-preserved g t c =
+    let f = g.B.BytesToBytesCodecTraits.functions in
+    let chain = plain_chain c.args.chain.now in
+    let shape = c.args.inner.now in
+    let type = c.args.data_type.now in
+    let fill = c.args.fill.now in
+    let numbers = c.args.numbers.now in
+    let number = c.loop-number.number in
+    let each = count_is (product shape) c.in_ok-each.each c.requires.form.inner_counted c.in_ok-each.ensures.answer in
+    let inside : number * 2 + 1 < length numbers = omega arith in
+    record {
+      walk = append_goes_on (chain_chunk f chain) shape type fill c.args.value.now numbers number c.loop-number.count c.in_ok-each.each (get_or numbers (number * 2) 0, get_or numbers (number * 2 + 1) 0) c.loop-number.contents c.in_ok-contents-2.contents _ (answers_long f chain shape type fill) each c.loop-number.invariant.walk inside refl c.in_ok-contents-2.ensures.answer.is;
+      tight = c.in_ok-contents-2.ensures.tight;
+    }
+
+pub sharding::shard_contents::read_contents-overflow_add-count : goal.sharding::shard_contents::read_contents-overflow_add-count
+sharding::shard_contents::read_contents-overflow_add-count g t c =
+    let shape = c.args.inner.now in
+    let sizes = c.args.shape.now in
+    let form = c.requires.form in
+    let number = c.loop-number.number in
+    let each = count_is (product shape) c.in_ok-each.each form.inner_counted c.in_ok-each.ensures.answer in
+    let below : number < inner_chunk_count shape sizes = omega (arith, c.requires.len) in
+    let more = more_counted shape sizes number c.loop-number.count c.in_ok-each.each form.divided c.loop-number.invariant.walk.counted each below in
+    omega (arith, more, form.small)
+
+pub sharding::shard_contents::read_contents-returns-clause-answer : goal.sharding::shard_contents::read_contents-returns-clause-answer
+sharding::shard_contents::read_contents-returns-clause-answer g t c =
+    let f = g.B.BytesToBytesCodecTraits.functions in
+    let chain = plain_chain c.args.chain.now in
+    let numbers = c.args.numbers.now in
+    let number = c.loop-number.number in
+    let done : length numbers ≤ number * 2 = omega (arith, c.requires.len) in
+    record {
+      is = append_ends (chain_chunk f chain) c.args.inner.now c.args.data_type.now c.args.fill.now c.args.value.now numbers number c.loop-number.count c.loop-number.contents _ c.loop-number.invariant.walk done;
+      no_fault = refl;
+    }
+
+pub sharding::shard_contents::read_joined-returns-clause-answer : goal.sharding::shard_contents::read_joined-returns-clause-answer
+sharding::shard_contents::read_joined-returns-clause-answer g t c =
+    let f = g.B.BytesToBytesCodecTraits.functions in
+    let chain = plain_chain c.args.chain.now in
+    let shape = c.args.inner.now in
+    let sizes = c.args.shape.now in
+    let type = c.args.data_type.now in
+    let fill = c.args.fill.now in
+    let numbers = c.args.numbers.now in
+    let form = c.requires.form in
+    let count = count_is (product sizes) c.in_ok-count.count form.counted c.in_ok-count.ensures.answer in
+    let positive = subst (All (λ size. 0 < size)) c.as_slice.ensures.value c.as_slice.ensures.positive in
+    let many : length numbers / 2 ≡ inner_chunk_count shape sizes = omega (arith, c.requires.len) in
+    let held = fill_held type fill (product sizes) c.in_ok-count.count c.in_ok-filled.filled count form.filling form.room c.in_ok-filled.ensures.exact.is in
+    let places = ap joined_runs c.as_slice-2.ensures.value ∙ sym (ok_is _ (places_in c.in_ok-runs.runs) c.in_ok-runs.ensures.places.is) ∙ ap (places_from shape sizes 0) many in
+    joined_answered (chain_chunk f chain) shape sizes type fill c.args.value.now (spans_of numbers) c.in_ok-count.count (joined_runs c.as_slice-2.result.now) c.in_ok-contents.contents c.in_ok-filled.filled c.update_runs.result (is_cut shape sizes positive form.divided) (answers_long f chain shape type fill) (spans_long (inner_chunk_count shape sizes) numbers c.requires.len)
+    c.in_ok-contents.ensures.answer.is count held places c.update_runs.ensures.answer
+
 pub sharding::shard_decode::shard_decode-returns-clause-answer : goal.sharding::shard_decode::shard_decode-returns-clause-answer
 sharding::shard_decode::shard_decode-returns-clause-answer g t c =
     let o = out-ShardingCodec _ c.args.codec.now in
     let form = c.shard_form.ensures.form in
-    shard_answered g.B.BytesToBytesCodecTraits.functions o.codecs.value o.index_codecs.value c.deref-5.result.now c.deref-3.result.now c.deref-4.result.now o.chunk_shape c.args.shape.now c.in_ok-grid.grid (is_index_at_end o.index_location) c.is_at_end.result c.args.data_type.now c.args.fill.now c.args.value.now c.in_ok-part.part.now c.in_ok-numbers.numbers.items c.as_slice-numbers.result.now c.in_ok-size.size c.read_all.result
-    c.deref-5.ensures c.deref-3.ensures c.deref-4.ensures form.divided c.in_ok-grid.ensures.answer.is c.in_ok-size.ensures.answer.is c.is_at_end.ensures.value c.in_ok-part.ensures.answer c.in_ok-numbers.ensures.answer.is c.as_slice-numbers.ensures.value c.read_all.ensures.answer
+    shard_answered g.B.BytesToBytesCodecTraits.functions o.codecs.value o.index_codecs.value c.deref-5.result.now c.deref-3.result.now c.deref-4.result.now o.chunk_shape c.args.shape.now c.in_ok-grid.grid (is_index_at_end o.index_location) c.is_at_end.result c.args.data_type.now c.args.fill.now c.args.value.now c.in_ok-part.part.now c.in_ok-numbers.numbers.items c.as_slice-numbers.result.now c.in_ok-size.size c.read_chunk.result
+    c.deref-5.ensures c.deref-3.ensures c.deref-4.ensures form.divided c.in_ok-grid.ensures.answer.is c.in_ok-size.ensures.answer.is c.is_at_end.ensures.value c.in_ok-part.ensures.answer c.in_ok-numbers.ensures.answer.is c.as_slice-numbers.ensures.value c.read_chunk.ensures.answer
+
+-- ---- row by row
+
+pub sharding::shard_rows::read_stored_bytes-returns : goal.sharding::shard_rows::read_stored_bytes-returns
+sharding::shard_rows::read_stored_bytes-returns g t c =
+    let f = g.B.BytesToBytesCodecTraits.functions in
+    let type = c.args.data_type.now in
+    let read = inner_read f (plain_chain c.args.chain.now) c.args.inner.now type c.args.fill.now c.args.value.now c.in_ok-bytes_at.field-0.now c.args.span c.in_ok-content.content (sym c.in_ok-bytes_at.ensures.answer) c.in_ok-content.ensures.exact.is in
+    record {
+      answer = content_read type (product c.args.inner.now) c.in_ok-content.content _ c.into_fixed.result c.requires.fixed read.0 read.1 c.into_fixed.ensures.answer;
+      whole = content_whole type (product c.args.inner.now) c.in_ok-content.content c.into_fixed.result read.1 c.into_fixed.ensures.answer;
+    }
+
+pub sharding::shard_rows::read_inner_bytes-returns-then-not-has_span : goal.sharding::shard_rows::read_inner_bytes-returns-then-not-has_span
+sharding::shard_rows::read_inner_bytes-returns-then-not-has_span g t c =
+    let decode = chain_chunk g.B.BytesToBytesCodecTraits.functions (plain_chain c.args.chain.now) in
+    let e : is_stored c.args.span ≡ false = search rules in
+    let read = blank_read decode c.args.inner.now c.args.data_type.now c.args.fill.now c.args.value.now c.args.blank.now c.args.span (is_stored c.args.span) e c.requires.blank in
+    record { answer = record { is = read.0; no_fault = refl }; whole = read.1 }
+
+pub sharding::shard_rows::read_all_bytes-loop-number-init : goal.sharding::shard_rows::read_all_bytes-loop-number-init
+sharding::shard_rows::read_all_bytes-loop-number-init g t c =
+    let decode = chain_chunk g.B.BytesToBytesCodecTraits.functions (plain_chain c.args.chain.now) in
+    record {
+      walk = reads_begin decode c.args.inner.now c.args.data_type.now c.args.fill.now c.args.value.now c.args.numbers.now _ (ap (chunks_in c.args.data_type.now (product c.args.inner.now)) c.in_ok-contents.ensures.items);
+      all = search rules;
+      whole = search rules;
+    }
+
+pub sharding::shard_rows::read_all_bytes-loop-number-preserved : goal.sharding::shard_rows::read_all_bytes-loop-number-preserved
+sharding::shard_rows::read_all_bytes-loop-number-preserved g t c =
+    let decode = chain_chunk g.B.BytesToBytesCodecTraits.functions (plain_chain c.args.chain.now) in
+    let numbers = c.args.numbers.now in
+    let number = c.loop-number.number in
+    let type = c.args.data_type.now in
+    let count = product c.args.inner.now in
+    let inside : number * 2 + 1 < length numbers = omega arith in
+    let old = c.loop-number.contents.items in
+    let content = c.in_ok-content.content in
+    let more = chunks_more type count old _ content c.in_ok-push.ensures.items in
+    record {
+      walk = reads_on decode c.args.inner.now type c.args.fill.now c.args.value.now numbers number (get_or numbers (number * 2) 0, get_or numbers (number * 2 + 1) 0) (chunks_in type count old) c.loop-number.invariant.walk inside refl (elements type count (flen (raw_of content))) _ c.in_ok-content.ensures.answer.is more;
+      all = long_more old _ content number c.in_ok-push.ensures.items c.loop-number.invariant.all;
+      whole = whole_more (λ (x : CowSlice ℕ Global). validity type count (flen (raw_of x)) ≡ Ok tt) old _ content c.in_ok-push.ensures.items c.loop-number.invariant.whole c.in_ok-content.ensures.whole;
+    }
+
+pub sharding::shard_rows::read_all_bytes-returns : goal.sharding::shard_rows::read_all_bytes-returns
+sharding::shard_rows::read_all_bytes-returns g t c =
+    let decode = chain_chunk g.B.BytesToBytesCodecTraits.functions (plain_chain c.args.chain.now) in
+    let end : c.loop-number.number ≡ length c.args.numbers.now / 2 = omega arith in
+    record {
+      answer = record { is = reads_end decode c.args.inner.now c.args.data_type.now c.args.fill.now c.args.value.now c.args.numbers.now c.loop-number.number _ c.loop-number.invariant.walk end; no_fault = refl };
+      all = c.loop-number.invariant.all ∙ end;
+      whole = c.loop-number.invariant.whole;
+    }
+
+pub sharding::shard_rows::read_rows-blank_inner_chunk-requires-clause-room : goal.sharding::shard_rows::read_rows-blank_inner_chunk-requires-clause-room
+sharding::shard_rows::read_rows-blank_inner_chunk-requires-clause-room g t c =
+    let parts_positive = subst (All (λ size. 0 < size)) c.as_slice.ensures.value c.as_slice.ensures.positive in
+    let positive = subst (All (λ size. 0 < size)) c.as_slice-2.ensures.value c.as_slice-2.ensures.positive in
+    less_room c.args.data_type.now c.args.size (product c.args.inner.now) (product c.args.shape.now) c.requires.fixed (inner_smaller c.args.inner.now c.args.shape.now parts_positive positive c.requires.form.divided) c.requires.form.room
+
+pub sharding::shard_rows::read_rows-returns-in_err-bytes : goal.sharding::shard_rows::read_rows-returns-in_err-bytes
+sharding::shard_rows::read_rows-returns-in_err-bytes g t c =
+    let s : is_none (fixed_size_of c.args.data_type.now) ≡ false = ap is_none c.requires.fixed in
+    absurd (items_there c.args.data_type.now c.in_ok-blank.blank _ c.in_err-bytes.field-0.0 s c.in_ok-blank.ensures.answer.is (sym c.in_err-bytes.ensures.answer))
+
+pub sharding::shard_rows::read_rows-read_all_bytes-requires : goal.sharding::shard_rows::read_rows-read_all_bytes-requires
+sharding::shard_rows::read_rows-read_all_bytes-requires g t c =
+    let s : is_none (fixed_size_of c.args.data_type.now) ≡ false = ap is_none c.requires.fixed in
+    let h : Holds c.args.data_type.now (flen (lent_bytes c.in_ok-bytes.bytes.now)) (missing_chunk c.args.inner.now c.args.data_type.now c.args.fill.now) =
+    lent_holds c.args.data_type.now c.in_ok-blank.blank c.in_ok-bytes.bytes.now _ (sym c.in_ok-bytes.ensures.answer) c.in_ok-blank.ensures.answer.is in
+    search (rules, s, h)
+
+pub sharding::shard_rows::read_rows-returns-clause-answer : goal.sharding::shard_rows::read_rows-returns-clause-answer
+sharding::shard_rows::read_rows-returns-clause-answer g t c =
+    let shape = c.args.inner.now in
+    let sizes = c.args.shape.now in
+    let read = c.in_ok-contents.ensures.answer.is ∙ ap (λ (cs : List (CowSlice ℕ Global)). ok (chunks_in c.args.data_type.now (product shape) cs)) (sym c.as_slice-3.ensures.value) in
+    chunk_joined (joined_inner_chunks shape sizes) (Holds c.args.data_type.now) _ _ c.joined_rows.result read c.joined_rows.ensures.answer
+
+pub sharding::shard_rows::read_all_bytes-returns-in_err-content : goal.sharding::shard_rows::read_all_bytes-returns-in_err-content
+sharding::shard_rows::read_all_bytes-returns-in_err-content g t c =
+    let decode = chain_chunk g.B.BytesToBytesCodecTraits.functions (plain_chain c.args.chain.now) in
+    let numbers = c.args.numbers.now in
+    let number = c.loop-number.number in
+    let inside : number * 2 + 1 < length numbers = omega arith in
+    record {
+      answer = record {
+        is =
+            let p = err_from_is_err_and c.from_residual-in_err-content.result c.from_residual-in_err-content.ensures.1 in
+            rw (p.1, p.2) (λ ne. reads_refused decode c.args.inner.now c.args.data_type.now c.args.fill.now c.args.value.now numbers number (get_or numbers (number * 2) 0, get_or numbers (number * 2 + 1) 0) _ c.loop-number.invariant.walk inside refl c.in_err-content.field-0.0 (c.in_err-content.ensures.answer.is ne));
+        no_fault = search rules;
+      };
+      all = search rules;
+      whole = search rules;
+    }
+
+pub sharding::shard_rows::read_rows-joined_rows-requires : goal.sharding::shard_rows::read_rows-joined_rows-requires
+sharding::shard_rows::read_rows-joined_rows-requires g t c =
+    let type = c.args.data_type.now in
+    let shape = c.args.inner.now in
+    let sizes = c.args.shape.now in
+    let form = c.requires.form in
+    record {
+      valid = record {
+        sized = c.requires.fixed;
+        divided = form.divided;
+        counted = form.counted;
+        inner_counted = form.inner_counted;
+        room = form.room;
+        all = ap (λ (xs : List (CowSlice ℕ Global)). length xs) c.as_slice-3.ensures.value ∙ c.in_ok-contents.ensures.all ∙ halved (inner_chunk_count shape sizes) (length c.args.numbers.now) c.requires.len;
+        whole = subst (All (λ (x : CowSlice ℕ Global). validity type (product shape) (flen (raw_of x)) ≡ Ok tt)) (sym c.as_slice-3.ensures.value) c.in_ok-contents.ensures.whole;
+      };
+    }

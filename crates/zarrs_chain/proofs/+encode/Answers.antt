@@ -1,4 +1,4 @@
-use Rattle.std.proofs.Common.{sym, subst, map, List, Ok, IfOk, rules, ◌≡◌, [], ◌∷◌, Err, ◌<◌, ◌^◌, ◌∙◌, drop, slice_index, length, true, ◌++◌, arith, refl}
+use Rattle.std.proofs.Common.{sym, subst, map, List, Ok, Result, IfOk, rules, ◌≡◌, [], ◌∷◌, Err, ◌<◌, ◌^◌, ◌∙◌, drop, slice_index, length, true, ◌++◌, arith, refl}
 use Rattle.std.proofs.lemmas.Result.{err_from_is_err_and}
 use Rattle.std.specs.List.{list_all}
 use Rattle.zarrs_array_bytes.specs.Held.{raw_of, flen}
@@ -6,7 +6,7 @@ use Rattle.zarrs_array_bytes.specs.Present.{present_chunk}
 use Rattle.zarrs_array_bytes.specs.Validity.{Holds, validity}
 use Rattle.zarrs_array_to_array.specs.Mapping.{mapping_of}
 use Rattle.zarrs_array_to_array.specs.declared.array_to_array_codec.ArrayToArrayCodec.{ArrayToArrayCodec}
-use Rattle.zarrs_chunk.specs.Answer.{Answers, memory, AnswersBy}
+use Rattle.zarrs_chunk.specs.Answer.{Answers, memory, AnswersBy, seen}
 use Rattle.zarrs_chunk.specs.declared.codec_error.CodecError.{CodecError}
 use Rattle.zarrs_codec.specs.MappedChunk.{encoded_chunk}
 use Rattle.zarrs_chain_meaning.proofs.ChainSteps.{value_last, value_refused, refused_value}
@@ -38,20 +38,25 @@ use Rattle.zarrs_chain.proofs.ShardIndex.{IsIndexRows, index_form, part_kept, pa
 use Rattle.std.proofs.Common.{ℕ, ap, replicate, ◌*◌, ◌+◌, ◌≤◌}
 use Rattle.std.specs.Prelude.{IsOkAnd}
 use Rattle.zarrs_array_bytes.specs.Chunks.{chunk_at}
-use Rattle.zarrs_array_bytes.specs.Elements.{elements}
-use Rattle.zarrs_chunk.specs.Runs.{joined_runs}
+use Rattle.zarrs_array_bytes.specs.Elements.{elements, select}
+use Rattle.zarrs_chunk.specs.Runs.{joined_runs, EndWithin}
 use Rattle.zarrs_chain_meaning.proofs.ArraySteps.{ok_is, ok_no_err}
-use Rattle.zarrs_chain_meaning.specs.sharding.InnerChunks.{inner_chunk_count, inner_chunk_places, inner_chunks_of}
+use Rattle.zarrs_chain_meaning.specs.sharding.InnerChunks.{inner_chunk_count, inner_chunks_of}
 use Rattle.zarrs_chain_meaning.specs.sharding.Sharding.{first_offset}
 use Rattle.zarrs_chain_meaning.specs.sharding.ShardingSettings.{is_index_at_end}
 use Rattle.zarrs_chain.specs.declared.codec_chain.CodecChain.{size-CodecChain}
 use Rattle.zarrs_chain.specs.declared.sharding.sharding_codec.ShardingCodec.{out-ShardingCodec, size-ShardingCodec, size_is-ShardingCodec}
-use Rattle.zarrs_chain.specs.sharding.ShardWalk.{with_index, written_behind, written_seen}
+use Rattle.zarrs_chain.specs.sharding.InnerPlaces.{places_from}
+use Rattle.zarrs_chain.specs.sharding.InnerPlaces.{places_from}
+use Rattle.zarrs_chain.specs.sharding.ShardWalk.{inner_part, kept_part, with_index, written_behind, written_seen, written_with}
 use Rattle.zarrs_chain.specs.sharding.ShardingCalls.{TakesInside, index_size_of, shard_index_part}
 use Rattle.zarrs_chain.proofs.ShardAt.{takes_at as shard_takes_at}
 use Rattle.zarrs_chain.proofs.ShardEncode.{front_there, index_not_written, inner_not_written, numbers_counted, shard_written}
 use Rattle.zarrs_chain.proofs.ShardReading.{grid_is}
-use Rattle.zarrs_chain.proofs.ShardWrites.{behind_last, behind_more, behind_refused, chunks_counted, next_held, next_valid, next_written, size_at}
+use Rattle.zarrs_chain.proofs.InnerPlaces.{in_grid, is_next, moved_end, runs_moved}
+use Rattle.zarrs_chain.proofs.KeptInner.{given_as, places_count, places_there, runs_inside}
+use Rattle.zarrs_chain.proofs.KeptParts.{bytes_long, kept_written, never_other}
+use Rattle.zarrs_chain.proofs.ShardWrites.{behind_last, behind_more, behind_refused, chunks_counted, next_held, next_numbered, next_refused, next_valid, next_written, size_at}
 use Rattle.zarrs_chain.proofs.+encode.Goals as goal
 
 pub encode::chain_encode-returns-in_err-taken : goal.encode::chain_encode-returns-in_err-taken
@@ -375,69 +380,188 @@ sharding::shard_index::index_encode-returns g t c =
       answer = record { is = part_kept f chain counts numbers part made c.in_ok-check_numbers.ensures.answer.is; no_fault = refl };
     }
 
-pub sharding::shard_encode::write_next-write_inner-requires : goal.sharding::shard_encode::write_next-write_inner-requires
-sharding::shard_encode::write_next-write_inner-requires g t c κs within =
+pub sharding::shard_encode::write_next-returns-in_err-as_fixed : goal.sharding::shard_encode::write_next-returns-in_err-as_fixed
+sharding::shard_encode::write_next-returns-in_err-as_fixed g t c =
+    let f = g.B.BytesToBytesCodecTraits.functions in
+    let chain = c.args.chain.now in
     let inner = c.args.inner.now in
     let shape = c.args.shape.now in
     let type = c.args.data_type.now in
+    let fill = c.args.fill.now in
     let held = c.args.held.now in
-    let made = c.in_ok-elements.elements in
+    let runs = c.args.runs.now in
+    let places = places_from c.args.start runs in
+    absurd (never_other f chain inner type fill (product shape) held c.in_err-as_fixed.field-0.0 (c.requires.kept c.if-keeps.true) c.requires.valid c.in_err-as_fixed.ensures.answer)
+
+pub sharding::shard_encode::write_next-write_kept-requires-clause-sized : goal.sharding::shard_encode::write_next-write_kept-requires-clause-sized
+sharding::shard_encode::write_next-write_kept-requires-clause-sized g t c =
+    subst (λ (xs : List ℕ). 0 < length xs) (sym c.as_ne_bytes.ensures.value) (c.requires.kept c.if-keeps.true).sized
+
+pub sharding::shard_encode::write_next-write_kept-requires-clause-inside : goal.sharding::shard_encode::write_next-write_kept-requires-clause-inside
+sharding::shard_encode::write_next-write_kept-requires-clause-inside g t c =
+    let f = g.B.BytesToBytesCodecTraits.functions in
+    let chain = c.args.chain.now in
+    let inner = c.args.inner.now in
+    let shape = c.args.shape.now in
+    let type = c.args.data_type.now in
+    let fill = c.args.fill.now in
+    let held = c.args.held.now in
+    let runs = c.args.runs.now in
+    let places = places_from c.args.start runs in
+    let items = c.in_ok-as_fixed.field-0.now in
+    let long : length items ≡ product shape * length c.as_ne_bytes.result.now = bytes_long type fill (product shape) held items c.requires.form.filling c.in_ok-as_fixed.ensures.answer c.requires.valid ∙ ap (λ (xs : List ℕ). product shape * length xs) (sym c.as_ne_bytes.ensures.value) in
+    runs_inside (product shape) (length c.as_ne_bytes.result.now) (length items) c.args.start runs long c.requires.inside
+
+pub sharding::shard_encode::write_next-returns-then-keeps : goal.sharding::shard_encode::write_next-returns-then-keeps
+sharding::shard_encode::write_next-returns-then-keeps g t c =
+    let f = g.B.BytesToBytesCodecTraits.functions in
+    let chain = c.args.chain.now in
+    let inner = c.args.inner.now in
+    let shape = c.args.shape.now in
+    let type = c.args.data_type.now in
+    let fill = c.args.fill.now in
+    let held = c.args.held.now in
+    let runs = c.args.runs.now in
+    let places = places_from c.args.start runs in
+    let items = c.in_ok-as_fixed.field-0.now in
+    let old = written_seen c.args.written.now in
+    let part = kept_written f chain inner shape type fill held items places (c.requires.kept c.if-keeps.true) c.requires.form.filling c.in_ok-as_fixed.ensures.answer c.requires.valid (places_there (product shape) c.args.start runs c.requires.inside) (places_count c.args.start (product inner) runs c.requires.count) in
+    let same : ◌≡◌ {A = Result (List ℕ × List ℕ) CodecError} (Ok (written_with old (kept_part c.as_ne_bytes.result.now items places))) (seen (written_with old) (inner_part f chain inner type fill (select (elements type (product shape) held) places))) =
+    ap (λ (xs : List ℕ). Ok (written_with old (kept_part xs items places))) c.as_ne_bytes.ensures.value ∙ ap (seen (written_with old)) (sym part) in
+    record { answer = given_as _ _ _ _ same c.write_kept.ensures.answer }
+
+pub sharding::shard_encode::write_next-extract_runs-requires : goal.sharding::shard_encode::write_next-extract_runs-requires
+sharding::shard_encode::write_next-extract_runs-requires g t c =
+    let f = g.B.BytesToBytesCodecTraits.functions in
+    let chain = c.args.chain.now in
+    let inner = c.args.inner.now in
+    let shape = c.args.shape.now in
+    let type = c.args.data_type.now in
+    let fill = c.args.fill.now in
+    let held = c.args.held.now in
+    let runs = c.args.runs.now in
+    let places = places_from c.args.start runs in
     let n : c.in_ok-count.count ≡ product shape = ok_is c.in_ok-count.count (product shape) (c.in_ok-count.ensures.answer ∙ c.requires.form.counted) in
-    let p : joined_runs c.in_ok-runs.runs.items ≡ inner_chunk_places inner shape c.args.number = sym (ok_is (inner_chunk_places inner shape c.args.number) (joined_runs c.in_ok-runs.runs.items) c.in_ok-runs.ensures.places.is) in
-    let there : IsOkAnd (chunk_at type c.in_ok-count.count (joined_runs c.in_ok-runs.runs.items) held) (Holds type made) = search rules in
-    let holds = next_held inner shape type c.args.number c.in_ok-count.count held made (joined_runs c.in_ok-runs.runs.items) n p c.requires.valid there in
-    let valid : validity type (product inner) made ≡ Ok tt = next_valid inner shape type c.args.number (elements type (product shape) held) made holds in
+    let given : c.in_ok-moved.moved.items ≡ map (λ (run : ℕ × ℕ). (c.args.start + run.0, run.1)) runs = search rules in
+    let moved : c.as_slice.result.now ≡ map (λ (run : ℕ × ℕ). (c.args.start + run.0, run.1)) runs = c.as_slice.ensures.value ∙ given in
+    record { inside = subst (λ (rs : List (ℕ × ℕ)). EndWithin c.in_ok-count.count rs) (sym moved) (subst (λ (k : ℕ). EndWithin k (map (λ (run : ℕ × ℕ). (c.args.start + run.0, run.1)) runs)) (sym n) (moved_end c.args.start (product shape) runs c.requires.inside)) }
+
+pub sharding::shard_encode::write_next-write_inner-requires : goal.sharding::shard_encode::write_next-write_inner-requires
+sharding::shard_encode::write_next-write_inner-requires g t c κs within =
+    let f = g.B.BytesToBytesCodecTraits.functions in
+    let chain = c.args.chain.now in
+    let inner = c.args.inner.now in
+    let shape = c.args.shape.now in
+    let type = c.args.data_type.now in
+    let fill = c.args.fill.now in
+    let held = c.args.held.now in
+    let runs = c.args.runs.now in
+    let places = places_from c.args.start runs in
+    let n : c.in_ok-count.count ≡ product shape = ok_is c.in_ok-count.count (product shape) (c.in_ok-count.ensures.answer ∙ c.requires.form.counted) in
+    let given : c.in_ok-moved.moved.items ≡ map (λ (run : ℕ × ℕ). (c.args.start + run.0, run.1)) runs = search rules in
+    let moved : c.as_slice.result.now ≡ map (λ (run : ℕ × ℕ). (c.args.start + run.0, run.1)) runs = c.as_slice.ensures.value ∙ given in
+    let made = c.in_ok-elements.elements in
+    let chunk = elements type (product shape) held in
+    let p : joined_runs c.as_slice.result.now ≡ places = ap joined_runs moved ∙ runs_moved c.args.start runs in
+    let there : IsOkAnd (chunk_at type c.in_ok-count.count (joined_runs c.as_slice.result.now) held) (Holds type made) = search rules in
+    let holds = next_held shape type c.in_ok-count.count held made (joined_runs c.as_slice.result.now) places n p c.requires.valid there in
+    let long = places_count c.args.start (product inner) runs c.requires.count in
+    let valid : validity type (product inner) made ≡ Ok tt = next_valid inner type chunk places made long holds in
     search rules
 
 pub sharding::shard_encode::write_next-returns : goal.sharding::shard_encode::write_next-returns
 sharding::shard_encode::write_next-returns g t c =
+    let f = g.B.BytesToBytesCodecTraits.functions in
+    let chain = c.args.chain.now in
     let inner = c.args.inner.now in
     let shape = c.args.shape.now in
     let type = c.args.data_type.now in
+    let fill = c.args.fill.now in
     let held = c.args.held.now in
-    let made = c.in_ok-elements.elements in
+    let runs = c.args.runs.now in
+    let places = places_from c.args.start runs in
     let n : c.in_ok-count.count ≡ product shape = ok_is c.in_ok-count.count (product shape) (c.in_ok-count.ensures.answer ∙ c.requires.form.counted) in
-    let p : joined_runs c.in_ok-runs.runs.items ≡ inner_chunk_places inner shape c.args.number = sym (ok_is (inner_chunk_places inner shape c.args.number) (joined_runs c.in_ok-runs.runs.items) c.in_ok-runs.ensures.places.is) in
-    let there : IsOkAnd (chunk_at type c.in_ok-count.count (joined_runs c.in_ok-runs.runs.items) held) (Holds type made) = search rules in
-    let holds = next_held inner shape type c.args.number c.in_ok-count.count held made (joined_runs c.in_ok-runs.runs.items) n p c.requires.valid there in
-    record { answer = next_written _ _ _ g.B.BytesToBytesCodecTraits.functions c.args.chain.now inner shape type c.args.fill.now c.args.number (elements type (product shape) held) made holds c.write_inner.ensures.answer }
+    let given : c.in_ok-moved.moved.items ≡ map (λ (run : ℕ × ℕ). (c.args.start + run.0, run.1)) runs = search rules in
+    let moved : c.as_slice.result.now ≡ map (λ (run : ℕ × ℕ). (c.args.start + run.0, run.1)) runs = c.as_slice.ensures.value ∙ given in
+    let made = c.in_ok-elements.elements in
+    let chunk = elements type (product shape) held in
+    let p : joined_runs c.as_slice.result.now ≡ places = ap joined_runs moved ∙ runs_moved c.args.start runs in
+    let there : IsOkAnd (chunk_at type c.in_ok-count.count (joined_runs c.as_slice.result.now) held) (Holds type made) = search rules in
+    let holds = next_held shape type c.in_ok-count.count held made (joined_runs c.as_slice.result.now) places n p c.requires.valid there in
+    let long = places_count c.args.start (product inner) runs c.requires.count in
+    record { answer = next_written _ _ _ f chain inner type fill chunk places made long holds c.write_inner.ensures.answer }
 
 pub sharding::shard_encode::write_all-returns-in_err-number-end : goal.sharding::shard_encode::write_all-returns-in_err-number-end
 sharding::shard_encode::write_all-returns-in_err-number-end g t c =
-    let positive = subst (All (λ size. 0 < size)) c.as_slice.ensures.value c.as_slice.ensures.positive in
-    let counted = chunks_counted c.args.inner.now c.args.shape.now c.args.grid.now positive c.requires.form.divided c.requires.form.small c.requires.grid in
-    absurd (ok_no_err (inner_chunk_count c.args.inner.now c.args.shape.now) c.in_err-number-end.field-0.0 (sym (c.in_err-number-end.ensures.answer ∙ counted)))
+    let inner = c.args.inner.now in
+    let shape = c.args.shape.now in
+    let positive = subst (All (λ size. 0 < size)) c.as_slice-parts.ensures.value c.as_slice-parts.ensures.positive in
+    let counted = chunks_counted inner shape c.args.grid.now positive c.requires.form.divided c.requires.form.small c.requires.grid in
+    absurd (ok_no_err (inner_chunk_count inner shape) c.in_err-number-end.field-0.0 (sym (c.in_err-number-end.ensures.answer ∙ counted)))
 
 pub sharding::shard_encode::write_all-loop-number-init : goal.sharding::shard_encode::write_all-loop-number-init
 sharding::shard_encode::write_all-loop-number-init g t c =
     record { is = refl }
 
+pub sharding::shard_encode::write_all-first_place-start-requires : goal.sharding::shard_encode::write_all-first_place-start-requires
+sharding::shard_encode::write_all-first_place-start-requires g t c =
+    let inner = c.args.inner.now in
+    let shape = c.args.shape.now in
+    let positive = subst (All (λ size. 0 < size)) c.as_slice-parts.ensures.value c.as_slice-parts.ensures.positive in
+    let counted = chunks_counted inner shape c.args.grid.now positive c.requires.form.divided c.requires.form.small c.requires.grid in
+    let end : c.in_ok-number-end.number-end ≡ inner_chunk_count inner shape = ok_is c.in_ok-number-end.number-end (inner_chunk_count inner shape) (c.in_ok-number-end.ensures.answer ∙ counted) in
+    let there = in_grid inner shape c.args.grid.now c.as_slice-parts.result.now c.as_slice-sizes.result.now c.as_slice-counts.result.now c.loop-number.number c.as_slice-parts.ensures.value c.as_slice-sizes.ensures.value c.as_slice-counts.ensures.value c.requires.grid c.as_slice-parts.ensures.positive c.as_slice-sizes.ensures.positive c.as_slice-counts.ensures.positive c.requires.form.divided (omega (arith, end)) c.requires.form.small in
+    record { there = there }
+
 pub sharding::shard_encode::write_all-returns-in_err-write_next : goal.sharding::shard_encode::write_all-returns-in_err-write_next
 sharding::shard_encode::write_all-returns-in_err-write_next g t c =
-    let positive = subst (All (λ size. 0 < size)) c.as_slice.ensures.value c.as_slice.ensures.positive in
-    let counted = chunks_counted c.args.inner.now c.args.shape.now c.args.grid.now positive c.requires.form.divided c.requires.form.small c.requires.grid in
-    let end : c.in_ok-number-end.number-end ≡ inner_chunk_count c.args.inner.now c.args.shape.now = ok_is c.in_ok-number-end.number-end (inner_chunk_count c.args.inner.now c.args.shape.now) (c.in_ok-number-end.ensures.answer ∙ counted) in
+    let inner = c.args.inner.now in
+    let shape = c.args.shape.now in
+    let positive = subst (All (λ size. 0 < size)) c.as_slice-parts.ensures.value c.as_slice-parts.ensures.positive in
+    let counted = chunks_counted inner shape c.args.grid.now positive c.requires.form.divided c.requires.form.small c.requires.grid in
+    let end : c.in_ok-number-end.number-end ≡ inner_chunk_count inner shape = ok_is c.in_ok-number-end.number-end (inner_chunk_count inner shape) (c.in_ok-number-end.ensures.answer ∙ counted) in
+    let number = c.loop-number.number in
+    let next = is_next inner shape c.as_slice-parts.result.now c.as_slice-sizes.result.now number c.first_place-start.result c.in_ok-runs.runs.items c.as_slice.result.now c.as_slice-parts.ensures.value c.as_slice-sizes.ensures.value c.as_slice-parts.ensures.positive c.requires.form.divided (omega (arith, end)) c.in_ok-runs.ensures.answer.is c.as_slice.ensures.value c.first_place-start.ensures.value in
     let p = err_from_is_err_and c.from_residual-in_err-write_next.result c.from_residual-in_err-write_next.ensures.1 in
     record {
       answer = record {
-        is = rw (p.1, p.2) (λ quiet. behind_refused _ _ _ _ _ _ _ c.loop-number.number _ _ c.in_err-write_next.field-0.0 (omega (arith, end)) c.loop-number.invariant (c.in_err-write_next.ensures.answer.is quiet));
+        is = rw (p.1, p.2) (λ quiet. behind_refused _ _ _ _ _ _ _ number _ _ c.in_err-write_next.field-0.0 (omega (arith, end)) c.loop-number.invariant (next_refused g.B.BytesToBytesCodecTraits.functions c.args.chain.now inner shape c.args.data_type.now c.args.fill.now c.args.held.now number (places_from c.first_place-start.result c.as_slice.result.now) c.loop-number.written c.in_err-write_next.field-0.0 next.places (c.in_err-write_next.ensures.answer.is quiet)));
         no_fault = search rules;
       };
     }
 
 pub sharding::shard_encode::write_all-loop-number-preserved : goal.sharding::shard_encode::write_all-loop-number-preserved
 sharding::shard_encode::write_all-loop-number-preserved g t c =
-    let positive = subst (All (λ size. 0 < size)) c.as_slice.ensures.value c.as_slice.ensures.positive in
-    let counted = chunks_counted c.args.inner.now c.args.shape.now c.args.grid.now positive c.requires.form.divided c.requires.form.small c.requires.grid in
-    let end : c.in_ok-number-end.number-end ≡ inner_chunk_count c.args.inner.now c.args.shape.now = ok_is c.in_ok-number-end.number-end (inner_chunk_count c.args.inner.now c.args.shape.now) (c.in_ok-number-end.ensures.answer ∙ counted) in
-    behind_more _ _ _ _ _ _ _ c.loop-number.number _ _ _ (omega (arith, end)) c.loop-number.invariant c.in_ok-write_next.ensures.answer.is
+    let inner = c.args.inner.now in
+    let shape = c.args.shape.now in
+    let positive = subst (All (λ size. 0 < size)) c.as_slice-parts.ensures.value c.as_slice-parts.ensures.positive in
+    let counted = chunks_counted inner shape c.args.grid.now positive c.requires.form.divided c.requires.form.small c.requires.grid in
+    let end : c.in_ok-number-end.number-end ≡ inner_chunk_count inner shape = ok_is c.in_ok-number-end.number-end (inner_chunk_count inner shape) (c.in_ok-number-end.ensures.answer ∙ counted) in
+    let number = c.loop-number.number in
+    let next = is_next inner shape c.as_slice-parts.result.now c.as_slice-sizes.result.now number c.first_place-start.result c.in_ok-runs.runs.items c.as_slice.result.now c.as_slice-parts.ensures.value c.as_slice-sizes.ensures.value c.as_slice-parts.ensures.positive c.requires.form.divided (omega (arith, end)) c.in_ok-runs.ensures.answer.is c.as_slice.ensures.value c.first_place-start.ensures.value in
+    behind_more _ _ _ _ _ _ _ number _ _ _ (omega (arith, end)) c.loop-number.invariant (next_numbered g.B.BytesToBytesCodecTraits.functions c.args.chain.now inner shape c.args.data_type.now c.args.fill.now c.args.held.now number (places_from c.first_place-start.result c.as_slice.result.now) c.loop-number.written c.write_next.new.written next.places c.in_ok-write_next.ensures.answer.is)
+
+pub sharding::shard_encode::write_all-write_next-requires : goal.sharding::shard_encode::write_all-write_next-requires
+sharding::shard_encode::write_all-write_next-requires g t c κs within =
+    let inner = c.args.inner.now in
+    let shape = c.args.shape.now in
+    let positive = subst (All (λ size. 0 < size)) c.as_slice-parts.ensures.value c.as_slice-parts.ensures.positive in
+    let counted = chunks_counted inner shape c.args.grid.now positive c.requires.form.divided c.requires.form.small c.requires.grid in
+    let end : c.in_ok-number-end.number-end ≡ inner_chunk_count inner shape = ok_is c.in_ok-number-end.number-end (inner_chunk_count inner shape) (c.in_ok-number-end.ensures.answer ∙ counted) in
+    let number = c.loop-number.number in
+    let next = is_next inner shape c.as_slice-parts.result.now c.as_slice-sizes.result.now number c.first_place-start.result c.in_ok-runs.runs.items c.as_slice.result.now c.as_slice-parts.ensures.value c.as_slice-sizes.ensures.value c.as_slice-parts.ensures.positive c.requires.form.divided (omega (arith, end)) c.in_ok-runs.ensures.answer.is c.as_slice.ensures.value c.first_place-start.ensures.value in
+    let count : length (joined_runs c.as_slice.result.now) ≡ product inner = next.count in
+    let inside : All (λ (run : ℕ × ℕ). c.first_place-start.result + (run.0 + run.1) ≤ product shape) c.as_slice.result.now = next.inside in
+    search rules
 
 pub sharding::shard_encode::write_all-returns : goal.sharding::shard_encode::write_all-returns
 sharding::shard_encode::write_all-returns g t c =
-    let positive = subst (All (λ size. 0 < size)) c.as_slice.ensures.value c.as_slice.ensures.positive in
-    let counted = chunks_counted c.args.inner.now c.args.shape.now c.args.grid.now positive c.requires.form.divided c.requires.form.small c.requires.grid in
-    let end : c.in_ok-number-end.number-end ≡ inner_chunk_count c.args.inner.now c.args.shape.now = ok_is c.in_ok-number-end.number-end (inner_chunk_count c.args.inner.now c.args.shape.now) (c.in_ok-number-end.ensures.answer ∙ counted) in
-    let done : inner_chunk_count c.args.inner.now c.args.shape.now ≤ c.loop-number.number = omega (arith, end) in
+    let inner = c.args.inner.now in
+    let shape = c.args.shape.now in
+    let positive = subst (All (λ size. 0 < size)) c.as_slice-parts.ensures.value c.as_slice-parts.ensures.positive in
+    let counted = chunks_counted inner shape c.args.grid.now positive c.requires.form.divided c.requires.form.small c.requires.grid in
+    let end : c.in_ok-number-end.number-end ≡ inner_chunk_count inner shape = ok_is c.in_ok-number-end.number-end (inner_chunk_count inner shape) (c.in_ok-number-end.ensures.answer ∙ counted) in
+    let done : inner_chunk_count inner shape ≤ c.loop-number.number = omega (arith, end) in
     record { answer = record { is = behind_last _ _ _ _ _ _ _ c.loop-number.number _ _ done c.loop-number.invariant; no_fault = refl } }
 
 pub sharding::shard_encode::shard_encode-returns-in_err-write_all : goal.sharding::shard_encode::shard_encode-returns-in_err-write_all

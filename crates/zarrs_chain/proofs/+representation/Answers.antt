@@ -1,4 +1,4 @@
-use Rattle.std.proofs.Common.{◌≡◌, ◌<◌, Ok, Err, true, map, rules, subst, sym}
+use Rattle.std.proofs.Common.{◌≡◌, ◌<◌, Ok, Err, true, map, rules, subst}
 use Rattle.std.specs.List.{All}
 use Rattle.zarrs_array_bytes.specs.Validity.{sizes_fit}
 use Rattle.zarrs_chunk.specs.ChunkShape.{product}

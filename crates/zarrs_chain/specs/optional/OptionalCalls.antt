@@ -17,7 +17,7 @@ use Rattle.zarrs_chain.specs.declared.optional.optional_codec.OptionalCodec.{Opt
 abbrev pub OptionalAccepts : {B : Type 0} → BytesCodecs B → OptionalCodec B → List ℕ → ElementType → List ℕ → Type 0
 OptionalAccepts f codec sizes type fill = IsTaken f (plain_optional codec) (form_of sizes type fill)
 
--- how many bytes the value of such a chunk has, or the first error
+-- an `optional` gives how many bytes the value of such a chunk has, or the first error
 abbrev pub OptionalRepresents : {B : Type 0} → BytesCodecs B → OptionalCodec B → List ℕ → ElementType → List ℕ → Result BytesRepresentation CodecError → Type 0
 OptionalRepresents f codec sizes type fill result = GivesRepresentation f (plain_optional codec) (form_of sizes type fill) result
 

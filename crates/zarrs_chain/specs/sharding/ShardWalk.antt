@@ -1,7 +1,10 @@
 -- What is read and written of a shard, inner chunk by inner chunk.
-use Rattle.std.specs.Prelude.{ℕ, zero, suc, ◌+◌, Bool, true, false, Option, Some, None, List, [], ◌∷◌, ◌++◌, length, drop, Result, Ok}
-use Rattle.zarrs_array_bytes.specs.Elements.{elements, select}
+use Rattle.std.specs.Prelude.{ℕ, suc, ◌-◌, ◌<◌, nat_eq, if◌then◌else◌, Bool, true, false, Option, Some, None, List, [], ◌∷◌, ◌++◌, length, drop, Result, Ok, IsOk}
+use Rattle.std.specs.Cmp.Lexicographic.{pointwise}
+use Rattle.std.specs.List.{flat_map, list_all}
+use Rattle.zarrs_array_bytes.specs.Elements.{elements, piece, select}
 use Rattle.zarrs_array_bytes.specs.Held.{Held}
+use Rattle.zarrs_array_bytes.specs.Pieces.{pieces_at}
 use Rattle.zarrs_array_bytes.specs.Update.{update}
 use Rattle.zarrs_array_bytes.specs.Validity.{Holds}
 use Rattle.zarrs_chunk.specs.Answer.{◌>>=◌, Gives, GivesBy, seen}
@@ -11,6 +14,9 @@ use Rattle.zarrs_codec.specs.BytesToBytesCodec.{BytesCodecs}
 use Rattle.zarrs_data_type.specs.Element.{Chunk}
 use Rattle.zarrs_data_type.specs.ElementType.{ElementType}
 use Rattle.zarrs_chain_meaning.specs.CodecMeaning.{chain_chunk, chain_value, codec_normal_element}
+use Rattle.zarrs_chain_meaning.specs.ArrayStages.{IsMapWhere}
+use Rattle.zarrs_chain_meaning.specs.Chain.{taken_form}
+use Rattle.zarrs_chain_meaning.specs.KeptBytes.{KeepsBytes}
 use Rattle.zarrs_chain_meaning.specs.Meaning.{Decoder}
 use Rattle.zarrs_chain_meaning.specs.sharding.InnerChunks.{inner_chunk_places, inner_chunks_of, joined_inner_chunks}
 use Rattle.zarrs_chain_meaning.specs.sharding.Sharding.{Span, missing, is_stored, is_left_out, inner_value, inner_chunk_at, inner_chunks_at, spans_of}
@@ -33,6 +39,26 @@ written_with so_far (Some part) = (so_far.0 ++ part, so_far.1 ++ length so_far.0
 abbrev pub WritesPart : WrittenShard → WrittenShard → Option (List ℕ) → Result (Unit {0}) CodecError → Type 0
 WritesPart old new part result = Gives (λ _. written_seen new) result (Ok (written_with (written_seen old) part))
 
+-- the bytes from an offset on are listed as the value of an inner chunk
+abbrev pub ListsFrom : WrittenShard → WrittenShard → ℕ → Result (Unit {0}) CodecError → Type 0
+ListsFrom old new offset result =
+    Gives (λ _. written_seen new) result (Ok (old.bytes.items, old.numbers.items ++ offset ∷ (length old.bytes.items - offset) ∷ []))
+
+-- each element at these places, of as many bytes as the item has, is the item
+abbrev pub are_item : List ℕ → List ℕ → List ℕ → Bool
+are_item item bytes places = list_all (λ place. pointwise nat_eq (piece (length item) bytes place) item) places
+
+-- the bytes of the elements at these places, or none where each of them is the item
+abbrev pub kept_part : List ℕ → List ℕ → List ℕ → Option (List ℕ)
+kept_part item bytes places = if are_item item bytes places then None else Some (pieces_at (length item) bytes places)
+
+-- The chain takes such chunks, and hands on the bytes of their elements as they are; and an element has bytes.
+pub record KeepsInner {B : Type 0} (f : BytesCodecs B) (chain : CodecChain B) (sizes : List ℕ) (type : ElementType) (fill : List ℕ) : Type 0 where
+  pub keeps : KeepsBytes (plain_chain chain) type
+  pub taken : IsOk (taken_form f (plain_chain chain) sizes type fill)
+  pub maps : IsMapWhere type (plain_chain chain).array_to_array sizes
+  pub sized : 0 < length fill
+
 -- the value of an inner chunk, or none where it is left out; or the first error
 abbrev pub inner_part : {B : Type 0} → BytesCodecs B → CodecChain B → List ℕ → ElementType → List ℕ → Chunk → Result (Option (List ℕ)) CodecError
 inner_part f chain shape type fill inner_chunk =
@@ -50,10 +76,10 @@ abbrev pub WritesInner : {B : Type 0} → BytesCodecs B → CodecChain B → Lis
 WritesInner f chain shape type fill held old new result =
     Gives (λ _. written_seen new) result (seen (written_with (written_seen old)) (inner_part f chain shape type fill (elements type (product shape) held)))
 
--- the inner chunk of a number is written of the chunk that a container holds
-abbrev pub WritesNextInner : {B : Type 0} → BytesCodecs B → CodecChain B → List ℕ → List ℕ → ElementType → List ℕ → ℕ → Held → WrittenShard → WrittenShard → Result (Unit {0}) CodecError → Type 0
-WritesNextInner f chain shape sizes type fill number held old new result =
-    Gives (λ _. written_seen new) result (seen (written_with (written_seen old)) (inner_part f chain shape type fill (select (elements type (product sizes) held) (inner_chunk_places shape sizes number))))
+-- the inner chunk at these places is written of the chunk that a container holds
+abbrev pub WritesInnerAt : {B : Type 0} → BytesCodecs B → CodecChain B → List ℕ → List ℕ → ElementType → List ℕ → List ℕ → Held → WrittenShard → WrittenShard → Result (Unit {0}) CodecError → Type 0
+WritesInnerAt f chain shape sizes type fill places held old new result =
+    Gives (λ _. written_seen new) result (seen (written_with (written_seen old)) (inner_part f chain shape type fill (select (elements type (product sizes) held) places)))
 
 -- all inner chunks are written of the chunk that a container holds
 abbrev pub WritesAll : {B : Type 0} → BytesCodecs B → CodecChain B → List ℕ → List ℕ → ElementType → List ℕ → Held → WrittenShard → WrittenShard → Result (Unit {0}) CodecError → Type 0
@@ -100,3 +126,15 @@ ReadsNextInner f chain shape sizes type fill value number span held result =
 abbrev pub ReadsAll : {B : Type 0} → BytesCodecs B → CodecChain B → List ℕ → List ℕ → ElementType → List ℕ → List ℕ → List ℕ → Result Held CodecError → Type 0
 ReadsAll f chain shape sizes type fill value numbers result =
     GivesBy (Holds type) result (inner_chunks_at (chain_chunk f (plain_chain chain)) shape type fill value (spans_of numbers) >>= λ inner_chunks. Ok (joined_inner_chunks shape sizes inner_chunks))
+
+-- ---- reading the elements of all inner chunks first
+
+-- a container is given of so many elements, and behind them those of an inner chunk, as the value has it or of fill elements
+abbrev pub AppendsInner : {B : Type 0} → BytesCodecs B → CodecChain B → List ℕ → ElementType → List ℕ → List ℕ → Bool → Span → ℕ → Held → Result Held CodecError → Type 0
+AppendsInner f chain shape type fill value stored span count held result =
+    GivesBy (Holds type) result (inner_chunk_at stored (chain_chunk f (plain_chain chain)) shape type fill value span >>= λ inner_chunk. Ok (elements type count held ++ inner_chunk))
+
+-- a container is given of the elements of all inner chunks that these numbers of an index say, one inner chunk after another
+abbrev pub ReadsContents : {B : Type 0} → BytesCodecs B → CodecChain B → List ℕ → ElementType → List ℕ → List ℕ → List ℕ → Result Held CodecError → Type 0
+ReadsContents f chain shape type fill value numbers result =
+    GivesBy (Holds type) result (inner_chunks_at (chain_chunk f (plain_chain chain)) shape type fill value (spans_of numbers) >>= λ inner_chunks. Ok (flat_map (λ inner_chunk. inner_chunk) inner_chunks))

@@ -38,7 +38,7 @@ use Rattle.zarrs_chain.specs.declared.sharding.sharding_codec.ShardingCodec.{Sha
 abbrev pub ShardingAccepts : {B : Type 0} → BytesCodecs B → ShardingCodec B → List ℕ → ElementType → List ℕ → Type 0
 ShardingAccepts f codec sizes type fill = IsTaken f (plain_sharding codec) (form_of sizes type fill)
 
--- how many bytes the value of such a chunk has, or the first error
+-- a `sharding_indexed` gives how many bytes the value of such a chunk has, or the first error
 abbrev pub ShardingRepresents : {B : Type 0} → BytesCodecs B → ShardingCodec B → List ℕ → ElementType → List ℕ → Result BytesRepresentation CodecError → Type 0
 ShardingRepresents f codec sizes type fill result = GivesRepresentation f (plain_sharding codec) (form_of sizes type fill) result
 
@@ -157,6 +157,7 @@ index_size_of f chain counts = do
   r ← chain_representation f (plain_chain chain) (counts ++ 2 ∷ []) (offset_type true) (offset_bytes true 0)
   fixed_size r
 
+-- the call gives how many bytes the index of such a grid has, or the first error
 abbrev pub GivesIndexSize : {B : Type 0} → BytesCodecs B → CodecChain B → List ℕ → Result ℕ CodecError → Type 0
 GivesIndexSize f chain counts result = GivesValue result (index_size_of f chain counts)
 
@@ -176,6 +177,7 @@ shard_index_part f chain numbers counts = do
   _ ← demand (is_same_bytes (normal_form (plain_chain chain).array_to_bytes (offset_type true) rows) rows) OffsetNotKept
   Ok part
 
+-- the call gives the bytes of an index of these numbers, or the first error
 abbrev pub WritesShardIndex : {B : Type 0} → BytesCodecs B → CodecChain B → List ℕ → List ℕ → Result (CowSlice ℕ Global) CodecError → Type 0
 WritesShardIndex f chain numbers counts result = Gives items_of result (shard_index_part f chain numbers counts)
 

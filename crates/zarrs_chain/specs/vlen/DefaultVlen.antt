@@ -1,4 +1,5 @@
 -- The chains inside a codec `vlen` where nothing else is asked for.
+-- Source: zarrs, `VlenCodec`.
 use Rattle.std.specs.Prelude.{Option, []}
 use Rattle.zarrs_data_type.specs.declared.endianness.Endianness.{Endianness}
 use Rattle.zarrs_chain_meaning.specs.PlainChain.{bytes_codec, PlainChain}

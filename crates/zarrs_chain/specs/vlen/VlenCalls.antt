@@ -9,10 +9,10 @@ use Rattle.zarrs_chain_meaning.specs.CallAnswers.{codec_represented, GivesRepres
 use Rattle.zarrs_chain.specs.ChainView.{plain_vlen}
 use Rattle.zarrs_chain.specs.declared.vlen.vlen_codec.VlenCodec.{VlenCodec}
 
--- how many bytes the value of such a chunk has, or the first error
+-- a `vlen` gives how many bytes the value of such a chunk has, or the first error
 abbrev pub VlenRepresents : {B : Type 0} → BytesCodecs B → VlenCodec B → List ℕ → ElementType → List ℕ → Result BytesRepresentation CodecError → Type 0
 VlenRepresents f codec sizes type fill result = GivesRepresentation f (plain_vlen codec) (form_of sizes type fill) result
 
--- the same, where no memory is needed
+-- the answer is how many bytes the value of such a chunk has, or the first error; it is never out of memory
 abbrev pub Says : {B : Type 0} → BytesCodecs B → VlenCodec B → List ℕ → ElementType → List ℕ → Result BytesRepresentation CodecError → Type 0
 Says f codec sizes type fill result = result ≡ codec_represented f (plain_vlen codec) (form_of sizes type fill)

@@ -14,7 +14,7 @@ use zarrs_chunk::CodecError;
 use zarrs_data_type::DataType;
 
 /// Whether elements of the item's size are all the item.
-fn repeats(bytes: &[u8], item: &[u8]) -> bool
+pub(crate) fn repeats(bytes: &[u8], item: &[u8]) -> bool
     requires sized { 0 < length item.now }
     ensures value { Repeats item.now bytes.now result }
 {

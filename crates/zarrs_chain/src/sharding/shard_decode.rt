@@ -11,8 +11,11 @@ ghost use Rattle.zarrs_chain.specs.sharding.ShardWalk.{ReplacesInner, ReadsInner
 
 use crate::codec_chain::CodecChain;
 use crate::decode::chain_decode;
+use crate::sharding::kept_bytes::keeps_bytes;
+use crate::sharding::shard_contents::read_joined;
 use crate::sharding::shard_form::shard_form;
 use crate::sharding::shard_index::{index_decode, index_size};
+use crate::sharding::shard_rows::read_rows;
 use crate::sharding::sharding_codec::{ShardingCodec, is_at_end};
 use std::alloc::Global;
 use std::borrow::CowSlice;
@@ -88,7 +91,7 @@ fn read_inner<'a, B: BytesToBytesCodecTraits>(
 
 /// Whether an inner chunk is stored at a span.
 #[tactic(auto, unfolding(zarrs_chain_meaning::specs::sharding::Sharding::missing))]
-fn has_span(span: (usize, usize)) -> bool
+pub(crate) fn has_span(span: (usize, usize)) -> bool
     ensures value { result ≡ is_stored span }
 {
     span.0 != usize::MAX || span.1 != usize::MAX
@@ -172,8 +175,50 @@ fn read_all<'a, B: BytesToBytesCodecTraits>(
     Ok(elements)
 }
 
+/// The chunk of these numbers of an index. Where the chain hands on the bytes of elements of one size,
+/// the chunk is made of them row by row: they all lie in the value, and a chain that makes bytes would
+/// hold those of all inner chunks at once. Other elements of one size, and those of a single inner
+/// chunk, are written in their places, inner chunk by inner chunk; for elements of any length each such
+/// write would make the whole anew. Errors: those of `read_all`.
+#[cycle(decode)]
+fn read_chunk<'a, B: BytesToBytesCodecTraits>(
+    alloc: Global,
+    chain: &CodecChain<B>,
+    inner: &ChunkShape,
+    value: &[u8],
+    numbers: &[usize],
+    shape: &ChunkShape,
+    grid: &ChunkShape,
+    data_type: &DataType,
+    fill: &FillValue,
+) -> Result<ArrayBytes<'a>, CodecError>
+    requires form { IsShardForm inner.now shape.now data_type.now fill.now }
+    requires grid { grid.now ≡ grid_of inner.now shape.now }
+    requires len { length numbers.now ≡ inner_chunk_count inner.now shape.now * 2 }
+    // Wide: the three parameters of a form, the value, and the numbers of its index.
+    ensures answer { ReadsAll B.functions chain.now inner.now shape.now data_type.now fill.now
+        value.now numbers.now result }
+    ensures tight { IfOk result (IsTight data_type.now) }
+{
+    if let Some(size) = data_type.fixed_size() {
+        if keeps_bytes(chain, data_type) {
+            return read_rows(
+                alloc, chain, inner, value, numbers, shape, size, data_type, fill,
+            );
+        }
+    }
+    if data_type.fixed_size().is_some() || numbers.len() == 2 {
+        return read_all(
+            alloc, chain, inner, value, numbers, shape, grid, data_type, fill,
+        );
+    }
+    read_joined(
+        alloc, chain, inner, value, numbers, shape, grid, data_type, fill,
+    )
+}
+
 /// The chunk that a value stands for, where the codec takes such chunks. Errors:
-/// `InvalidBytesLength`; those of the index chain; those of `read_all`.
+/// `InvalidBytesLength`; those of the index chain; those of `read_chunk`.
 #[cycle(decode)]
 fn shard_decode<'a, B: BytesToBytesCodecTraits>(
     alloc: Global,
@@ -203,7 +248,7 @@ fn shard_decode<'a, B: BytesToBytesCodecTraits>(
     let numbers = index_decode(alloc, &codec.index_codecs, part, &grid)?;
     let numbers = numbers.as_slice();
     let chain = &codec.codecs;
-    read_all(
+    read_chunk(
         alloc, chain, inner, value, numbers, shape, &grid, data_type, fill,
     )
 }

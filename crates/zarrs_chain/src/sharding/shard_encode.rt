@@ -1,15 +1,19 @@
 //! The value of a chunk through `sharding_indexed`: its inner chunks in order, and their index.
-ghost use Rattle.std.specs.Prelude.{◌≡◌, ◌<◌, Ok, true};
+ghost use Rattle.std.specs.Prelude.{◌≡◌, ◌+◌, ◌≤◌, All, Ok, length, true};
+ghost use Rattle.zarrs_chunk.specs.Runs.{joined_runs};
 ghost use Rattle.zarrs_chunk.specs.Answer.{checked_u64};
 ghost use Rattle.zarrs_chunk.specs.ChunkShape.{product};
 ghost use Rattle.zarrs_array_bytes.specs.Validity.{validity};
 ghost use Rattle.zarrs_data_type.specs.FillValue.{fill_fits};
-ghost use Rattle.zarrs_chain_meaning.specs.sharding.InnerChunks.{grid as grid_of, inner_chunk_count};
+ghost use Rattle.zarrs_chain_meaning.specs.sharding.InnerChunks.{grid as grid_of};
 ghost use Rattle.zarrs_chain.specs.sharding.ShardingCalls.{IsNormalFill, IsShardForm, ShardingAccepts, TakesInside, ShardingEncodes, WritesInside};
-ghost use Rattle.zarrs_chain.specs.sharding.ShardWalk.{WritesInner, WritesNextInner, WritesAll};
+ghost use Rattle.zarrs_chain.specs.sharding.InnerPlaces.{places_from};
+ghost use Rattle.zarrs_chain.specs.sharding.ShardWalk.{KeepsInner, WritesAll, WritesInner, WritesInnerAt};
 
 use crate::codec_chain::CodecChain;
 use crate::encode::{chain_encode, check_elements};
+use crate::sharding::inner_places::{first_place, first_runs, moved_runs};
+use crate::sharding::kept_inner_chunk::{keeps_inner, write_kept};
 use crate::sharding::left_out::is_left_out;
 use crate::sharding::shard_form::shard_form;
 use crate::sharding::shard_index::{index_encode, index_size};
@@ -18,12 +22,12 @@ use crate::sharding::written_shard::{WrittenShard, first_offset, place_index};
 use std::alloc::Global;
 use std::borrow::CowSlice;
 use zarrs_array_bytes::{ArrayBytes, ArrayBytesRaw};
-use zarrs_chain_meaning::sharding::inner_chunks::{inner_chunk_grid, inner_chunk_runs};
+use zarrs_chain_meaning::sharding::inner_chunks::inner_chunk_grid;
 use zarrs_chunk::{ChunkShape, CodecError};
 use zarrs_codec::BytesToBytesCodecTraits;
 use zarrs_data_type::{DataType, FillValue};
 
-/// ShardingEncodes the inner chunk of this shape that a container holds, unless it is left out. Errors:
+/// Writes the inner chunk of this shape that a container holds, unless it is left out. Errors:
 /// those of the chain.
 #[cycle(encode)]
 fn write_inner<B: BytesToBytesCodecTraits>(
@@ -52,7 +56,9 @@ fn write_inner<B: BytesToBytesCodecTraits>(
     written.append(value.as_slice())
 }
 
-/// ShardingEncodes the inner chunk of a number, unless it is left out. Errors: those of the chain.
+/// Writes the inner chunk at the runs of the first one, each run further on by so many elements,
+/// unless it is left out; where the chain hands on its bytes, without a copy in between. Errors:
+/// those of the chain.
 #[cycle(encode)]
 fn write_next<B: BytesToBytesCodecTraits>(
     alloc: Global,
@@ -60,28 +66,34 @@ fn write_next<B: BytesToBytesCodecTraits>(
     inner: &ChunkShape,
     held: &ArrayBytes<'_>,
     shape: &ChunkShape,
-    grid: &ChunkShape,
-    number: u64,
+    start: u64,
+    runs: &[(u64, u64)],
+    keeps: bool,
     data_type: &DataType,
     fill: &FillValue,
     written: &mut WrittenShard,
 ) -> Result<(), CodecError>
     requires form { IsShardForm inner.now shape.now data_type.now fill.now }
     requires normal { IsNormalFill chain.now.array_to_bytes data_type.now fill.now }
-    requires grid { grid.now ≡ grid_of inner.now shape.now }
-    requires below { number < inner_chunk_count inner.now shape.now }
     requires valid { validity data_type.now (product shape.now) held.now ≡ Ok tt }
-    // Wide: the three parameters of a form, the number, the container, and what was written.
-    ensures answer { WritesNextInner B.functions chain.now inner.now shape.now data_type.now fill.now
-        number held.now written.old written.new result }
+    requires count { length (joined_runs runs.now) ≡ product inner.now }
+    requires inside { All (λ run. start + (run.0 + run.1) ≤ product shape.now) runs.now }
+    requires kept { keeps ≡ true
+        → KeepsInner B.functions chain.now inner.now data_type.now fill.now }
+    // Wide: the three parameters of a form, the places, the container, and what was written.
+    ensures answer { WritesInnerAt B.functions chain.now inner.now shape.now data_type.now fill.now
+        (places_from start runs.now) held.now written.old written.new result }
 {
+    if keeps {
+        return write_kept(held.as_fixed()?, fill.as_ne_bytes(), start, runs, written);
+    }
     let count = shape.num_elements()?;
-    let runs = inner_chunk_runs(alloc, shape, inner, grid, number)?;
-    let elements = held.extract_runs(alloc, runs.as_slice(), count, data_type)?;
+    let moved = moved_runs(alloc, runs, start)?;
+    let elements = held.extract_runs(alloc, moved.as_slice(), count, data_type)?;
     write_inner(alloc, chain, inner, elements, data_type, fill, written)
 }
 
-/// ShardingEncodes all inner chunks of the chunk that `held` holds, in order. Errors: those of the chain, of
+/// Writes all inner chunks of the chunk that `held` holds, in order. Errors: those of the chain, of
 /// the first inner chunk that has one.
 #[cycle(encode)]
 fn write_all<B: BytesToBytesCodecTraits>(
@@ -103,10 +115,25 @@ fn write_all<B: BytesToBytesCodecTraits>(
     ensures answer { WritesAll B.functions chain.now inner.now shape.now data_type.now fill.now
         held.now written.old written.new result }
 {
-    inner.as_slice();
+    let sizes = shape.as_slice();
+    let parts = inner.as_slice();
+    let counts = grid.as_slice();
+    let keeps = keeps_inner(alloc, chain, inner, data_type, fill);
+    let runs = first_runs(alloc, shape, inner)?;
     for number in 0..grid.num_elements()? {
+        let start = first_place(sizes, parts, counts, number);
         write_next(
-            alloc, chain, inner, held, shape, grid, number, data_type, fill, written,
+            alloc,
+            chain,
+            inner,
+            held,
+            shape,
+            start,
+            runs.as_slice(),
+            keeps,
+            data_type,
+            fill,
+            written,
         )?;
     }
     Ok(())

@@ -3,7 +3,7 @@ ghost use Rattle.std.specs.Prelude.{◌≡◌, ◌≤◌, [], None, Ok, Some, If
 ghost use Rattle.zarrs_chunk.specs.Answer.{GivesItems};
 ghost use Rattle.zarrs_chain_meaning.specs.sharding.Sharding.{first_offset as first_offset_of};
 ghost use Rattle.zarrs_chain_meaning.specs.sharding.ShardingSettings.{is_index_at_end};
-ghost use Rattle.zarrs_chain.specs.sharding.ShardWalk.{WritesPart, written_seen, with_index};
+ghost use Rattle.zarrs_chain.specs.sharding.ShardWalk.{ListsFrom, WritesPart, written_seen, with_index};
 
 use std::alloc::{AllocError, Global};
 use zarrs_chunk::CodecError;
@@ -47,6 +47,16 @@ impl WrittenShard {
         self.numbers.push(self.bytes.len())?;
         self.numbers.push(value.len())?;
         self.bytes.extend_from_slice(value)?;
+        Ok(())
+    }
+
+    /// The bytes from an offset on become the value of an inner chunk. Errors: `OutOfMemory`.
+    pub(crate) fn list_from(&mut self, offset: usize) -> Result<(), CodecError>
+        requires inside { offset ≤ length self.old.bytes.items }
+        ensures answer { ListsFrom self.old self.new offset result }
+    {
+        self.numbers.push(offset)?;
+        self.numbers.push(self.bytes.len() - offset)?;
         Ok(())
     }
 }
