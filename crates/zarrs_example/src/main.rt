@@ -4,27 +4,21 @@
 //! window is read, and the edit made, through a storage handle, as if the whole chunk were there.
 #![tactic(auto)]
 
-use serde_json::Value;
-use std::alloc::{AllocError, Global};
+use std::alloc::Global;
 use std::borrow::CowSlice;
 use std::io;
 use std::process::ExitCode;
 use thiserror::Error;
 use zarrs_codec_chain::{
-    ArrayBytes, ArraySubset, ChunkShape, CodecChain, CodecChainPartialTraits, CodecError,
-    Crc32cCodec, Crc32cMaker, DataType, FillValue, Indexer, MemoryHandle, MetadataV3,
-    PluginCreateError,
+    ArrayBytes, ArraySubset, ChainJsonError, ChunkShape, CodecChain, CodecChainPartialTraits,
+    CodecError, Crc32cCodec, Crc32cMaker, DataType, FillValue, Indexer, MemoryHandle,
 };
 
 /// What stopped the program.
 #[derive(Debug, Drop, Error)]
 enum Fault {
     #[error("{0}")]
-    Json(#[from] serde_json::Error),
-    #[error("{0}")]
-    Memory(#[from] AllocError),
-    #[error("{0}")]
-    Chain(#[from] PluginCreateError),
+    Chain(#[from] ChainJsonError),
     #[error("{0}")]
     Codec(#[from] CodecError),
     #[error("{0}")]
@@ -45,25 +39,6 @@ const ELEMENTS: &'static [u8] = &[
     20, 21, 22, 23, 24, 25, //
     30, 31, 32, 33, 34, 35,
 ];
-
-fn metadatas(alloc: Global, items: &[Value]) -> Result<Vec<MetadataV3>, PluginCreateError> {
-    let mut list = Vec::with_capacity(alloc, items.len())?;
-    for item in items {
-        list.push(MetadataV3::from_value(alloc, item)?)?;
-    }
-    Ok(list)
-}
-
-/// The chain of a list of metadata in JSON, its bytes-to-bytes codec made by `Crc32cMaker`.
-fn chain(alloc: Global, text: &str) -> Result<CodecChain<Crc32cCodec>, Fault> {
-    let tree = Value::from_str(alloc, text)?;
-    let items = match &tree {
-        Value::Array(items) => items.as_slice(),
-        _ => &[],
-    };
-    let list = metadatas(alloc, items)?;
-    Ok(CodecChain::from_metadata(alloc, list.as_slice(), &Crc32cMaker)?)
-}
 
 /// What a chain is returned of a chunk.
 #[derive(Drop)]
@@ -143,7 +118,7 @@ fn decode<R: Print + AllocGlobal>(
 }
 
 fn show<R: Print + AllocGlobal>(rt: &R) -> Result<(), Fault> {
-    let chain = chain(rt.alloc(), CODECS)?;
+    let chain = CodecChain::from_json(rt.alloc(), CODECS, &Crc32cMaker)?;
     let form = example_form(rt.alloc())?;
     let handle = edit(rt, &chain, &form, store(rt.alloc(), &chain, &form)?)?;
     match handle.value() {

@@ -63,7 +63,7 @@ components_among members = do
   inner ← components_alone members
   components_shown inner
 
--- The type that a tree names: a text; {"optional":T}, with the type of the elements that are present; or {"components":..}.
+-- The type that a tree names, or the error: a text; {"optional":T}, with the type of the elements that are present; or {"components":..}.
 abbrev pub type_in : Data → Result ElementType Refusal
 type_in null = Err Syntax
 type_in (boolean truth) = Err Syntax

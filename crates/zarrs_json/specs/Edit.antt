@@ -29,7 +29,7 @@ edit_seen edit = record { selection = selection_of edit.indexer; new = edit.elem
 abbrev pub ReadsEdit : Result Edit Refusal → Result PlainEdit Refusal → Type 0
 ReadsEdit result expected = ReadsAs edit_seen result expected
 
--- the container of the elements that a list shows
+-- the container of the elements that a list shows, or the first error
 abbrev pub container_in : ElementType → Data → Result Held Refusal
 container_in type tree = seen (container_of type) (elements_of type tree)
 
@@ -48,7 +48,7 @@ edit_among type members = do
   elements ← needed_member (codes "data") members
   edit_at type at elements
 
--- the edit that a tree shows
+-- the edit that a tree shows, or the first error
 abbrev pub edit_in : ElementType → Data → Result PlainEdit Refusal
 edit_in type tree = do
   members ← ok_or (as_object tree) Syntax

@@ -63,7 +63,7 @@ elements_shown type (item tree items) = do
   elements ← elements_shown type items
   Ok (element ∷ elements)
 
--- the elements of a type that a list shows
+-- the elements of a type that a list shows, or the first error
 abbrev pub elements_of : ElementType → Data → Result Chunk Refusal
 elements_of type tree = do
   items ← ok_or (as_array tree) Syntax

@@ -61,7 +61,7 @@ selection_at (Some ranges) other = ranges_selection ranges
 selection_at None (Some tuples) = indices_selection tuples
 selection_at None None = Err Syntax
 
--- what an indexer selects; it has one key alone
+-- what an indexer selects, which has one key alone; or the first error
 abbrev pub selection_shown : Data → Result Selection Refusal
 selection_shown tree = do
   members ← ok_or (as_object tree) Syntax

@@ -1,4 +1,5 @@
 -- JSON texts, what is read of them, and how an answer shows JSON.
+-- Source: RFC 8259.
 use Rattle.std.specs.Prelude.{ℕ, suc, List, [], ◌∷◌, ◌++◌, Option, Some, None, option_and_then, ok_or, Result, Ok, String, codes, if◌then◌else◌}
 use Rattle.std.specs.Result.{result_ok}
 use Rattle.std.specs.Str.{is_utf8}
@@ -28,7 +29,7 @@ lent_object members = members_seen members.now
 abbrev pub tree_without_floats : Data → Option Data
 tree_without_floats tree = if has_float tree then None else Some tree
 
--- the tree of a text, which is UTF-8 and one JSON value
+-- the tree of a text, which is UTF-8 and one JSON value without floats; or the first error
 abbrev pub tree_of : List ℕ → Result Data Refusal
 tree_of text = ok_or (if is_utf8 text then option_and_then tree_without_floats (read text) else None) Syntax
 
@@ -40,13 +41,13 @@ numbers_shown (item tree items) = do
   numbers ← numbers_shown items
   Ok (number ∷ numbers)
 
--- a list of whole numbers
+-- the whole numbers of a list, or the error
 abbrev pub number_list_shown : Data → Result (List ℕ) Refusal
 number_list_shown tree = do
   items ← ok_or (as_array tree) Syntax
   numbers_shown items
 
--- the bytes of a hex text, of upper or lower case
+-- the bytes of a hex text, of upper or lower case, where it is one
 abbrev pub hex_of : Data → Option (List ℕ)
 hex_of tree = option_and_then (λ text. result_ok (decode_of text)) (as_str tree)
 

@@ -12,14 +12,17 @@ use Rattle.zarrs_crc32c.specs.Crc32cMetadata.{crc32c_metadata}
 use Rattle.zarrs_json.specs.declared.known_bytes_codec.KnownBytesCodec.{KnownBytesCodec}
 use Rattle.zarrs_json.specs.declared.known_bytes_codec.KnownBytesCodec.TheVariants.{Crc32c, Sample}
 
+-- the bytes that a known codec makes
 abbrev pub known_encoded_bytes : KnownBytesCodec → List ℕ → List ℕ
 known_encoded_bytes (Crc32c codec) bytes = crc32c_codecs.encoded_bytes codec bytes
 known_encoded_bytes (Sample codec) bytes = sample_codecs.encoded_bytes codec bytes
 
+-- the bytes that a known codec reads, or the error
 abbrev pub known_decoded_bytes : KnownBytesCodec → BytesRepresentation → List ℕ → Result (List ℕ) CodecError
 known_decoded_bytes (Crc32c codec) r bytes = crc32c_codecs.decoded_bytes codec r bytes
 known_decoded_bytes (Sample codec) r bytes = sample_codecs.decoded_bytes codec r bytes
 
+-- how many bytes a known codec makes
 abbrev pub known_representation : KnownBytesCodec → BytesRepresentation → BytesRepresentation
 known_representation (Crc32c codec) r = crc32c_codecs.representation codec r
 known_representation (Sample codec) r = sample_codecs.representation codec r

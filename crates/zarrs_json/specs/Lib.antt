@@ -1,3 +1,4 @@
+-- JSON of lines and headers.
 pub mod Refusal
 pub mod Json
 pub mod Elements
@@ -7,7 +8,6 @@ pub mod Shown
 pub mod Indexer
 pub mod Edit
 pub mod DataType
-pub mod Codecs
 pub mod Header
 pub mod HeaderRead
 pub mod KnownBytesCodec

@@ -5,7 +5,8 @@ use Rattle.zarrs_chunk.specs.Answer.{memory, Answers}
 use Rattle.zarrs_chunk.specs.CodecError.{name_of}
 use Rattle.zarrs_chunk.specs.declared.codec_error.CodecError.{CodecError}
 use Rattle.zarrs_metadata.specs.PluginCreateError.{plugin_memory, plugin_name_of}
-use Rattle.zarrs_metadata.specs.declared.plugin_create_error.PluginCreateError.{PluginCreateError}
+use Rattle.zarrs_chain.specs.declared.metadata.chain_json_error.ChainJsonError.{ChainJsonError}
+use Rattle.zarrs_chain.specs.declared.metadata.chain_json_error.ChainJsonError.TheVariants.{NotJson, NotAList, Create}
 use Rattle.zarrs_json.specs.declared.refusal.Refusal.{Refusal}
 use Rattle.zarrs_json.specs.declared.refusal.Refusal.TheVariants.{Syntax, Making, Codec}
 
@@ -27,10 +28,16 @@ ReadsAs view result expected = Answers refusal_memory view result expected
 abbrev pub ReadsItems : {A : Type 0} → Result (Vec A Global) Refusal → Result (List A) Refusal → Type 0
 ReadsItems result expected = ReadsAs (λ v. v.items) result expected
 
--- the answer of what is made of metadata as a part of a line's answer
-abbrev pub making_answer : {A : Type 0} → Result A PluginCreateError → Result A Refusal
-making_answer (Ok value) = Ok value
-making_answer (Err error) = Err (Making error)
+-- why a line fails where JSON in it makes no chain: what is no list of codecs is no argument
+abbrev pub chain_refusal : ChainJsonError → Refusal
+chain_refusal NotJson = Syntax
+chain_refusal NotAList = Syntax
+chain_refusal (Create error) = Making error
+
+-- the answer of a chain made from JSON as a part of a line's answer
+abbrev pub chain_answer : {A : Type 0} → Result A ChainJsonError → Result A Refusal
+chain_answer (Ok value) = Ok value
+chain_answer (Err error) = Err (chain_refusal error)
 
 -- a codec's answer as a part of a line's answer
 abbrev pub codec_answer : {A : Type 0} → Result A CodecError → Result A Refusal

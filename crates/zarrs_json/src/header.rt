@@ -6,7 +6,6 @@ ghost use Rattle.zarrs_json.specs.Refusal.{ReadsJson, ReadsAs};
 ghost use Rattle.zarrs_json.specs.Header.{shape_at, data_type_at, fill_value_at, codecs_at, header_in, line_header, line_codecs};
 ghost use Rattle.zarrs_json.specs.HeaderRead.{header_seen};
 
-use crate::codecs::chain;
 use crate::data_types::data_type;
 use crate::json::{Members, hex_bytes, member, numbers, object, tree};
 use crate::known_bytes_codec::KnownBytesCodec;
@@ -65,8 +64,8 @@ fn codecs(
     ensures answer { ReadsAs plain_chain result (codecs_at maker.now (lent_tree tree.entry)) }
 {
     match tree {
-        Some(Value::Array(items)) => Ok(chain(alloc, maker, items)?),
-        _ => Err(Refusal::Syntax),
+        Some(tree) => Ok(CodecChain::from_value(alloc, tree, maker)?),
+        None => Err(Refusal::Syntax),
     }
 }
 

@@ -4,7 +4,6 @@
 //! may name.
 #![tactic(auto)]
 
-mod codecs;
 mod containers;
 mod data_types;
 mod edits;

@@ -1,12 +1,13 @@
 //! The errors of lines.
 ghost use Rattle.std.specs.Prelude.{◌≡◌};
-ghost use Rattle.zarrs_json.specs.Refusal.{refusal_name};
+ghost use Rattle.zarrs_json.specs.Refusal.{chain_refusal, refusal_name};
 ghost use Rattle.zarrs_json.specs.declared.refusal.Refusal.TheVariants.{Making, Codec};
 ghost use Rattle.zarrs_chunk.specs.declared.codec_error.CodecError.TheVariants.{OutOfMemory};
 
 use std::alloc::{AllocError, AllocFailed};
 use std::error::Error;
 use std::fmt;
+use zarrs_chain::ChainJsonError;
 use zarrs_chunk::CodecError;
 use zarrs_metadata::PluginCreateError;
 
@@ -51,6 +52,17 @@ impl From<PluginCreateError> for Refusal {
 
     fn from(error: PluginCreateError) -> Refusal {
         Refusal::Making(error)
+    }
+}
+
+impl From<ChainJsonError> for Refusal {
+    ghost from_gives = { λ error refusal. refusal ≡ chain_refusal error };
+
+    fn from(error: ChainJsonError) -> Refusal {
+        match error {
+            ChainJsonError::NotJson | ChainJsonError::NotAList => Refusal::Syntax,
+            ChainJsonError::Create(error) => Refusal::Making(error),
+        }
     }
 }
 
