@@ -1,14 +1,23 @@
 //! Encodes, decodes, re-encodes, reads and writes one chunk, by commands on the standard input.
 //!
 //! The first line is the header, a JSON object with the chunk's `shape`, `data_type`, `fill_value`
-//! and `codecs`. Each line after it is a command, which one line answers.
+//! and `codecs`. Each line after it is a command, which one line answers. The argument `--help` asks
+//! what the program takes, and `--version` which version it is.
 #![tactic(auto)]
 
-use std::io;
 use std::io::{BufReader, BufWriter};
 use std::process::ExitCode;
+use std::rt::Env;
+use std::{env, io};
+use zarrs_tool_lines::arguments::{HELP, Request, VERSION, request_of};
 use zarrs_tool_lines::run::{RunEnd, run};
 use zarrs_tool_lines::streams::{StreamReader, StreamWriter};
+
+/// What the arguments behind the program's name ask for.
+fn request<R: Env + AllocGlobal>(rt: &R) -> io::Result<Request> {
+    let words: Vec<String> = env::args(rt)?.skip(1).collect(rt.alloc())?;
+    Ok(request_of(&words))
+}
 
 /// Answers the lines of the standard input, and returns how that ended.
 fn run_on_standard_streams<R: Input + Print + AllocGlobal>(rt: &R) -> io::Result<RunEnd> {
@@ -17,16 +26,39 @@ fn run_on_standard_streams<R: Input + Print + AllocGlobal>(rt: &R) -> io::Result
     Ok(run(rt.alloc(), &mut reader, &mut writer))
 }
 
-fn main(rt: HostRuntime) -> ExitCode {
-    match run_on_standard_streams(&rt) {
-        Ok(end) => {
-            if let RunEnd::Fault(fault) = end {
-                let _ = eprintln!(rt; "{fault}");
-            }
-            ExitCode::from(end.status())
+/// Answers the lines of the standard input; the exit status says how that ended.
+fn answer_lines<R: Input + Print + Eprint + AllocGlobal>(rt: &R) -> io::Result<ExitCode> {
+    let end = run_on_standard_streams(rt)?;
+    if let RunEnd::Fault(fault) = end {
+        let _ = eprintln!(rt; "{fault}");
+    }
+    Ok(ExitCode::from(end.status()))
+}
+
+/// Prints a text, which ends in LF.
+fn print_text<R: Print>(rt: &R, text: &str) -> io::Result<ExitCode> {
+    print!(rt; "{text}")?;
+    Ok(ExitCode::SUCCESS)
+}
+
+/// Does what the arguments ask for.
+fn answer<R: Env + Input + Print + Eprint + AllocGlobal>(rt: &R) -> io::Result<ExitCode> {
+    match request(rt)? {
+        Request::Lines => answer_lines(rt),
+        Request::Help => print_text(rt, HELP),
+        Request::Version => print_text(rt, VERSION),
+        Request::Unknown => {
+            eprintln!(rt; "zarrs_chain_tool takes no argument but --help or --version")?;
+            Ok(ExitCode::from(2))
         }
+    }
+}
+
+fn main(rt: HostRuntime) -> ExitCode {
+    match answer(&rt) {
+        Ok(status) => status,
         Err(error) => {
-            let _ = eprintln!(rt; "no buffer could be made: {error}");
+            let _ = eprintln!(rt; "zarrs_chain_tool: {error}");
             ExitCode::FAILURE
         }
     }

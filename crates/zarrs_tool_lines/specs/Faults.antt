@@ -22,6 +22,7 @@ abbrev pub is_of_reader : Option StreamFault → Bool
 is_of_reader (Some Reader) = true
 is_of_reader _ = false
 
+-- the fault is one of the writer
 abbrev pub is_of_writer : Option StreamFault → Bool
 is_of_writer (Some Writer) = true
 is_of_writer _ = false

@@ -1,4 +1,6 @@
+-- The tool's lines.
 pub use Rattle.zarrs_json.specs.Header
+pub mod Arguments
 pub mod Commands
 pub mod Faults
 pub mod Lines

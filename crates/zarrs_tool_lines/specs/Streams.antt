@@ -11,7 +11,7 @@ stream_bytes_left remaining stream = remaining stream.reader
 abbrev pub lines_to_read : {R : Type 0} → StreamReader R → ℕ
 lines_to_read stream = stream.lines_left
 
--- how many of its calls failed
+-- how many calls of the reader failed
 abbrev pub read_faults : {R : Type 0} → StreamReader R → ℕ
 read_faults stream = stream.faults
 
@@ -23,6 +23,6 @@ stream_bytes_written contents stream = contents stream.writer
 abbrev pub flush_is_last : {W : Type 0} → StreamWriter W → Bool
 flush_is_last stream = stream.is_flushed
 
--- how many of its calls failed
+-- how many calls of the writer failed
 abbrev pub write_faults : {W : Type 0} → StreamWriter W → ℕ
 write_faults stream = stream.faults

@@ -4,6 +4,7 @@
 //! and `codecs`. Each line after it is a command, which one line answers.
 #![tactic(auto)]
 
+pub mod arguments;
 mod command;
 mod lines;
 pub mod run;

@@ -60,11 +60,12 @@ pub trait WriteLines {
         ensures counted { faults self.new ≡ count_if (is_err result) (faults self.old) };
 }
 
-fn drop_line_end(line: &mut Vec<u8>)
-    ensures written { line.new.items ≡ strip_last 10 line.old.items }
+/// Drops a line's last byte, where it is this one.
+pub(crate) fn drop_last(line: &mut Vec<u8>, byte: u8)
+    ensures written { line.new.items ≡ strip_last byte line.old.items }
 {
     let len = line.len();
-    if len > 0 && line[len - 1] == b'\n' {
+    if len > 0 && line[len - 1] == byte {
         line.truncate(len - 1);
     }
 }
@@ -77,7 +78,7 @@ fn read_line<R: BufRead>(reader: &mut R, line: &mut Vec<u8>) -> io::Result<bool>
     if reader.read_until(b'\n', line)? == 0 {
         return Ok(false);
     }
-    drop_line_end(line);
+    drop_last(line, b'\n');
     Ok(true)
 }
 
