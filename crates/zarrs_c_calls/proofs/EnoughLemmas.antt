@@ -3,7 +3,6 @@ use Rattle.std.proofs.Common.{◌≡◌, ℕ, ◌+◌, ◌-◌, ◌*◌, ◌<◌
 use Rattle.std.specs.Prelude.{is_some}
 use Rattle.std.specs.List.{All, list_all, list_any, range_with_len}
 use Rattle.std.specs.List.Sorted.{IsPermutation}
-use Rattle.std.proofs.lemmas.Bool.{and_from, or_left, or_right}
 use Rattle.std.proofs.lemmas.Bool.Decides.{nat_tests}
 use Rattle.std.proofs.lemmas.List.Folds.{list_all-append}
 use Rattle.std.proofs.lemmas.List.Sorted.{list_any-IsPermutation}
@@ -42,22 +41,7 @@ use Rattle.zarrs_c_calls.specs.Enough.{PlanIsEnough}
 use Rattle.zarrs_c_calls.specs.Plans.{Planned, places_planned}
 use Rattle.zarrs_c_calls.proofs.HeaderLemmas.{header_sound}
 use Rattle.zarrs_c_calls.proofs.PlanLemmas.{plan_by, with_header}
-use Rattle.zarrs_codec.proofs.Fences.{range_passes}
-
--- ---- the bytes of ranges
-
-in_range : (range : ByteSpan) (n : ℕ) → range.start ≤ n → n < range.start + (range.end - range.start) → has_number range n ≡ true
-in_range range n l m =
-    let below : n < range.end = omega (arith, l, m) in
-    grind (arith, nat_tests)
-
--- a test that the bytes of ranges pass
-passes : (test : ℕ → Bool) (ranges : List ByteSpan) → ((n : ℕ) → have_number ranges n ≡ true → test n ≡ true) → list_all test (range_indices ranges) ≡ true
-passes test [] h = refl
-passes test (range ∷ ranges) h =
-    list_all-append test (range_with_len range.start (range.end - range.start)) (range_indices ranges)
-    ∙ and_from _ _ (range_passes test range.start (range.end - range.start) (λ n l m. h n (or_left (has_number range n) (have_number ranges n) (in_range range n l m))))
-    (passes test ranges (λ n e. h n (or_right (has_number range n) (have_number ranges n) e)))
+use Rattle.zarrs_lent_handles.proofs.LackingLemmas.{each_passes}
 
 -- ---- places in another order
 
@@ -101,12 +85,12 @@ module _ (made : List ByteSpan) (test : ℕ → Bool) (all : (n : ℕ) → have_
   codec_passes : (codec : PlainCodec KnownBytesCodec) (sizes : List ℕ) (type : ElementType) (fill places : List ℕ) → IsCodecPlan codec sizes type fill places made → Passing (codec_rests_on codec sizes type fill None places)
   codec_passes codec sizes type fill places plan =
       let b = (part_laws codec).planned_bytes sizes type fill places made plan in
-      (b.0, b.1, sym (b.2 test) ∙ passes test made all)
+      (b.0, b.1, sym (b.2 test) ∙ each_passes test made all)
 
   -- over `bytes` in whatever order the places are planned
   moved_passes : (type : ElementType) (places planned : List ℕ) → IsPermutation places planned → IsPlan (place_size type) planned made → Passing (ok (place_bytes (place_size type) places))
   moved_passes type places planned same plan =
-      let all_planned : list_all test (place_bytes (place_size type) planned) ≡ true = subst (λ (ns : List ℕ). list_all test ns ≡ true) plan.bytes (passes test made all) in
+      let all_planned : list_all test (place_bytes (place_size type) planned) ≡ true = subst (λ (ns : List ℕ). list_all test ns ≡ true) plan.bytes (each_passes test made all) in
       (place_bytes (place_size type) places, refl, same_bytes test (place_size type) places planned same ∙ all_planned)
 
   -- ---- through a chain

@@ -1,6 +1,6 @@
 -- What holds of the header that a text is: no size is zero, and its array-to-array codecs keep the invariants of their types.
 use Rattle.std.proofs.Common.{◌≡◌, ℕ, ◌<◌, ◌==◌, Bool, true, false, if◌then◌else◌, Option, Some, None, List, Result, Ok, Err, refl, ap, subst}
-use Rattle.std.specs.Prelude.{codes, ok_or, option_and_then}
+use Rattle.std.specs.Prelude.{codes, ok_or}
 use Rattle.std.specs.List.{All, list_any}
 use Rattle.serde_json.specs.Data.{Data, Members}
 use Rattle.serde_json.specs.Find.{as_array, as_object, get_member}
@@ -13,11 +13,13 @@ use Rattle.zarrs_json.specs.KnownMaker.{known_made}
 use Rattle.zarrs_chain_meaning.specs.MadeChain.{chain_made}
 use Rattle.zarrs_chain_meaning.specs.CodecMeaning.{chain_representation}
 use Rattle.zarrs_chain_meaning.proofs.MadeMappings.{same_value, chain_mappings}
+use Rattle.zarrs_chain.specs.ChainJson.{create_answer, metadatas_shown, chain_shown}
+use Rattle.zarrs_chain.specs.declared.metadata.chain_json_error.ChainJsonError.{ChainJsonError}
+use Rattle.zarrs_chain.specs.declared.metadata.chain_json_error.ChainJsonError.TheVariants.{NotAList}
 use Rattle.zarrs_json.specs.Json as json
-use Rattle.zarrs_json.specs.Refusal.{codec_answer, making_answer}
+use Rattle.zarrs_json.specs.Refusal.{codec_answer, chain_answer}
 use Rattle.zarrs_json.specs.declared.refusal.Refusal.{Refusal}
 use Rattle.zarrs_json.specs.declared.refusal.Refusal.TheVariants.{Syntax}
-use Rattle.zarrs_json.specs.Codecs.{metadatas_shown, chain_shown}
 use Rattle.zarrs_json.specs.Header.{Header, shape_at, data_type_at, fill_value_at, codecs_at, header_in, line_header}
 use Rattle.zarrs_c_calls.specs.Calls.{header_given}
 use Rattle.zarrs_c_calls.specs.Codes.{refusal_answer}
@@ -25,9 +27,13 @@ use Rattle.zarrs_json.specs.declared.known_maker.KnownMaker.TheVariants.{Shipped
 
 -- ---- steps
 
-making_ok : {A : Type 0} (r : Result A PluginCreateError) (x : A) → making_answer r ≡ Ok x → r ≡ Ok x
-making_ok (Ok y) x e = ap (λ (z : _). Ok z) (same_value y x e)
-making_ok (Err refusal) x e = absurd (cc)
+create_ok : {A : Type 0} (r : Result A PluginCreateError) (x : A) → create_answer r ≡ Ok x → r ≡ Ok x
+create_ok (Ok y) x e = ap (λ (z : _). Ok z) (same_value y x e)
+create_ok (Err refusal) x e = absurd (cc)
+
+chain_ok : {A : Type 0} (r : Result A ChainJsonError) (x : A) → chain_answer r ≡ Ok x → r ≡ Ok x
+chain_ok (Ok y) x e = ap (λ (z : _). Ok z) (same_value y x e)
+chain_ok (Err refusal) x e = absurd (cc)
 
 refusal_ok : {A : Type 0} (r : Result A Refusal) (x : A) → refusal_answer r ≡ Ok x → r ≡ Ok x
 refusal_ok (Ok y) x e = ap (λ (z : _). Ok z) (same_value y x e)
@@ -51,11 +57,16 @@ sizes_are (Some tree) sizes e =
     let s = shaped (list_any (λ size. size == 0) a.0) a.0 sizes a.2 in
     subst (λ (xs : List ℕ). All (λ size. 0 < size) xs) s.1 (All-positive a.0 s.0)
 
+listed_are : (tree : Data) (chain : _) → chain_shown (known_made Shipped) tree ≡ Ok chain → All IsMapping chain.array_to_array
+listed_are tree chain e =
+    let a = step_ok (ok_or (as_array tree) NotAList) _ chain e in
+    let b = step_ok (create_answer (metadatas_shown a.0)) _ chain a.2 in
+    chain_mappings (known_made Shipped) b.0 chain (create_ok (chain_made (known_made Shipped) b.0) chain b.2)
+
 codecs_are : (tree : Option Data) (chain : _) → codecs_at Shipped tree ≡ Ok chain → All IsMapping chain.array_to_array
 codecs_are tree chain e =
-    let a = step_ok (ok_or (option_and_then as_array tree) Syntax) _ chain e in
-    let b = step_ok (metadatas_shown a.0) (chain_made (known_made Shipped)) chain (making_ok (chain_shown Shipped a.0) chain a.2) in
-    chain_mappings (known_made Shipped) b.0 chain b.2
+    let a = step_ok (ok_or tree Syntax) _ chain e in
+    listed_are a.0 chain (chain_ok (chain_shown (known_made Shipped) a.0) chain a.2)
 
 members_sound : (members : Members) (header : Header) → header_in Shipped members ≡ Ok header → IsSound header
 members_sound members header e =

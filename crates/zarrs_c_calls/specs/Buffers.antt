@@ -10,6 +10,7 @@ pub record Buffers : Type 0 where
   pub offsets : List ℕ
   pub bytes : List ℕ
 
+-- these masks, offsets and bytes, as elements cross to C
 abbrev pub buffers : List ℕ → List ℕ → List ℕ → Buffers
 buffers masks offsets bytes = record { masks = masks; offsets = offsets; bytes = bytes }
 
@@ -18,6 +19,7 @@ pub record Room : Type 0 where
   pub parts : Buffers
   pub needed : Sizes
 
+-- what a caller has for elements, of these three buffers and these numbers
 abbrev pub room : List ℕ → List ℕ → List ℕ → Sizes → Room
 room masks offsets bytes needed = record { parts = buffers masks offsets bytes; needed = needed }
 

@@ -14,31 +14,31 @@ use Rattle.zarrs_c_calls.specs.Told.{Elements}
 use Rattle.zarrs_c_calls.specs.declared.cause.Cause.{Cause}
 use Rattle.zarrs_json.specs.declared.known_maker.KnownMaker.TheVariants.{Shipped}
 
--- the header that a text is
+-- the header that a text is, or the first error
 abbrev pub header_given : List ℕ → Result Header Cause
 header_given text = refusal_answer (line_header Shipped text)
 
--- how many bytes the value of a header's chunk has
+-- how many bytes the value of a header's chunk has, or the first error
 abbrev pub represented : List ℕ → Result BytesRepresentation Cause
 represented text = do
   header ← header_given text
   codec_call_answer (chain_representation known_codecs header.chain header.sizes header.data_type header.fill)
 
--- the value that is written for the chunk of these elements
+-- the value that is written for the chunk of these elements, or the first error
 abbrev pub encoded : List ℕ → Buffers → Result (List ℕ) Cause
 encoded text elements = do
   header ← header_given text
   held ← elements_given header.data_type elements
   codec_call_answer (held_value known_codecs header.chain header.sizes header.data_type header.fill held)
 
--- the chunk that a value stands for
+-- the elements of the chunk that a value stands for, or the first error
 abbrev pub decoded : List ℕ → List ℕ → Result Elements Cause
 decoded text value = do
   header ← header_given text
   chunk ← codec_call_answer (chain_chunk known_codecs header.chain header.sizes header.data_type header.fill value)
   Ok (header.data_type, chunk)
 
--- the value that the chain of these codecs writes for the chunk that a value stands for
+-- the value that the chain of these codecs writes for the chunk that a value stands for, or the first error
 abbrev pub reencoded : List ℕ → List ℕ → List ℕ → Result (List ℕ) Cause
 reencoded text value codecs = do
   header ← header_given text

@@ -91,7 +91,7 @@ abbrev pub answer_code : {A : Type 0} → Result A Cause → ℕ
 answer_code (Ok _) = 0
 answer_code (Err cause) = cause_code cause
 
--- a call answers this number: that of the answer which is due, or 10, since memory may always be wanting
+-- a call answers this number: that of the answer which is due, or 10, since memory may always be lacking
 abbrev pub IsCode : {A : Type 0} → Result A Cause → ℕ → Type 0
 IsCode expected code = (code ≡ answer_code expected) ⊎ (code ≡ 10)
 

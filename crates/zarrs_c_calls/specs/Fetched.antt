@@ -112,6 +112,7 @@ pub record AsksSurely (form : HeaderForm) (state : StorageState) (selection : Se
   pub refused : is_ok (bounds_of selection form.sizes) ≡ false → failed ≡ false
   pub sure : are_asked_sure state.sure (read_rests_on known_codecs form state.value selection) ≡ true → failed ≡ false
 
+-- where a read asks for a part of the value alone, no byte is lacking if the selection has an error, or if all bytes are at hand that it asks for
 abbrev pub ReadsSurelyInPart : ChunkHeader → PiecesHandle → Indexer → Result Held CodecError → Type 0
 ReadsSurelyInPart form handle indexer result =
     asks_in_part (form_seen form).chain.bytes_to_bytes (form_seen form).chain.array_to_bytes ≡ true → AsksSurely (form_seen form) (pieces_state handle) (selection_of indexer) (is_fault result)

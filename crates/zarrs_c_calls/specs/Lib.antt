@@ -1,3 +1,4 @@
+-- Calls for C.
 pub mod Codes
 pub mod Names
 pub mod Buffers

@@ -30,7 +30,7 @@ selections_read header stored (size ∷ sizes) numbers = do
   more ← selections_read header stored sizes (drop size.numbers numbers)
   Ok (first ∷ more)
 
--- those of the chunk of a header
+-- what is due to a read of several selections of a header's chunk: the elements of each, read one after another; or the first error
 abbrev pub many_read : List ℕ → Option (List ℕ) → List SelectionSize → List ℕ → Result (List Elements) Cause
 many_read text stored sizes numbers = do
   header ← header_given text

@@ -28,7 +28,7 @@ places_planned form selection = do
   _ ← chain_representation known_codecs form.chain form.sizes form.type form.fill
   planned_places form selection
 
--- the plan of a read of a selection
+-- the places whose bytes a read of a selection asks for, where it asks for these alone; or the first error
 abbrev pub planned : List ℕ → ℕ → List ℕ → Result Planned Cause
 planned text tuples numbers = do
   header ← header_given text
@@ -52,6 +52,7 @@ pub record PlanBuffers : Type 0 where
   pub is_planned : Bool
   pub needed : ℕ
 
+-- what a call leaves that returns a plan: these numbers, whether there is a plan, and how many numbers are needed
 abbrev pub plan_buffers : List ℕ → Bool → ℕ → PlanBuffers
 plan_buffers ranges is_planned needed = record { ranges = ranges; is_planned = is_planned; needed = needed }
 
@@ -60,7 +61,7 @@ abbrev pub ToldRanges : Option (List ByteSpan) → ℕ → PlanBuffers → PlanB
 ToldRanges None code old new = (code ≡ 0) × (new ≡ plan_buffers old.ranges false 0)
 ToldRanges (Some ranges) code old new = (new.is_planned ≡ true) × ToldBytes (range_numbers ranges) code old.ranges new.ranges new.needed
 
--- The call returns the plan that is due; or it fails, and leaves all as it was.
+-- The call returns the plan that is due: ranges that have the bytes of the places and no others, in order and apart, or that there are none; or it fails, and leaves all as it was.
 abbrev pub TellsPlan : Result Planned Cause → ℕ → PlanBuffers → PlanBuffers → Type 0
 TellsPlan expected code old new =
     ((plan : Planned) × (ranges : Option (List ByteSpan)) × (expected ≡ Ok plan) × AreForPlan ranges plan × ToldRanges ranges code old new)

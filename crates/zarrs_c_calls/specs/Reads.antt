@@ -44,7 +44,7 @@ header_read header stored tuples numbers = do
   chunk ← codec_call_answer (form_read (header_form header) stored selection)
   Ok (header.data_type, chunk)
 
--- and of the chunk of a header
+-- what is due to a read in part of a header's chunk: the selected elements, or the first error
 abbrev pub part_read : List ℕ → Option (List ℕ) → ℕ → List ℕ → Result Elements Cause
 part_read text stored tuples numbers = do
   header ← header_given text

@@ -27,7 +27,7 @@ header_written header stored tuples numbers elements = do
   new ← elements_given header.data_type elements
   codec_call_answer (known_written (header_form header) stored selection new)
 
--- and of the chunk of a header
+-- what is due to a write in part of a header's chunk: the value that new elements at a selection leave, or the first error
 abbrev pub part_written : List ℕ → Option (List ℕ) → ℕ → List ℕ → Buffers → Result (List ℕ) Cause
 part_written text stored tuples numbers elements = do
   header ← header_given text

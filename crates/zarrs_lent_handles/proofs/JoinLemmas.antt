@@ -67,10 +67,10 @@ joined_apart free start end (r ∷ rs) l m b u =
 -- ---- they have the same bytes
 
 -- a range from one number to another
-abbrev span : ℕ → ℕ → ByteSpan
+abbrev pub span : ℕ → ℕ → ByteSpan
 span start end = record { start = start; end = end }
 
-filled_same : (start end n : ℕ) (rs : List ByteSpan) → have_number (filled start end rs) n ≡ (has_number (span start end) n || have_number rs n)
+pub filled_same : (start end n : ℕ) (rs : List ByteSpan) → have_number (filled start end rs) n ≡ (has_number (span start end) n || have_number rs n)
 filled_same start end n rs = by (nat_lt start end) refl
   where
     by : (t : Bool) → nat_lt start end ≡ t → have_number (filled start end rs) n ≡ (has_number (span start end) n || have_number rs n)

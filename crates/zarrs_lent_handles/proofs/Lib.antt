@@ -1,2 +1,4 @@
 pub mod JoinLemmas
+pub mod LackingLemmas
 pub mod PieceLemmas
+pub mod RoundLemmas

@@ -7,11 +7,11 @@ use Rattle.std.proofs.Math.Seq.{take-length}
 use Rattle.std.proofs.lemmas.List.Edits.{get_or-between, length-between}
 use Rattle.std.proofs.lemmas.List.FromFn.{get_or-map-range_with_len, length-map-range_with_len}
 use Rattle.zarrs_lent_handles.specs.declared.piece.Piece.{Piece}
-use Rattle.zarrs_lent_handles.specs.Pieces.{PlainPiece, piece_seen, pieces_seen, piece_with, are_apart, byte_at, is_at_hand, value_of_pieces}
+use Rattle.zarrs_lent_handles.specs.Pieces.{PlainPiece, piece_seen, pieces_seen, piece_with, are_apart, byte_at, is_at_hand, value_of_pieces, HaveFrom}
 use Rattle.zarrs_codec.proofs.Fences.{range_passes}
 
 -- no piece has a byte before the first one
-none_below : (len free n : ℕ) (ps : List PlainPiece) → are_apart len free ps ≡ true → n < free → piece_with ps n ≡ None
+pub none_below : (len free n : ℕ) (ps : List PlainPiece) → are_apart len free ps ≡ true → n < free → piece_with ps n ≡ None
 none_below len free n [] apart l = refl
 none_below len free n (p ∷ ps) apart l = grind (arith, nat_tests, none_below len (p.start + length p.bytes + 1) n ps)
 
@@ -80,6 +80,21 @@ skipped len free (suc k) n (p ∷ ps) d apart l begins =
     let rest : are_apart len (p.start + length p.bytes + 1) ps ≡ true = grind (arith, nat_tests) in
     let behind : p.start + length p.bytes < n = omega (arith, begin_later len (p.start + length p.bytes + 1) k ps d rest (omega arith)) in
     grind (arith, nat_tests, skipped len (p.start + length p.bytes + 1) k n ps d rest (omega arith) begins)
+
+-- what is left of pieces from one on stands apart, too
+apart_from : (len free k : ℕ) (ps : List PlainPiece) → are_apart len free ps ≡ true → are_apart len 0 (drop k ps) ≡ true
+apart_from len free zero [] apart = refl
+apart_from len free (suc k) [] apart = refl
+apart_from len free zero (p ∷ ps) apart = grind (arith, nat_tests)
+apart_from len free (suc k) (p ∷ ps) apart =
+    let rest : are_apart len (p.start + length p.bytes + 1) ps ≡ true = grind (arith, nat_tests) in
+    apart_from len (p.start + length p.bytes + 1) k ps rest
+
+pub near_from : (len k n : ℕ) (ps : List PlainPiece) (d : PlainPiece) → are_apart len 0 ps ≡ true → k < length ps → (get_or ps k d).start ≤ n → HaveFrom len n ps (drop k ps)
+near_from len k n ps d apart l begins = record {
+  apart = apart_from len 0 k ps apart;
+  same = λ other above. skipped len 0 k other ps d apart l (omega (arith, begins, above));
+}
 
 -- what the pieces from one on are seen as
 pub seen_from : (k : ℕ) (ps : List Piece) → pieces_seen (drop k ps) ≡ drop k (pieces_seen ps)

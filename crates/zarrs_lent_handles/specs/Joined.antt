@@ -17,7 +17,7 @@ ranges_apart free [] = true
 ranges_apart free (range ∷ ranges) =
     nat_le free range.start && (nat_lt range.start range.end && ranges_apart (range.end + 1) ranges)
 
--- The first list with the same bytes in ranges that stand apart.
+-- Ranges have the same bytes as those of the first list, each has a byte, and at least one byte lies between one and the next.
 pub record Joins (ranges joined : List ByteSpan) : Type 0 where
   pub apart : ranges_apart 0 joined ≡ true
   pub same : (number : ℕ) → have_number joined number ≡ have_number ranges number

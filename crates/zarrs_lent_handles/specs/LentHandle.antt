@@ -5,7 +5,7 @@ use Rattle.zarrs_chunk.specs.declared.codec_error.StorageError.{StorageError}
 use Rattle.zarrs_codec.specs.StorageState.{StorageState}
 use Rattle.zarrs_lent_handles.specs.declared.lent_handle.LentHandle.{LentHandle}
 
--- its value, or none
+-- the value that is lent, or none
 abbrev pub lent_value : LentHandle → Option (List ℕ)
 lent_value handle = option_map (λ value. value.now) handle.value
 

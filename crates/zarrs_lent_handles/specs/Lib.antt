@@ -1,4 +1,7 @@
+-- Handles on bytes that are lent.
 pub mod Joined
+pub mod Lacking
 pub mod LentHandle
 pub mod Pieces
 pub mod PiecesHandle
+pub mod Rounds

@@ -15,6 +15,7 @@ pub record PlainPiece : Type 0 where
 abbrev pub piece_seen : Piece → PlainPiece
 piece_seen piece = record { start = piece.start; bytes = piece.bytes.now }
 
+-- pieces of a value, each the number of its first byte and its bytes
 abbrev pub pieces_seen : List Piece → List PlainPiece
 pieces_seen pieces = map piece_seen pieces
 
@@ -58,6 +59,11 @@ SureIfAtHand pieces numbers result = NeverFailsIf (are_at_hand (pieces_seen piec
 -- what is read are bytes at hand: all with these numbers are
 abbrev pub OnlyAtHand : {T E : Type 0} → List Piece → List ℕ → Result T E → Type 0
 OnlyAtHand pieces numbers result = IfOk result (λ _. are_at_hand (pieces_seen pieces) numbers ≡ true)
+
+-- These pieces stand apart, too, and have the bytes that the others have from a number on.
+pub record HaveFrom (len number : ℕ) (pieces near : List PlainPiece) : Type 0 where
+  pub apart : are_apart len 0 near ≡ true
+  pub same : (other : ℕ) → number ≤ other → piece_with near other ≡ piece_with pieces other
 
 -- ---- values that have the pieces
 

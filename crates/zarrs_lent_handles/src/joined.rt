@@ -8,7 +8,11 @@ use zarrs_chunk::CodecError;
 use zarrs_codec::ByteRange;
 
 /// Appends a range, unless it is empty.
-fn push_filled(joined: &mut Vec<ByteRange>, start: u64, end: u64) -> Result<(), AllocError>
+pub(crate) fn push_filled(
+    joined: &mut Vec<ByteRange>,
+    start: u64,
+    end: u64,
+) -> Result<(), AllocError>
     ensures appended { OnOk result (joined.new.items ≡ joined.old.items ++ filled start end []) }
 {
     if start < end {

@@ -2,11 +2,14 @@
 //!
 //! [`LentHandle`] is a handle on a value, or on none. [`PiecesHandle`] is one on a value of which
 //! pieces alone are at hand, as those that were fetched for a read: a read of their bytes never fails,
-//! and a read of any other byte does, so no answer rests on a byte that isn't there. [`join_ranges`]
+//! and a read of any other byte does, so no answer rests on a byte that isn't there. The handle then
+//! names the ranges that are lacking, for a caller who gets them and reads again. [`join_ranges`]
 //! makes of the ranges that a read asks for those whose bytes are such pieces.
 #![tactic(auto)]
 
 mod joined;
+mod lacking;
+pub mod laws;
 mod lent_handle;
 mod piece;
 mod pieces_handle;

@@ -1,10 +1,11 @@
 //! Pieces of a value, and reading ranges of it from them.
-ghost use Rattle.std.specs.Prelude.{◌≡◌, IfOk, IfErr, IfSome, Ok, Some, true};
+ghost use Rattle.std.specs.Prelude.{◌≡◌, ◌∷◌, [], IfOk, IfErr, IfSome, Ok, Some, true};
 ghost use Rattle.std.specs.Option.{option_map};
-ghost use Rattle.zarrs_chunk.specs.Answer.{AnswersItems, Excused, fault, memory_or_fault};
+ghost use Rattle.zarrs_chunk.specs.Answer.{AnswersItems, Excused, fault, is_fault, memory_or_fault};
 ghost use Rattle.zarrs_codec.specs.ByteRanges.{range_indices, read_value, EndsOutside, IsPieceOf};
 ghost use Rattle.zarrs_codec.specs.StorageState.{value_indices};
-ghost use Rattle.zarrs_lent_handles.specs.Pieces.{piece_has_byte, piece_with as first_with, are_apart as stand_apart, numbers_of, piece_seen, pieces_seen, value_of, IsInPiece, OnlyAtHand, SureIfAtHand};
+ghost use Rattle.zarrs_lent_handles.specs.Lacking.{LacksOne};
+ghost use Rattle.zarrs_lent_handles.specs.Pieces.{piece_has_byte, piece_with as first_with, are_apart as stand_apart, numbers_of, piece_seen, pieces_seen, value_of, HaveFrom, IsInPiece, OnlyAtHand, SureIfAtHand};
 
 use std::alloc::Global;
 use zarrs_chunk::{CodecError, StorageError};
@@ -53,18 +54,26 @@ fn piece_with<'a>(pieces: &[Piece<'a>], number: u64) -> Option<Piece<'a>>
     None
 }
 
-/// The same, of pieces that come in order: the search begins at the last piece that begins no later.
-#[tactic(auto, using(crate::proofs::PieceLemmas::skipped))]
+/// Those of pieces that come in order from the last one that begins no later than a byte: none of those
+/// before it has this byte, or one behind it.
+pub(crate) fn pieces_near<'b, 'a>(len: u64, pieces: &'b [Piece<'a>], number: u64) -> &'b [Piece<'a>]
+    requires apart { stand_apart len 0 (pieces_seen pieces.now) ≡ true }
+    ensures same { HaveFrom len number (pieces_seen pieces.now) (pieces_seen result.now) }
+{
+    let behind = pieces.partition_point(|piece| piece.start <= number);
+    if behind > 0 && pieces[behind - 1].start <= number {
+        return &pieces[behind - 1..];
+    }
+    pieces
+}
+
+/// The piece that has the byte of this number, of pieces that come in order.
 fn piece_near<'a>(len: u64, pieces: &[Piece<'a>], number: u64) -> Option<Piece<'a>>
     requires apart { stand_apart len 0 (pieces_seen pieces.now) ≡ true }
     ensures found { option_map piece_seen result ≡ first_with (pieces_seen pieces.now) number }
     ensures inside { IfSome result (λ piece. IsInPiece number piece) }
 {
-    let behind = pieces.partition_point(|piece| piece.start <= number);
-    if behind > 0 && pieces[behind - 1].start <= number {
-        return piece_with(&pieces[behind - 1..], number);
-    }
-    piece_with(pieces, number)
+    piece_with(pieces_near(len, pieces, number), number)
 }
 
 /// What a read of a byte answers that isn't at hand.
@@ -79,6 +88,8 @@ fn part_of<'a>(len: u64, pieces: &[Piece<'a>], range: &ByteRange) -> Result<&'a 
         (EndsOutside (value_of len pieces.now) range.now error)) }
     ensures sure { SureIfAtHand pieces.now (numbers_of range.now) result }
     ensures at_hand { OnlyAtHand pieces.now (numbers_of range.now) result }
+    ensures lacks { is_fault result ≡ true
+        → LacksOne len (pieces_seen pieces.now) (range.now ∷ []) }
 {
     let start = range.start();
     let end = range.end();
@@ -111,12 +122,23 @@ pub(crate) fn gather(
         (read_value (value_of len pieces.now) ranges.now) }
     ensures sure { SureIfAtHand pieces.now (range_indices ranges.now) result }
     ensures at_hand { OnlyAtHand pieces.now (range_indices ranges.now) result }
+    ensures lacks { is_fault result ≡ true → LacksOne len (pieces_seen pieces.now) ranges.now }
 {
     let mut bytes = Vec::with_capacity(alloc, room_for(len, ranges))?;
     for range in ranges {
         append_piece(&mut bytes, part_of(len, pieces, range)?)?;
     }
     Ok(bytes)
+}
+
+/// The range of a whole value.
+pub(crate) fn whole_range(len: u64) -> ByteRange
+    ensures value { result ≡ record { start = 0; end = len } }
+{
+    match ByteRange::new(0..len) {
+        None => unreachable!(),
+        Some(range) => range,
+    }
 }
 
 /// The whole value, where all of its bytes are at hand.
@@ -126,11 +148,10 @@ pub(crate) fn whole(alloc: Global, len: u64, pieces: &[Piece<'_>]) -> Result<Vec
     ensures answer { AnswersItems memory_or_fault result (Ok (value_of len pieces.now)) }
     ensures sure { SureIfAtHand pieces.now (value_indices (Some (value_of len pieces.now))) result }
     ensures at_hand { OnlyAtHand pieces.now (value_indices (Some (value_of len pieces.now))) result }
+    ensures lacks { is_fault result ≡ true
+        → LacksOne len (pieces_seen pieces.now) (record { start = 0; end = len } ∷ []) }
 {
-    let Some(range) = ByteRange::new(0..len) else {
-        return Err(CodecError::InvalidByteRange);
-    };
-    let part = part_of(len, pieces, &range)?;
+    let part = part_of(len, pieces, &whole_range(len))?;
     let bytes = Vec::from_slice(alloc, part)?;
     Ok(bytes)
 }

@@ -1,12 +1,15 @@
 //! A handle over pieces of a value.
-ghost use Rattle.std.specs.Prelude.{◌≡◌, Ok, Some, true};
-ghost use Rattle.zarrs_chunk.specs.Answer.{seen};
+ghost use Rattle.std.specs.Prelude.{◌≡◌, IfErr, IfOk, Ok, Some, true};
+ghost use Rattle.zarrs_chunk.specs.declared.codec_error.CodecError.TheVariants.{OutOfMemory};
+ghost use Rattle.zarrs_chunk.specs.Answer.{is_fault, memory, seen, Answers};
+ghost use Rattle.zarrs_lent_handles.specs.Lacking.{are_all_lacking, are_of_failure, ranges_kept, LacksOne};
 ghost use Rattle.zarrs_codec.specs.ByteRanges.{range_indices, ranges_are_sure, read_ranges};
 ghost use Rattle.zarrs_codec.specs.HandleCalls.{NeverFailsIf, ReadsBytes};
 ghost use Rattle.zarrs_codec.specs.StorageState.{after_reading, value_indices, value_is_sure};
 ghost use Rattle.zarrs_lent_handles.specs.Pieces.{are_apart as stand_apart, pieces_seen};
 
-use crate::piece::{Piece, are_apart, gather, whole};
+use crate::lacking::find_lacking;
+use crate::piece::{Piece, are_apart, gather, whole, whole_range};
 use std::alloc::Global;
 use zarrs_chunk::{CodecError, StorageError};
 use zarrs_codec::{ByteRange, BytesPartialDecoderTraits};
@@ -14,19 +17,22 @@ use zarrs_codec::{ByteRange, BytesPartialDecoderTraits};
 /// A handle on a value of `len` bytes of which these pieces are at hand, lent by a caller.
 ///
 /// Reads of the pieces' bytes never fail, but for lack of memory; a read of any other byte answers
-/// `Storage` with the code 0. As pieces stand apart, a range whose bytes are all at hand lies in
-/// one.
+/// `Storage` with the code 0, and keeps what was lacking. As pieces stand apart, a range whose
+/// bytes are all at hand lies in one.
 #[derive(Drop)]
 pub struct PiecesHandle<'a> {
     len: u64,
     pieces: Vec<Piece<'a>>,
     faults: u64,
     failure: Option<StorageError>,
+    lacking: Option<Vec<ByteRange>>,
     ghost apart: { stand_apart len 0 (pieces_seen pieces.items) ≡ true },
+    ghost lack: { are_all_lacking len (pieces_seen pieces.items) (ranges_kept lacking) ≡ true },
+    ghost failed: { are_of_failure failure (ranges_kept lacking) ≡ true },
 }
 
 impl<'a> PiecesHandle<'a> {
-    ghost use Rattle.zarrs_lent_handles.specs.PiecesHandle.{pieces_state, made_state};
+    ghost use Rattle.zarrs_lent_handles.specs.PiecesHandle.{are_unsure, lacking_ranges, made_state, pieces_state, HandleLacks, KeepsLacking};
 
     /// A handle over these pieces of a value of `len` bytes. Errors: `InvalidByteRange` where they
     /// don't come in order, with at least a byte between one and the next, or one ends behind the
@@ -42,24 +48,61 @@ impl<'a> PiecesHandle<'a> {
             pieces,
             faults: 0,
             failure: None,
+            lacking: None,
         })
     }
 
-    /// Counts the failure, where the answer is one.
+    /// What the last call asked for that failed, and isn't at hand: the ranges that a caller gets
+    /// before it reads again, over more pieces. Each byte of the ranges that it asked for is
+    /// among them that the value has and no piece. None where no call has failed.
+    pub fn lacking(&self) -> &[ByteRange]
+        ensures value { result.now ≡ lacking_ranges self.now }
+        ensures unsure { are_unsure (pieces_state self.now) result.now ≡ true }
+        ensures failed { are_of_failure (pieces_state self.now).failure result.now ≡ true }
+    {
+        match &self.lacking {
+            None => &[],
+            Some(ranges) => ranges.as_slice(),
+        }
+    }
+
+    /// The bytes of these ranges that the value has and no piece, as ranges in order with at least a
+    /// byte between one and the next: of the ranges that a read plans to ask for, all that are
+    /// to be got. Errors: `OutOfMemory`.
+    pub fn lacking_of(
+        &self,
+        alloc: Global,
+        asked: &[ByteRange],
+    ) -> Result<Vec<ByteRange>, CodecError>
+        ensures lacking { IfOk result (λ ranges. HandleLacks self.now asked.now ranges.items) }
+        ensures memory { IfErr result (λ error. error ≡ OutOfMemory) }
+    {
+        find_lacking(alloc, self.len, self.pieces.as_slice(), asked)
+    }
+
+    /// Counts the failure of a read of these ranges, where the answer is one, and keeps what was
+    /// lacking. Errors: the answer's; `OutOfMemory`, and then nothing is counted.
     fn counted(
         &mut self,
+        alloc: Global,
+        asked: &[ByteRange],
         answer: Result<Vec<u8>, CodecError>,
     ) -> Result<Option<Vec<u8>>, CodecError>
-        ensures answered { result ≡ seen Some answer }
+        requires lacks { is_fault answer ≡ true
+            → LacksOne self.old.len (pieces_seen self.old.pieces.items) asked.now }
+        ensures answered { Answers memory (λ bytes. bytes) result (seen Some answer) }
         ensures len { self.new.len ≡ self.old.len }
         ensures pieces { self.new.pieces ≡ self.old.pieces }
         ensures left { pieces_state self.new ≡ after_reading result (pieces_state self.old) }
+        ensures lacking { KeepsLacking asked.now self.old self.new result }
     {
         match answer {
             Ok(bytes) => Ok(Some(bytes)),
             Err(CodecError::Storage(failure)) => {
+                let lacking = find_lacking(alloc, self.len, self.pieces.as_slice(), asked)?;
                 self.faults = self.faults.wrapping_add(1);
                 self.failure = Some(failure);
+                self.lacking = Some(lacking);
                 Err(CodecError::Storage(failure))
             }
             Err(error) => Err(error),
@@ -68,8 +111,8 @@ impl<'a> PiecesHandle<'a> {
 }
 
 impl<'a> BytesPartialDecoderTraits for PiecesHandle<'a> {
-    ghost use Rattle.std.specs.Prelude.{true, []};
-    ghost use Rattle.zarrs_lent_handles.specs.PiecesHandle.{pieces_state, ReadsSure};
+    ghost use Rattle.std.specs.Prelude.{true, [], ◌∷◌};
+    ghost use Rattle.zarrs_lent_handles.specs.PiecesHandle.{pieces_state, whole_span, KeepsLacking, ReadsSure};
 
     ghost state = { pieces_state };
 
@@ -104,9 +147,10 @@ impl<'a> BytesPartialDecoderTraits for PiecesHandle<'a> {
         ensures sure { NeverFailsIf (ranges_are_sure (pieces_state self.old) ranges.now) result }
         ensures at_hand { ReadsSure self.old (range_indices ranges.now) result }
         ensures left { pieces_state self.new ≡ after_reading result (pieces_state self.old) }
+        ensures lacking { KeepsLacking ranges.now self.old self.new result }
     {
         let answer = gather(alloc, self.len, self.pieces.as_slice(), ranges);
-        self.counted(answer)
+        self.counted(alloc, ranges, answer)
     }
 
     /// The whole value, where all of its bytes are at hand.
@@ -115,9 +159,11 @@ impl<'a> BytesPartialDecoderTraits for PiecesHandle<'a> {
         ensures sure { NeverFailsIf (value_is_sure (pieces_state self.old)) result }
         ensures at_hand { ReadsSure self.old (value_indices (pieces_state self.old).value) result }
         ensures left { pieces_state self.new ≡ after_reading result (pieces_state self.old) }
+        ensures lacking { KeepsLacking (whole_span (pieces_state self.old).value ∷ [])
+            self.old self.new result }
     {
         let answer = whole(alloc, self.len, self.pieces.as_slice());
-        self.counted(answer)
+        self.counted(alloc, &[whole_range(self.len)], answer)
     }
 
     fn supports_partial_decode(&self) -> bool {
