@@ -13,6 +13,7 @@ pub mod SureReads
 pub mod SizeLaw
 pub mod Making
 pub mod ReadLaws
+pub mod OpenedValues
 pub mod RegionReads
 pub mod RegionWrites
 pub mod PlannedPlaces

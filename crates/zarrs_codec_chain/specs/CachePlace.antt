@@ -1,4 +1,5 @@
 -- Where a partial decoder of a chain keeps its cache.
+-- Source: zarrs, `CodecChain::partial_decoder`.
 use Rattle.std.specs.Prelude.{◌≡◌, ℕ, suc, max, Bool, true, false, Result, if◌then◌else◌, Option, Some, None, option_map, List, [], ◌∷◌, ◌++◌, length, map, is_some}
 use Rattle.zarrs_chunk.specs.Answer.{is_fault}
 use Rattle.zarrs_chunk.specs.declared.codec_error.CodecError.{CodecError}

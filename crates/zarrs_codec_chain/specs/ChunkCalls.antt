@@ -32,7 +32,7 @@ CountsChunkEdit calls state form None selection before after result =
 CountsChunkEdit calls state form (Some order) selection before after result =
     ReplacesSelected calls state form selection before after result
 
--- the same of a chain that writes in place where its codecs do
+-- how often an accepted edit through a chain asks the handle, and which bytes it replaces: in place where the chain writes in place
 abbrev pub CountsEditThrough : {H E T B : Type 0} → (H → Option Calls) → (H → StorageState) → ChunkForm B → Selection → (before after : H) → Result T E → Type 0
 CountsEditThrough calls state form selection before after result =
     CountsChunkEdit calls state form (form_in_place form) selection before after result

@@ -1,4 +1,5 @@
 -- What a read in part answers through a chain.
+-- Source: zarrs, `ArrayPartialDecoderTraits`.
 use Rattle.zarrs_chain_meaning.specs.CodecMeaning.{ChainStands, codec_representation}
 use Rattle.zarrs_array_bytes.specs.Validity.{Holds}
 use Rattle.zarrs_array_bytes.specs.Held.{Held}
@@ -60,7 +61,7 @@ abbrev pub reads_places : {B : Type 0} → List B → PlainCodec B → Bool
 reads_places [] codec = codec_plans codec
 reads_places (first ∷ rest) codec = false
 
--- and of the chunk that is read
+-- the byte order of a chain that writes in place, where it does
 abbrev pub form_in_place : {B : Type 0} → ChunkForm B → Option (Option Endianness)
 form_in_place form = order_in_place form.chain.bytes_to_bytes form.chain.array_to_bytes
 
@@ -147,11 +148,11 @@ pub record ReadsStoredChunk {B : Type 0} (f : BytesCodecs B) (form : ChunkForm B
 abbrev pub chunk_form : {B : Type 0} → PlainChain B → Form → ChunkForm B
 chunk_form chain form = record { chain = chain; sizes = form.sizes; type = form.type; fill = form.fill }
 
--- the same, through a chain as the code has it
+-- the chunk of these sizes, this type and this fill value, through the chain as plain data
 abbrev pub chunk_of : {B : Type 0} → CodecChain B → List ℕ → ElementType → List ℕ → ChunkForm B
 chunk_of chain sizes type fill = chunk_form (plain_chain chain) (form_of sizes type fill)
 
--- what is made has the form of the chunk of these sizes, this type and this fill value, through the chain
+-- what was made has the form of the chunk of these sizes, this type and this fill value, through the chain
 abbrev pub HasChunkForm : {T E B : Type 0} → (T → ChunkForm B) → CodecChain B → List ℕ → ElementType → List ℕ → Result T E → Type 0
 HasChunkForm view chain sizes type fill result = IfOk result (λ it. view it ≡ chunk_of chain sizes type fill)
 
@@ -169,7 +170,7 @@ abbrev pub SureRuns : {B T : Type 0} → PlainCodec B → Form → StorageState 
 SureRuns codec form before runs result =
     IfOk (codec_rests_on codec form.sizes form.type form.fill before.value (joined_runs runs)) (λ numbers. are_sure before.sure numbers ≡ true → is_fault result ≡ false)
 
--- the plan of a read of the selected places, or the first error
+-- the plan of a read of the selected places is given, or the first error: the ranges are the bytes of these places and no others; none, where the read asks for more
 abbrev pub PlansRead : {B : Type 0} → BytesCodecs B → ChunkForm B → Selection → Result (Option (Vec ByteSpan Global)) CodecError → Type 0
 PlansRead f form selection result =
     GivesBy (IsPlanSeen f form) result (planned_places form selection)
@@ -178,6 +179,6 @@ PlansRead f form selection result =
 abbrev pub form_places : {B : Type 0} → ChunkForm B → Selection → Result (List ℕ) CodecError
 form_places form selection = encoded_places form.type form.chain.array_to_array form.sizes selection
 
--- all codecs decode a part
+-- all codecs of the chain decode a part
 abbrev pub decodes_parts : {B : Type 0} → (B → PartialDecoderCapability) → ChunkForm B → Bool
 decodes_parts reads form = (chain_reads reads form.chain).partial_decode

@@ -1,4 +1,5 @@
 -- What a partial decoder's answers rest on, and what of it a cache keeps.
+-- Source: zarrs, `CodecChain::partial_decoder`.
 use Rattle.std.specs.Prelude.{◌≡◌, ℕ, suc, ◌-◌, ◌^◌, ◌&&◌, not, nat_le, min, Bool, true, false, if◌then◌else◌, Option, Some, None, option_map, List, [], ◌∷◌, length, map, take, drop, is_ok, is_some, Result, Ok}
 use Rattle.zarrs_chunk.specs.Answer.{◌>>=◌, Answers, memory_or_fault}
 use Rattle.zarrs_chunk.specs.Selection.{Selection}

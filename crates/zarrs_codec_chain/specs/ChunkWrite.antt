@@ -109,7 +109,7 @@ form_checked form selection new = data_checked form.sizes form.type selection ne
 abbrev pub form_written : {B : Type 0} → ChunkForm B → Selection → Held → Result (List ℕ) CodecError
 form_written form selection new = written_places form.type form.chain.array_to_array form.sizes selection new
 
--- all codecs encode a part
+-- all codecs of the chain encode a part
 abbrev pub encodes_parts : {B : Type 0} → (B → PartialEncoderCapability) → ChunkForm B → Bool
 encodes_parts writes form = (chain_writes writes form.chain).partial_encode
 

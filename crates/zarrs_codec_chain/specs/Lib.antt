@@ -1,3 +1,4 @@
+-- Chunks in part through chains.
 pub mod vlen
 pub mod CachePlace
 pub mod PartRead

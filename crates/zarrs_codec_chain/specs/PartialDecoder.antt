@@ -16,15 +16,15 @@ use Rattle.zarrs_codec.specs.declared.capabilities.PartialDecoderCapability.{Par
 abbrev pub handle_of : {H B : Type 0} {h : _} {b : _} → ArrayPartialDecoder H B h b → H
 handle_of decoder = decoder.handle
 
--- the chunk that it reads
+-- the chunk that a decoder reads, through its chain
 abbrev pub decoder_form : {H B : Type 0} {h : _} {b : _} → ArrayPartialDecoder H B h b → ChunkForm B
 decoder_form decoder = coder_form decoder.coder
 
--- what its answers rest on, where the handle has this value
+-- what a decoder's answers rest on, where its handle has this value
 abbrev pub decoder_source : {H B : Type 0} {h : _} {b : _} → ArrayPartialDecoder H B h b → Option (List ℕ) → Source
 decoder_source decoder stored = reader_source decoder.coder stored
 
--- it has a cache, so that its calls leave the handle alone
+-- a decoder has a cache, so that its calls leave the handle alone
 abbrev pub is_cached : {H B : Type 0} {h : _} {b : _} → ArrayPartialDecoder H B h b → Bool
 is_cached decoder = is_cache decoder.coder.cache
 
@@ -32,7 +32,7 @@ is_cached decoder = is_cache decoder.coder.cache
 abbrev pub decoder_held : {H B : Type 0} {h : _} {b : _} → ArrayPartialDecoder H B h b → ℕ → ℕ
 decoder_held decoder held = held_by held decoder.coder.cache
 
--- the decoder that was made, or the first error
+-- the decoder that was made, or the error
 abbrev pub made : {T H : Type 0} → Result T (Refused H) → Result T CodecError
 made (Ok decoder) = Ok decoder
 made (Err refused) = Err refused.error
@@ -61,7 +61,7 @@ DecoderLeavesAlone before after = is_cached before ≡ true → handle_of after 
 
 -- ---- what its calls give
 
--- how many bytes the cache keeps, where there is one
+-- a decoder's cache, where there is one, has so many bytes
 abbrev pub KeepsCache : {H B : Type 0} {h : _} {b : _} → (H → StorageState) → BytesCodecs B → (B → PartialDecoderCapability) → ArrayPartialDecoder H B h b → ℕ → Type 0
 KeepsCache state f reads decoder size =
     is_cached decoder ≡ true → IsOkAnd (source_made f reads (decoder_form decoder) (state (handle_of decoder)).value) (λ source. IsSizeOf (decoder_form decoder).type source size)

@@ -1,4 +1,5 @@
 -- What a partial encoder of a chain is made of, and what its calls leave.
+-- Source: zarrs, `ArrayPartialEncoderTraits`.
 use Rattle.std.specs.Prelude.{◌≡◌, Bool, true, OnErr, Result}
 use Rattle.zarrs_chunk.specs.Answer.{Answers}
 use Rattle.zarrs_chunk.specs.declared.codec_error.CodecError.{CodecError}
@@ -18,16 +19,16 @@ use Rattle.zarrs_codec_chain.specs.ChunkWrite.{EditsStored}
 abbrev pub encoder_handle : {H B : Type 0} {h : _} {w : _} {b : _} → ArrayPartialEncoder H B h w b → H
 encoder_handle encoder = encoder.handle
 
--- the chunk that it writes
+-- the chunk that an encoder writes, through its chain
 abbrev pub encoder_form : {H B : Type 0} {h : _} {w : _} {b : _} → ArrayPartialEncoder H B h w b → ChunkForm B
 encoder_form encoder = coder_form encoder.coder
 
--- that a reading call of an encoder changes nothing (`state` says what a handle keeps)
+-- a reading call of an encoder leaves all as it was, but for the failure that it answers (`state` says what a handle keeps)
 abbrev pub EncoderReads : {H B T L : Type 0} {h : _} {w : _} {b : _} → (H → StorageState) → (H → L) → ArrayPartialEncoder H B h w b → ArrayPartialEncoder H B h w b → Result T CodecError → Type 0
 EncoderReads state lent before after result =
     OnlyReads (λ encoder. state (encoder_handle encoder)) (λ encoder. lent (encoder_handle encoder)) encoder_form before after result
 
--- that a call of an encoder makes one writing call at most, and changes nothing else
+-- a call of an encoder makes one writing call at most, and changes nothing else
 abbrev pub EncoderWrites : {H B T L : Type 0} {h : _} {w : _} {b : _} → (H → StorageState) → (H → L) → Bool → ArrayPartialEncoder H B h w b → ArrayPartialEncoder H B h w b → Result T CodecError → Type 0
 EncoderWrites state lent atomic before after result =
     OnlyWrites (λ encoder. state (encoder_handle encoder)) (λ encoder. lent (encoder_handle encoder)) encoder_form atomic before after result
@@ -49,7 +50,7 @@ abbrev pub EncoderEdits : {H B : Type 0} {h : _} {w : _} {b : _} → (H → Stor
 EncoderEdits {b = b} state before after edit result =
     Answers (edit_excuse edit) (λ _. (state (encoder_handle after)).value) result (edited_store b.functions (encoder_form before) (state (encoder_handle before)).value edit)
 
--- what a write of an encoder leaves
+-- The value afterwards is the one that is written for the edited chunk, the last write of a place standing; or the first error is returned. Only a lack of memory or a failure of the handle may come in its place.
 abbrev pub EncoderLeaves : {H B : Type 0} {h : _} {w : _} {b : _} → (H → StorageState) → (before after : ArrayPartialEncoder H B h w b) → Indexer → Held → Result (Unit {0}) CodecError → Type 0
 EncoderLeaves {b = b} state before after indexer new result =
     EditsStored b.functions (encoder_form before) (state (encoder_handle before)) (state (encoder_handle after)) (selection_of indexer) new result

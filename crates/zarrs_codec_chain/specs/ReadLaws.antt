@@ -1,5 +1,5 @@
 -- Laws of reads in part through a chain.
-use Rattle.std.specs.Prelude.{◌≡◌, ℕ, ◌<◌, Some, List, length, slice_index, Result, Ok, IfOk, IfSome}
+use Rattle.std.specs.Prelude.{◌≡◌, ℕ, ◌<◌, Some, List, length, slice_index, Result, Ok, IsOk, IfOk, IfSome}
 use Rattle.std.specs.List.{All}
 use Rattle.std.specs.List.Sorted.{IsPermutation, IsStrictlyIncreasing}
 use Rattle.zarrs_chunk.specs.Answer.{◌>>=◌, seen}
@@ -8,6 +8,7 @@ use Rattle.zarrs_chunk.specs.declared.codec_error.CodecError.{CodecError}
 use Rattle.zarrs_data_type.specs.Element.{Chunk}
 use Rattle.zarrs_array_bytes.specs.Elements.{select}
 use Rattle.zarrs_codec.specs.BytesToBytesCodec.{BytesCodecs}
+use Rattle.zarrs_codec.specs.declared.capabilities.PartialDecoderCapability.{PartialDecoderCapability}
 use Rattle.zarrs_chain_meaning.specs.BytesStages.{outer_bytes}
 use Rattle.zarrs_chain_meaning.specs.Chain.{taken_form}
 use Rattle.zarrs_chain_meaning.specs.Laws.{IsChainOfMappings}
@@ -16,6 +17,7 @@ use Rattle.zarrs_chain_meaning.specs.vlen.PlainVlen.{plain_form_of}
 use Rattle.zarrs_chain_meaning.specs.vlen.PlainForm.{PlainForm}
 use Rattle.zarrs_codec_chain.specs.ChunkRead.{encoded_places, planned_order, planned_region, stored_read}
 use Rattle.zarrs_chain_meaning.specs.ChunkForm.{ChunkForm}
+use Rattle.zarrs_codec_chain.specs.ChunkSource.{source_made}
 use Rattle.zarrs_codec_chain.specs.CodecPart.{codec_rests_on}
 
 -- Of a stored value that stands for a chunk, a read in part answers the chunk's elements that the selection selects, or the selection's error.
@@ -24,6 +26,13 @@ StoredSelects {B} f =
     (form : ChunkForm B) (value : List ℕ) (chunk : Chunk) (selection : Selection)
     → IsChainOfMappings form.chain → All (λ size. 0 < size) form.sizes → ChainStands f form.chain form.sizes form.type form.fill value chunk
     → stored_read f form (Some value) selection ≡ seen (select chunk) (places_of selection form.sizes)
+
+-- Of a stored value that stands for a chunk, a decoder is made, wherever its cache stands.
+abbrev pub StandingIsOpened : {B : Type 0} → BytesCodecs B → Type 0
+StandingIsOpened {B} f =
+    (reads : B → PartialDecoderCapability) (form : ChunkForm B) (value : List ℕ) (chunk : Chunk)
+    → IsChainOfMappings form.chain → All (λ size. 0 < size) form.sizes → ChainStands f form.chain form.sizes form.type form.fill value chunk
+    → IsOk (source_made f reads form (Some value))
 
 -- the bytes that the array-to-bytes codec reads of a value, or the first error: the chain's representation; the bytes-to-bytes codecs, the last of them first
 abbrev pub bytes_below : {B : Type 0} → BytesCodecs B → ChunkForm B → List ℕ → Result (List ℕ) CodecError
@@ -38,7 +47,7 @@ selection_rests_on f form below selection = do
   taken ← taken_form f form.chain form.sizes form.type form.fill
   codec_rests_on form.chain.array_to_bytes taken.0 form.type form.fill (Some below) places
 
--- Over a plain `vlen` a read rests on these bytes alone: two values whose bytes below the bytes-to-bytes codecs are as many, and the same there, are read alike, or rejected for the same cause.
+-- Over a plain `vlen` two values whose bytes below the bytes-to-bytes codecs are as many, and the same where a read rests, are read alike, or rejected for the same cause.
 abbrev pub StoredReadsAlike : {B : Type 0} → BytesCodecs B → Type 0
 StoredReadsAlike {B} f =
     (form : ChunkForm B) (plain : PlainForm) (value other below beside : List ℕ) (selection : Selection)
@@ -51,6 +60,7 @@ pub record IsInOrder {B : Type 0} (form : ChunkForm B) (selection : Selection) (
   pub same : IsPermutation meant ordered
   pub rising : IfSome (planned_region form selection) (λ _. IsStrictlyIncreasing ordered)
 
+-- The places whose bytes a read plans are those that are selected, each as often; over `bytes` those of a region that array-to-array codecs keep rise.
 abbrev pub PlannedPlacesAreMeant : Type 0 → Type 0
 PlannedPlacesAreMeant B =
     (form : ChunkForm B) (selection : Selection) (meant ordered : List ℕ)

@@ -4,7 +4,7 @@ ghost use Rattle.zarrs_data_type.specs.ElementType.{ElementType};
 ghost use Rattle.zarrs_codec.specs.BytesToBytesCodec.{BytesCodecs};
 ghost use Rattle.zarrs_codec_chain.specs.ChunkSource.{IsSizeOf, Source};
 ghost use Rattle.zarrs_codec_chain.specs.PlannedReads.{PlannedIsAsked, PlannedReadsAlike, SizedReadsAlike};
-ghost use Rattle.zarrs_codec_chain.specs.ReadLaws.{PlannedPlacesAreMeant, StoredReadsAlike, StoredSelects};
+ghost use Rattle.zarrs_codec_chain.specs.ReadLaws.{PlannedPlacesAreMeant, StandingIsOpened, StoredReadsAlike, StoredSelects};
 ghost use Rattle.zarrs_codec_chain.specs.SizeLaws.{ChunkSizesAreExact};
 
 /// What answers rest on has one size, whatever a cache keeps of it: tight containers of one chunk are the
@@ -20,6 +20,12 @@ pub fn sizes_are_exact()
 /// `vlen` and the elements' bytes, or by the whole chunk.
 pub fn reads_select<B>()
     ensures law { (f : BytesCodecs B) → StoredSelects f }
+{}
+
+/// Of a stored value that stands for a chunk, a decoder is made: what fills its cache, wherever that
+/// stands in the chain, rejects no such value.
+pub fn standing_is_opened<B>()
+    ensures law { (f : BytesCodecs B) → StandingIsOpened f }
 {}
 
 /// Over a plain `vlen`, through whatever chain, a read rests on the length of the bytes below the

@@ -1,8 +1,9 @@
 //! Chains of codecs: chunks encoded and decoded whole, and read and written in part over a storage
 //! handle. This is the crate that a user names; what it needs of those below is passed on here.
 //!
-//! A [`CodecChain`] is made of metadata. It makes an [`ArrayPartialDecoder`], which reads a chunk in part, or an
-//! [`ArrayPartialEncoder`], which writes it in part too ([`CodecChainPartialTraits`]);
+//! A [`CodecChain`] is made of JSON or of metadata. It makes an [`ArrayPartialDecoder`], which reads a
+//! chunk in part, or an [`ArrayPartialEncoder`], which writes it in part too
+//! ([`CodecChainPartialTraits`]);
 //! [`run_edits`] makes a list of edits. A `vlen` codec by itself makes a [`VlenPartialDecoder`]
 //! ([`VlenCodecPartialTraits`]).
 //!
@@ -34,7 +35,9 @@ pub use zarrs_array_to_array::{
 };
 pub use zarrs_bytes::{BYTES, BytesCodec, BytesCodecPartial};
 pub use zarrs_chain::reencode::reencode;
-pub use zarrs_chain::{ArrayToBytesCodec, CodecChain, OptionalCodec, ShardingCodec, VlenCodec};
+pub use zarrs_chain::{
+    ArrayToBytesCodec, ChainJsonError, CodecChain, OptionalCodec, ShardingCodec, VlenCodec,
+};
 pub use zarrs_chain_meaning::codec_name::{OPTIONAL, VLEN};
 pub use zarrs_chain_meaning::vlen::plain_vlen::PlainVlen;
 pub use zarrs_chunk::{ArrayIndices, ArraySubset, ChunkShape, Indexer};

@@ -26,12 +26,12 @@ pub record CodecForm (B : Type 0) : Type 0 where
   pub type : ElementType
   pub fill : List ℕ
 
--- the chunk that a decoder reads
+-- the chunk that a decoder of `vlen` reads
 abbrev pub vlen_form : {H B : Type 0} {h : _} {b : _} → VlenPartialDecoder H B h b → CodecForm B
 vlen_form decoder =
     record { codec = plain_vlen decoder.codec.now; sizes = decoder.shape; type = decoder.data_type; fill = decoder.fill_value }
 
--- the handle that it reads
+-- the handle that a decoder of `vlen` reads
 abbrev pub vlen_handle_of : {H B : Type 0} {h : _} {b : _} → VlenPartialDecoder H B h b → H
 vlen_handle_of decoder = decoder.handle
 
@@ -85,7 +85,7 @@ pub record ReadsVlen {B : Type 0} (f : BytesCodecs B) (form : CodecForm B) (befo
   pub indexer_first : IfErr (bounds_of selection form.sizes) (λ cause. AnswersBy memory (Holds form.type) result (Err cause))
   pub sure : CodecWhereSure form before selection (is_fault result ≡ false)
 
--- that a reading call of a decoder changes nothing (`state` says what a handle keeps)
+-- a reading call of a decoder leaves all as it was, but for the failure that it answers (`state` says what a handle keeps)
 abbrev pub VlenLeaves : {H B T L : Type 0} {h : _} {b : _} → (H → StorageState) → (H → L) → VlenPartialDecoder H B h b → VlenPartialDecoder H B h b → Result T CodecError → Type 0
 VlenLeaves state lent before after result =
     OnlyReads (λ decoder. state (vlen_handle_of decoder)) (λ decoder. lent (vlen_handle_of decoder)) vlen_form before after result
