@@ -1,0 +1,71 @@
+-- A region's other axes, and what is checked before a row is read.
+use Rattle.std.proofs.Common.{◌≡◌, ℕ, suc, ◌+◌, ◌-◌, ◌*◌, ◌<◌, ◌^◌, true, nat_lt, List, [], ◌∷◌, length, map, take, drop, Result, Ok, Err, arith, refl, ap, ◌∙◌}
+use Rattle.std.specs.Prelude.{slice_index, replicate}
+use Rattle.std.proofs.lemmas.Bool.{and_from}
+use Rattle.std.proofs.lemmas.List.{take_all}
+use Rattle.zarrs_chunk.specs.Answer.{◌>>=◌, Excused, checked_u64, demand, memory, fault, memory_or_fault}
+use Rattle.zarrs_chunk.specs.ArraySubset.{ends_fit}
+use Rattle.zarrs_chunk.specs.ChunkShape.{product}
+use Rattle.zarrs_chunk.specs.Region.{Region}
+use Rattle.zarrs_chunk.specs.Selection.{subset, len_of}
+use Rattle.zarrs_chunk.specs.Tuples.{box_tuples}
+use Rattle.zarrs_chunk.specs.declared.codec_error.CodecError.{CodecError}
+use Rattle.zarrs_chunk.specs.declared.codec_error.CodecError.TheVariants.{InvalidFillValue, Overflow}
+use Rattle.zarrs_chunk.proofs.Inside.{lt_test}
+use Rattle.zarrs_data_type.specs.Element.{Chunk, fill_element}
+use Rattle.zarrs_data_type.specs.ElementType.{ElementType, fixed, text, bytes, optional, element_size}
+use Rattle.zarrs_data_type.specs.FillValue.{fill_fits}
+use Rattle.zarrs_data_type.specs.Form.{Form}
+use Rattle.zarrs_array_bytes.specs.Chunks.{fill_chunk}
+use Rattle.zarrs_array_bytes.specs.Validity.{sizes_fit}
+use Rattle.zarrs_uses.specs.ChunkedArray.{array_element, array_region}
+use Rattle.zarrs_chain_meaning.proofs.PartSteps.{none_fit}
+use Rattle.zarrs_array_to_array.proofs.Stages.{first_false}
+
+-- ---- the axes behind the first
+
+abbrev behind_first : List ℕ → List ℕ
+behind_first xs = take (length xs - 1) (drop 1 xs)
+
+rest_is : (x : ℕ) (xs : List ℕ) → behind_first (x ∷ xs) ≡ xs
+rest_is x xs =
+    let e : length (x ∷ xs) - 1 ≡ length xs = omega arith in
+    ap (λ n. take n xs) e ∙ take_all (length xs) xs (omega arith)
+
+ends_all : (starts lengths : List ℕ) → ((axis : ℕ) → axis < length starts → slice_index starts axis + slice_index lengths axis < 2 ^ 64) → ends_fit starts lengths ≡ true
+ends_all [] lengths h = refl
+ends_all (start ∷ starts) [] h = refl
+ends_all (start ∷ starts) (len ∷ lengths) h =
+    and_from _ _ (lt_test (start + len) (2 ^ 64) (h 0 (omega arith))) (ends_all starts lengths (λ axis l. h (suc axis) (omega arith)))
+
+-- the ranges of a region's other axes end where 64 bits hold it
+pub rest_fits : (starts lengths : List ℕ) → length starts ≡ length lengths → ((axis : ℕ) → axis < length starts → slice_index starts axis + slice_index lengths axis < 2 ^ 64) → ends_fit (behind_first starts) (behind_first lengths) ≡ true
+rest_fits [] lengths same h = refl
+rest_fits (start ∷ starts) [] same h = absurd (omega arith)
+rest_fits (start ∷ starts) (len ∷ lengths) same h =
+    ap (λ xs. ends_fit xs (behind_first (len ∷ lengths))) (rest_is start starts)
+    ∙ ap (ends_fit starts) (rest_is len lengths)
+    ∙ ends_all starts lengths (λ axis l. h (suc axis) (omega arith))
+
+-- ---- what is checked first
+
+abbrev three : {W : Type 0} → Result ℕ CodecError → Result ℕ CodecError → Result (Unit {0}) CodecError → W → Result W CodecError
+three first second third whole = first >>= λ _. second >>= λ _. third >>= λ _. Ok whole
+
+two_passed : {W : Type 0} (first second : Result ℕ CodecError) (third : Result (Unit {0}) CodecError) (whole : W) (one other : ℕ) → first ≡ Ok one → second ≡ Ok other → three first second third whole ≡ (third >>= λ _. Ok whole)
+two_passed (Ok a) (Ok b) third whole one other e d = refl
+two_passed (Ok a) (Err x) third whole one other e d = absurd (cc)
+two_passed (Err x) second third whole one other e d = absurd (cc)
+
+refused_third : {V W : Type 0} (third later : Result (Unit {0}) CodecError) (filled : V) (whole : W) (error : CodecError) → later ≡ Ok tt → (third >>= λ _. later >>= λ _. (let made : Result V CodecError = Ok filled in made)) ≡ Err error → (third >>= λ _. (let made : Result W CodecError = Ok whole in made)) ≡ Err error
+refused_third (Ok a) (Ok b) filled whole error fits e = absurd (cc)
+refused_third (Ok a) (Err x) filled whole error fits e = absurd (cc)
+refused_third (Err x) later filled whole error fits e = cc
+
+-- a fill value that doesn't fit is the first error of the region too
+pub fill_refused : (form : Form) (chunks : List Chunk) (region : Region) (one other : ℕ) (error : CodecError) → checked_u64 (product form.sizes) ≡ Ok one → len_of (subset region) ≡ Ok other
+    → Excused (memory error) (fill_chunk form.type 0 form.fill ≡ Err error) → Excused (memory_or_fault error) (array_region form chunks region ≡ Err error)
+fill_refused form chunks region one other error first second h = λ wants.
+    let whole = map (array_element form.sizes chunks) (box_tuples region.starts region.lengths) in
+    two_passed (checked_u64 (product form.sizes)) (len_of (subset region)) (demand (fill_fits form.type form.fill) InvalidFillValue) whole one other first second
+    ∙ refused_third (demand (fill_fits form.type form.fill) InvalidFillValue) (sizes_fit form.type 0) (replicate 0 (fill_element form.type form.fill)) whole error (none_fit form.type) (h (first_false (memory error) (fault error) wants))
