@@ -1,15 +1,13 @@
 //! Chains, chunks and elements, made of plain data: of what a header of the tool says.
 
-use serde_json::Value;
 use std::alloc::Global;
 use std::borrow::CowSlice;
 use zarrs_array_bytes::{ArrayBytes, ArrayBytesOffsets};
-use zarrs_chain::CodecChain;
+use zarrs_chain::{ChainJsonError, CodecChain};
 use zarrs_chunk::{ChunkShape, CodecError};
 use zarrs_codec::{SampleBytesCodec, SampleMaker};
 use zarrs_data_type::{DataType, FillValue};
 use zarrs_json::{Refusal, data_type, tree};
-use zarrs_metadata::{MetadataV3, PluginCreateError};
 
 /// Texts behind their offsets, which have eight bytes each.
 pub(crate) const TEXTS: &'static str =
@@ -51,28 +49,9 @@ pub(crate) const PAIR: Chunk = Chunk {
     fill_value: &[0],
 };
 
-fn metadatas(alloc: Global, items: &[Value]) -> Result<Vec<MetadataV3>, PluginCreateError> {
-    let mut list = Vec::new(alloc);
-    for item in items {
-        list.push(MetadataV3::from_value(alloc, item)?)?;
-    }
-    Ok(list)
-}
-
-fn chain_of(alloc: Global, tree: &Value) -> Result<Chain, PluginCreateError> {
-    match tree {
-        Value::Array(items) => {
-            let list = metadatas(alloc, items)?;
-            CodecChain::from_metadata(alloc, &list, &SampleMaker)
-        }
-        _ => Err(PluginCreateError::InvalidConfiguration),
-    }
-}
-
 /// The chain of a list of metadata, as JSON.
-pub(crate) fn chain(alloc: Global, codecs: &str) -> Result<Chain, Refusal> {
-    let tree = tree(alloc, codecs.as_bytes())?;
-    Ok(chain_of(alloc, &tree)?)
+pub(crate) fn chain(alloc: Global, codecs: &str) -> Result<Chain, ChainJsonError> {
+    CodecChain::from_json(alloc, codecs, &SampleMaker)
 }
 
 fn data_type_named(alloc: Global, name: &str) -> Result<DataType, Refusal> {

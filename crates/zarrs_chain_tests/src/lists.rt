@@ -1,4 +1,5 @@
-//! Chains made from lists of metadata, and the lists that are written of them.
+//! Chains made from lists of metadata in JSON, the lists that are written of them, and JSON that makes
+//! none.
 
 use crate::checks::is;
 use crate::forms::chain;
@@ -6,6 +7,7 @@ use serde_json::Value;
 use std::alloc::Global;
 use std::process::Abort;
 use std::test::Fail;
+use zarrs_chain::ChainJsonError;
 use zarrs_json::Refusal;
 use zarrs_metadata::{MetadataV3, PluginCreateError};
 
@@ -75,6 +77,81 @@ pub(crate) fn is_shown(
 fn is_written(rt: &impl Abort, alloc: Global, row: &Row) -> Result<(), Refusal> {
     let written = written(alloc, row.list)?;
     is_shown(rt, row.name, alloc, &written, row.written)
+}
+
+/// A text that makes no chain, and the cause.
+struct Rejected {
+    name: &'static str,
+    text: &'static str,
+    cause: ChainJsonError,
+}
+
+const REJECTED: &'static [Rejected] = &[
+    Rejected {
+        name: "a list without its end",
+        text: r#"["bytes""#,
+        cause: ChainJsonError::NotJson,
+    },
+    Rejected {
+        name: "a word behind the list",
+        text: r#"["bytes"] bytes"#,
+        cause: ChainJsonError::NotJson,
+    },
+    Rejected {
+        name: "a name alone",
+        text: r#""bytes""#,
+        cause: ChainJsonError::NotAList,
+    },
+    Rejected {
+        name: "the list as a member",
+        text: r#"{"codecs":["bytes"]}"#,
+        cause: ChainJsonError::NotAList,
+    },
+    Rejected {
+        name: "no metadata behind a codec that isn't known",
+        text: r#"["gzip",5]"#,
+        cause: ChainJsonError::Create(PluginCreateError::InvalidConfiguration),
+    },
+    Rejected {
+        name: "a float in a configuration",
+        text: r#"[{"name":"bytes","configuration":{"level":0.5}}]"#,
+        cause: ChainJsonError::Create(PluginCreateError::InvalidConfiguration),
+    },
+    Rejected {
+        name: "a codec that isn't known",
+        text: r#"["bytes","gzip"]"#,
+        cause: ChainJsonError::Create(PluginCreateError::UnknownName),
+    },
+    Rejected {
+        name: "no codec",
+        text: "[]",
+        cause: ChainJsonError::Create(PluginCreateError::MissingArrayToBytes),
+    },
+];
+
+/// Why a text makes no chain, if it makes none. Out of memory is an error of the test.
+fn cause(alloc: Global, text: &str) -> Result<Option<ChainJsonError>, ChainJsonError> {
+    match chain(alloc, text) {
+        Ok(_) => Ok(None),
+        Err(ChainJsonError::Create(PluginCreateError::OutOfMemory)) => {
+            Err(PluginCreateError::OutOfMemory.into())
+        }
+        Err(cause) => Ok(Some(cause)),
+    }
+}
+
+fn is_rejected(rt: &impl Abort, alloc: Global, row: &Rejected) -> Result<(), ChainJsonError> {
+    let cause = cause(alloc, row.text)?;
+    is(rt, row.name, &cause, &Some(row.cause));
+    Ok(())
+}
+
+#[test]
+fn other_json_makes_no_chain(rt: HostRuntime) -> Result<(), Fail> {
+    for row in REJECTED {
+        is_rejected(&rt, rt.alloc(), row)?;
+    }
+    Ok(())
 }
 
 #[test]

@@ -31,7 +31,7 @@ pub(crate) fn is_cause(
 }
 
 /// The ranges start and end here.
-fn are_ranges(rt: &impl Abort, row: &str, came: &[ByteRange], wanted: &[(u64, u64)]) {
+pub(crate) fn are_ranges(rt: &impl Abort, row: &str, came: &[ByteRange], wanted: &[(u64, u64)]) {
     is(rt, row, "ranges", &came.len(), &wanted.len());
     for (range, ends) in came.iter().zip(wanted.iter()) {
         is(rt, row, "range", &(range.start(), range.end()), ends);

@@ -7,7 +7,6 @@ use zarrs_chunk::ChunkShape;
 use zarrs_codec::{SampleBytesCodec, SampleMaker};
 use zarrs_data_type::{DataType, FillValue};
 use zarrs_json::{Refusal, data_type, hex_bytes, member, numbers, object, read_edit, tree};
-use zarrs_metadata::MetadataV3;
 
 /// Four bytes.
 pub(crate) const BYTES: &'static str =
@@ -118,24 +117,9 @@ fn form_among(alloc: Global, header: &Value) -> Result<Form, Refusal> {
     })
 }
 
-/// Puts the metadata of a codec behind those of a list.
-fn add_metadata(alloc: Global, list: &mut Vec<MetadataV3>, item: &Value) -> Result<(), Refusal> {
-    Ok(list.push(MetadataV3::from_value(alloc, item)?)?)
-}
-
-fn metadatas(alloc: Global, codecs: &Value) -> Result<Vec<MetadataV3>, Refusal> {
-    let mut list = Vec::new(alloc);
-    if let Value::Array(items) = codecs {
-        for item in items {
-            add_metadata(alloc, &mut list, item)?;
-        }
-    }
-    Ok(list)
-}
-
 fn chain(alloc: Global, header: &Value) -> Result<CodecChain<SampleBytesCodec>, Refusal> {
-    let list = metadatas(alloc, at_key(header, "codecs")?)?;
-    Ok(CodecChain::from_metadata(alloc, list.as_slice(), &SampleMaker)?)
+    let codecs = at_key(header, "codecs")?;
+    Ok(CodecChain::from_value(alloc, codecs, &SampleMaker)?)
 }
 
 fn chunk_among(alloc: Global, header: &Value) -> Result<Chunk, Refusal> {

@@ -26,6 +26,10 @@ mod fenced;
 #[cfg(test)]
 mod reads;
 #[cfg(test)]
+mod rounds;
+#[cfg(test)]
 mod rows;
+#[cfg(test)]
+mod uses;
 #[cfg(test)]
 mod writes;

@@ -40,11 +40,19 @@ pub(crate) const SENT: &'static [Sent] = &[
         end: RunEnd::BadHeader,
     },
     Sent {
-        name: "CR before LF, which is a byte of the line",
+        name: "CR before LF, and before the end, which are no bytes of the line",
         header: HEADER,
-        lines: b"value\r\nvalue\n",
+        lines: b"value\r\n\r\nload \"0a\"\r\nvalue\r",
         fails: false,
-        answers: b"error Syntax\nok none\n",
+        answers: b"ok none\nok\nok \"0a\"\n",
+        end: RunEnd::Done,
+    },
+    Sent {
+        name: "CR elsewhere, which is a byte of the line",
+        header: HEADER,
+        lines: b"value\r\r\nva\rlue\n\rvalue\n",
+        fails: false,
+        answers: b"error Syntax\nerror Syntax\nerror Syntax\n",
         end: RunEnd::Done,
     },
     Sent {
