@@ -137,7 +137,9 @@ typedef struct zarrs_edit_size {
     size_t bytes;
 } zarrs_edit_size;
 
-/* The library's version, as 0.1.0; of one that was made without a proof, with the word unproved behind it. */
+/* The version of this header, and that of the library: the same text, with the word unproved behind it where the
+ * library was made without a proof. */
+#define ZARRS_VERSION "0.1.0"
 extern const char zarrs_version[];
 
 /* Whether a header reads and its codecs take such chunks. */
