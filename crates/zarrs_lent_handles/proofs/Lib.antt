@@ -2,3 +2,4 @@ pub mod JoinLemmas
 pub mod LackingLemmas
 pub mod PieceLemmas
 pub mod RoundLemmas
+pub mod SpanLemmas

@@ -5,3 +5,4 @@ pub mod LentHandle
 pub mod Pieces
 pub mod PiecesHandle
 pub mod Rounds
+pub mod SpanHandle
