@@ -208,12 +208,12 @@ optional_so bytes inner e = absurd cc
 optional_so (optional type) inner e = ap optional (some_is type inner e)
 
 -- a container under a mask
-record IsMasked (held inside : Held) (mask : List ℕ) : Type 0 where
+pub record IsMasked (held inside : Held) (mask : List ℕ) : Type 0 where
   pub raw : Raw
   pub held_is : held ≡ masked inside raw
   pub mask_is : mask ≡ raw.items
 
-masked_so : (held inside : Held) (mask : List ℕ) → ok (inside, mask) ≡ optional_items held → IsMasked held inside mask
+pub masked_so : (held inside : Held) (mask : List ℕ) → ok (inside, mask) ≡ optional_items held → IsMasked held inside mask
 masked_so (flen raw) inside mask e = absurd cc
 masked_so (vlen raw offsets) inside mask e = absurd cc
 masked_so (masked other raw) inside mask e =
@@ -292,7 +292,7 @@ front_fits type inner fill e fits n =
     let both : (false || (ends_in_one fill && fill_fits inner (front_of fill))) ≡ true = ap (λ b. b || (ends_in_one fill && fill_fits inner (front_of fill))) (sym n) ∙ due in
     second_true (ends_in_one fill) (fill_fits inner (front_of fill)) both
 
-variable_so : (held : Held) (items offsets : List ℕ) → ok (items, offsets) ≡ variable_items held → (raw : Raw) × (held ≡ vlen raw offsets) × (items ≡ raw.items)
+pub variable_so : (held : Held) (items offsets : List ℕ) → ok (items, offsets) ≡ variable_items held → (raw : Raw) × (held ≡ vlen raw offsets) × (items ≡ raw.items)
 variable_so (flen raw) items offsets e = absurd cc
 variable_so (vlen raw others) items offsets e =
     let p : (items, offsets) ≡ (raw.items, others) = ok_is (items, offsets) (raw.items, others) e in

@@ -15,11 +15,11 @@ pub mod ShardIndex
 pub mod ShardEncode
 pub mod ShardDecode
 pub mod ShardRows
+pub mod LentRuns
+pub mod ShardBands
 pub mod ShardRead
 pub mod ShardReading
-pub mod ShardContents
 pub mod InnerBytes
-pub mod ShardJoined
 pub mod ShardWrites
 pub mod CodecRelations
 pub mod MakeSteps

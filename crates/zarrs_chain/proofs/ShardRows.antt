@@ -31,12 +31,12 @@ use Rattle.zarrs_chain_meaning.specs.sharding.InnerChunks.{grid, is_divided, inn
 use Rattle.zarrs_chain_meaning.proofs.NestedStages.{is_positive}
 use Rattle.zarrs_chain.proofs.ShardForms.{inner_smaller}
 use Rattle.zarrs_chain.proofs.ShardReading.{same_long}
-use Rattle.zarrs_chain.specs.sharding.ShardRows.{AreContents, IsPart, chunks_in, element_bytes, part_bytes}
+use Rattle.zarrs_chain.specs.sharding.ShardRows.{AreContents, IsPart, chunks_in, element_bytes, part_bytes, found_in_part}
 
 -- ---- lists made row by row
 
 -- two functions that agree, one from one place on and one from another
-same_along : (f g : ℕ → List ℕ) (a b n : ℕ) → ((k : ℕ) → k < n → f (a + k) ≡ g (b + k)) → flat_map f (range_with_len a n) ≡ flat_map g (range_with_len b n)
+pub same_along : {A : Type 0} (f g : ℕ → List A) (a b n : ℕ) → ((k : ℕ) → k < n → f (a + k) ≡ g (b + k)) → flat_map f (range_with_len a n) ≡ flat_map g (range_with_len b n)
 same_along f g a b zero same = refl
 same_along f g a b (suc n) same =
     let p : a ≡ a + 0 = omega arith in
@@ -47,7 +47,7 @@ same_along f g a b (suc n) same =
     let j : b + suc k ≡ b + 1 + k = omega arith in
     ap f i ∙ same (suc k) (omega (arith, l)) ∙ ap g j))
 
-rows : (f g : ℕ → List ℕ) (total from n : ℕ) → ((k : ℕ) → k < from + n → flat_map f (range_with_len (k * total) total) ≡ g k) → flat_map f (range_with_len (from * total) (n * total)) ≡ flat_map g (range_with_len from n)
+rows : {A : Type 0} (f g : ℕ → List A) (total from n : ℕ) → ((k : ℕ) → k < from + n → flat_map f (range_with_len (k * total) total) ≡ g k) → flat_map f (range_with_len (from * total) (n * total)) ≡ flat_map g (range_with_len from n)
 rows f g total from zero each = let z : 0 * total ≡ 0 = omega arith in ap (λ m. flat_map f (range_with_len (from * total) m)) z
 rows f g total from (suc n) each =
     let count : suc n * total ≡ total + n * total = omega arith in
@@ -57,22 +57,22 @@ rows f g total from (suc n) each =
     ∙ flat_map-append f (range_with_len (from * total) total) (range_with_len (from * total + total) (n * total))
     ∙ ap₂ (λ xs ys. xs ++ ys) (each from (omega arith)) (ap (λ m. flat_map f (range_with_len m (n * total))) next ∙ rows f g total (from + 1) n (λ k l. each k (omega (arith, l))))
 
-rows_from_first : (f g : ℕ → List ℕ) (total n all : ℕ) → all ≡ n * total → ((k : ℕ) → k < n → flat_map f (range_with_len (k * total) total) ≡ g k) → flat_map f (range_with_len 0 all) ≡ flat_map g (range_with_len 0 n)
+pub rows_from_first : {A : Type 0} (f g : ℕ → List A) (total n all : ℕ) → all ≡ n * total → ((k : ℕ) → k < n → flat_map f (range_with_len (k * total) total) ≡ g k) → flat_map f (range_with_len 0 all) ≡ flat_map g (range_with_len 0 n)
 rows_from_first f g total n all e each =
     let z : 0 ≡ 0 * total = omega arith in
     ap₂ (λ a m. flat_map f (range_with_len a m)) z e ∙ rows f g total 0 n (λ k l. each k (omega (arith, l)))
 
 -- one more
-pub more_rows : (g : ℕ → List ℕ) (old now new : List ℕ) (index : ℕ) → now ≡ old ++ flat_map g (range_with_len 0 index) → new ≡ now ++ g index → new ≡ old ++ flat_map g (range_with_len 0 (index + 1))
-more_rows g old now new index before added =
+pub more_rows : {A : Type 0} (g : ℕ → List A) (old now new : List A) (index : ℕ) → now ≡ old ++ flat_map g (range_with_len 0 index) → new ≡ now ++ g index → new ≡ old ++ flat_map g (range_with_len 0 (index + 1))
+more_rows {A} g old now new index before added =
     let here : 0 + index ≡ index = omega arith in
-    let done : List ℕ = flat_map g (range_with_len 0 index) in
+    let done : List A = flat_map g (range_with_len 0 index) in
     let all : flat_map g (range_with_len 0 (index + 1)) ≡ done ++ g index =
     ap (flat_map g) (range-append 0 index 1) ∙ flat_map-append g (range_with_len 0 index) ((0 + index) ∷ []) ∙ ap (λ ys. done ++ ys) (append-nil (g (0 + index)) ∙ ap g here) in
     added ∙ ap (λ xs. xs ++ g index) before ∙ append_assoc old done (g index) ∙ ap (λ ys. old ++ ys) (sym all)
 
 -- what is made of each item is made of each number
-by_number : {X : Type 0} (f : X → List ℕ) (g : ℕ → List ℕ) (xs : List X) (n : ℕ) → ((k : ℕ) (d : X) → k < length xs → f (get_or xs k d) ≡ g (n + k)) → flat_map f xs ≡ flat_map g (range_with_len n (length xs))
+by_number : {X A : Type 0} (f : X → List A) (g : ℕ → List A) (xs : List X) (n : ℕ) → ((k : ℕ) (d : X) → k < length xs → f (get_or xs k d) ≡ g (n + k)) → flat_map f xs ≡ flat_map g (range_with_len n (length xs))
 by_number f g [] n each = refl
 by_number f g (x ∷ xs) n each =
     let here : n + 0 ≡ n = omega arith in
@@ -82,43 +82,47 @@ by_number f g (x ∷ xs) n each =
     each (suc k) d (omega (arith, l)) ∙ ap g next))
 
 -- what is made of so many items from one on
-pub of_some : {X : Type 0} (view : X → List ℕ) (h : List ℕ → List ℕ) (xs : List X) (from count : ℕ) → from + count ≤ length xs
-    → flat_map (λ x. h (view x)) (take (from + count - from) (drop from xs)) ≡ flat_map (λ k. h (get_or (map view xs) (from + k) [])) (range_with_len 0 count)
-of_some view h xs from count l =
+pub of_some : {X V A : Type 0} (view : X → V) (none : V) (h : V → List A) (xs : List X) (from count : ℕ) → from + count ≤ length xs
+    → flat_map (λ x. h (view x)) (take (from + count - from) (drop from xs)) ≡ flat_map (λ k. h (get_or (map view xs) (from + k) none)) (range_with_len 0 count)
+of_some view none h xs from count l =
     let some = take (from + count - from) (drop from xs) in
     let long : length some ≡ count = omega (arith, length-take (from + count - from) (drop from xs), length-drop from xs, l) in
-    by_number (λ x. h (view x)) (λ k. h (get_or (map view xs) (from + k) [])) some 0 (λ k d m.
+    by_number (λ x. h (view x)) (λ k. h (get_or (map view xs) (from + k) none)) some 0 (λ k d m.
     let inside : k < from + count - from = omega (arith, m, long) in
     let there : from + k < length xs = omega (arith, m, long, l) in
     let at : from + k ≡ from + (0 + k) = omega arith in
     ap (λ x. h (view x)) (get_or-take (from + count - from) (drop from xs) k d inside ∙ get_or-drop from xs k d)
-    ∙ ap h (sym (get_or-map view xs (from + k) d [] there) ∙ ap (λ i. get_or (map view xs) i []) at))
-    ∙ ap (λ n. flat_map (λ k. h (get_or (map view xs) (from + k) [])) (range_with_len 0 n)) long
+    ∙ ap h (sym (get_or-map view xs (from + k) d none there) ∙ ap (λ i. get_or (map view xs) i none) at))
+    ∙ ap (λ n. flat_map (λ k. h (get_or (map view xs) (from + k) none)) (range_with_len 0 n)) long
 
 -- ---- axis by axis
 
 grouped : (a b c : ℕ) → a + (b + c) ≡ a + b + c
 grouped a b c = omega arith
 
-axis_element : (size : ℕ) (contents : List (List ℕ)) (number first part len : ℕ) (shape sizes : List ℕ) (index rest : ℕ) → rest < product sizes
-    → element_bytes size contents number first (part ∷ shape) (len ∷ sizes) (index * product sizes + rest)
-    ≡ element_bytes size contents (number + index / part * inner_chunk_count shape sizes) (first + index % part * product shape) shape sizes rest
-axis_element size contents number first part len shape sizes index rest l =
+-- what is found for a place
+abbrev pub found_at : {A : Type 0} → (ℕ → ℕ → List A) → ℕ → ℕ → List ℕ → List ℕ → ℕ → List A
+found_at found number first shape sizes place = found (number + inner_chunk_of shape sizes place) (first + place_inside shape sizes place)
+
+axis_element : {A : Type 0} (found : ℕ → ℕ → List A) (number first part len : ℕ) (shape sizes : List ℕ) (index rest : ℕ) → rest < product sizes
+    → found_at found number first (part ∷ shape) (len ∷ sizes) (index * product sizes + rest)
+    ≡ found_at found (number + index / part * inner_chunk_count shape sizes) (first + index % part * product shape) shape sizes rest
+axis_element found number first part len shape sizes index rest l =
     let q = div-mul-add index (product sizes) rest l in
     let r = mod-mul-add index (product sizes) rest l in
-    ap₂ (λ a b. piece size (get_or contents a []) b)
+    ap₂ (λ a b. found a b)
     (ap₂ (λ a b. number + (a / part * inner_chunk_count shape sizes + inner_chunk_of shape sizes b)) q r ∙ grouped number (index / part * inner_chunk_count shape sizes) (inner_chunk_of shape sizes rest))
     (ap₂ (λ a b. first + (a % part * product shape + place_inside shape sizes b)) q r ∙ grouped first (index % part * product shape) (place_inside shape sizes rest))
 
-axis_bytes : (size : ℕ) (contents : List (List ℕ)) (number first part len : ℕ) (shape sizes : List ℕ)
-    → part_bytes size contents number first (part ∷ shape) (len ∷ sizes)
-    ≡ flat_map (λ index. part_bytes size contents (number + index / part * inner_chunk_count shape sizes) (first + index % part * product shape) shape sizes) (range_with_len 0 len)
-axis_bytes size contents number first part len shape sizes =
-    rows_from_first (element_bytes size contents number first (part ∷ shape) (len ∷ sizes)) _ (product sizes) len (len * product sizes) refl (λ index l.
-    same_along (element_bytes size contents number first (part ∷ shape) (len ∷ sizes)) (element_bytes size contents (number + index / part * inner_chunk_count shape sizes) (first + index % part * product shape) shape sizes) (index * product sizes) 0 (product sizes) (λ rest m.
+pub axis_found : {A : Type 0} (found : ℕ → ℕ → List A) (number first part len : ℕ) (shape sizes : List ℕ)
+    → found_in_part found number first (part ∷ shape) (len ∷ sizes)
+    ≡ flat_map (λ index. found_in_part found (number + index / part * inner_chunk_count shape sizes) (first + index % part * product shape) shape sizes) (range_with_len 0 len)
+axis_found found number first part len shape sizes =
+    rows_from_first (found_at found number first (part ∷ shape) (len ∷ sizes)) _ (product sizes) len (len * product sizes) refl (λ index l.
+    same_along (found_at found number first (part ∷ shape) (len ∷ sizes)) (found_at found (number + index / part * inner_chunk_count shape sizes) (first + index % part * product shape) shape sizes) (index * product sizes) 0 (product sizes) (λ rest m.
     let at : rest ≡ 0 + rest = omega arith in
-    axis_element size contents number first part len shape sizes index rest m
-    ∙ ap (element_bytes size contents (number + index / part * inner_chunk_count shape sizes) (first + index % part * product shape) shape sizes) at))
+    axis_element found number first part len shape sizes index rest m
+    ∙ ap (found_at found (number + index / part * inner_chunk_count shape sizes) (first + index % part * product shape) shape sizes) at))
 
 -- ---- a chunk that is one inner chunk
 
@@ -147,14 +151,14 @@ one_in_all (size ∷ sizes) p =
 
 -- ---- rows
 
-first_divides : (part len : ℕ) (shape sizes : List ℕ) → is_divided (part ∷ shape) (len ∷ sizes) ≡ true → len ≡ len / part * part
+pub first_divides : (part len : ℕ) (shape sizes : List ℕ) → is_divided (part ∷ shape) (len ∷ sizes) ≡ true → len ≡ len / part * part
 first_divides part len shape sizes d =
     let none : len % part ≡ 0 = eqb-true (len % part) 0 (both_true (nat_eq (len % part) 0) (is_divided shape sizes) d).0 in
     omega (arith, none, div-add-mod' len part)
 
-module _ (size : ℕ) (contents : List (List ℕ)) (number first part len : ℕ) (rest : List ℕ) (some : 0 < part) (p : All is_positive rest) (divides : len ≡ len / part * part) where
+module _ {A : Type 0} (found : ℕ → ℕ → List A) (number first part len : ℕ) (rest : List ℕ) (some : 0 < part) (p : All is_positive rest) (divides : len ≡ len / part * part) where
   row_element : (k i : ℕ) → i < part * product rest
-      → element_bytes size contents number first (part ∷ rest) (len ∷ rest) (k * (part * product rest) + i) ≡ piece size (get_or contents (number + k) []) (first + i)
+      → found_at found number first (part ∷ rest) (len ∷ rest) (k * (part * product rest) + i) ≡ found (number + k) (first + i)
   row_element k i l =
       let total : ℕ = product rest in
       let more : 0 < total = factor_positive i part total l in
@@ -166,55 +170,62 @@ module _ (size : ℕ) (contents : List (List ℕ)) (number first part len : ℕ)
       let at : k * (part * total) + i ≡ (k * part + h) * total + a = omega (arith, whole) in
       let once : number + k * 1 + 0 ≡ number + k = omega arith in
       let back : first + h * total + a ≡ first + i = omega (arith, whole) in
-      ap (element_bytes size contents number first (part ∷ rest) (len ∷ rest)) at
-      ∙ axis_element size contents number first part len rest rest (k * part + h) a under
-      ∙ ap₂ (λ x y. piece size (get_or contents x []) y)
+      ap (found_at found number first (part ∷ rest) (len ∷ rest)) at
+      ∙ axis_element found number first part len rest rest (k * part + h) a under
+      ∙ ap₂ (λ x y. found x y)
       ((λ j. number + div-mul-add k part h low j * one_in_all rest p j + one_chunk rest a under j) ∙ once)
       ((λ j. first + mod-mul-add k part h low j * total + same_place rest a under j) ∙ back)
 
-  row_part : part_bytes size contents number first (part ∷ rest) (len ∷ rest)
-      ≡ flat_map (λ k. between (first * size) ((first + part * product rest) * size) (get_or contents (number + k) [])) (range_with_len 0 (len / part))
+  row_part : found_in_part found number first (part ∷ rest) (len ∷ rest)
+      ≡ flat_map (λ k. flat_map (found (number + k)) (range_with_len first (part * product rest))) (range_with_len 0 (len / part))
   row_part =
       let total : ℕ = part * product rest in
-      let f : ℕ → List ℕ = element_bytes size contents number first (part ∷ rest) (len ∷ rest) in
       let all : len * product rest ≡ len / part * total = ap (λ n. n * product rest) divides ∙ times (len / part) part (product rest) in
-      rows_from_first f _ total (len / part) (len * product rest) all (λ k l.
-      same_along f (piece size (get_or contents (number + k) [])) (k * total) first total (row_element k)
-      ∙ pieces_of_run size (get_or contents (number + k) []) first total
-      ∙ ap (λ n. between (first * size) n (get_or contents (number + k) [])) (spread first total size))
+      rows_from_first (found_at found number first (part ∷ rest) (len ∷ rest)) _ total (len / part) (len * product rest) all (λ k l.
+      same_along (found_at found number first (part ∷ rest) (len ∷ rest)) (found (number + k)) (k * total) first total (row_element k))
     where
       times : (a b c : ℕ) → a * b * c ≡ a * (b * c)
       times a b c = omega arith
 
-      spread : (a b c : ℕ) → a * c + b * c ≡ (a + b) * c
-      spread a b c = omega arith
-
--- the bytes of a part that no axis behind the first divides, inner chunk by inner chunk
-row_bytes : (size : ℕ) (contents : List (List ℕ)) (number first : ℕ) (shape sizes : List ℕ) → All is_positive shape → is_divided shape sizes ≡ true → drop 1 shape ≡ drop 1 sizes
-    → part_bytes size contents number first shape sizes
-    ≡ flat_map (λ k. between (first * size) ((first + product shape) * size) (get_or contents (number + k) [])) (range_with_len 0 (inner_chunk_count shape sizes))
-row_bytes size contents number first [] [] p d same =
+-- what is found for a part that no axis behind the first divides, inner chunk by inner chunk
+pub row_found : {A : Type 0} (found : ℕ → ℕ → List A) (number first : ℕ) (shape sizes : List ℕ) → All is_positive shape → is_divided shape sizes ≡ true → drop 1 shape ≡ drop 1 sizes
+    → found_in_part found number first shape sizes
+    ≡ flat_map (λ k. flat_map (found (number + k)) (range_with_len first (product shape))) (range_with_len 0 (inner_chunk_count shape sizes))
+row_found found number first [] [] p d same =
     let here : first + 0 ≡ first = omega arith in
-    let to : first * size + size ≡ (first + 1) * size = omega arith in
-    ap (λ (xs : List ℕ). xs ++ [])
-    (ap (λ n. piece size (get_or contents (number + 0) []) n) here ∙ ap (λ n. between (first * size) n (get_or contents (number + 0) [])) to)
-row_bytes size contents number first [] (len ∷ sizes) p d same = absurd cc
-row_bytes size contents number first (part ∷ shape) [] p d same = absurd cc
-row_bytes size contents number first (part ∷ shape) (len ∷ sizes) p d same =
+    ap (λ n. found (number + 0) n ++ []) here ∙ sym (append-nil (found (number + 0) first ++ []))
+row_found found number first [] (len ∷ sizes) p d same = absurd cc
+row_found found number first (part ∷ shape) [] p d same = absurd cc
+row_found found number first (part ∷ shape) (len ∷ sizes) p d same =
     let some : 0 < part = All-head is_positive part shape p in
     let rest : All is_positive shape = All-tail is_positive part shape p in
     let divides = first_divides part len shape sizes d in
     let once : len / part * 1 ≡ len / part = omega arith in
     let count : len / part * product (grid shape shape) ≡ len / part = ap (λ n. len / part * n) (one_in_all shape rest) ∙ once in
-    subst (λ (ss : List ℕ). part_bytes size contents number first (part ∷ shape) (len ∷ ss) ≡ flat_map (λ k. between (first * size) ((first + part * product shape) * size) (get_or contents (number + k) [])) (range_with_len 0 (len / part * product (grid shape ss)))) same
-    (row_part size contents number first part len shape some rest divides ∙ ap (λ n. flat_map (λ k. between (first * size) ((first + part * product shape) * size) (get_or contents (number + k) [])) (range_with_len 0 n)) (sym count))
+    subst (λ (ss : List ℕ). found_in_part found number first (part ∷ shape) (len ∷ ss) ≡ flat_map (λ k. flat_map (found (number + k)) (range_with_len first (part * product shape))) (range_with_len 0 (len / part * product (grid shape ss)))) same
+    (row_part found number first part len shape some rest divides ∙ ap (λ n. flat_map (λ k. flat_map (found (number + k)) (range_with_len first (part * product shape))) (range_with_len 0 n)) (sym count))
+
+-- the bytes of so many elements of an inner chunk
+run_bytes : (size : ℕ) (content : List ℕ) (first count : ℕ) → flat_map (piece size content) (range_with_len first count) ≡ between (first * size) ((first + count) * size) content
+run_bytes size content first count = pieces_of_run size content first count ∙ ap (λ n. between (first * size) n content) (spread first count size)
+  where
+    spread : (a b c : ℕ) → a * c + b * c ≡ (a + b) * c
+    spread a b c = omega arith
+
+-- the bytes of a part that no axis behind the first divides, inner chunk by inner chunk
+row_bytes : (size : ℕ) (contents : List (List ℕ)) (number first : ℕ) (shape sizes : List ℕ) → All is_positive shape → is_divided shape sizes ≡ true → drop 1 shape ≡ drop 1 sizes
+    → part_bytes size contents number first shape sizes
+    ≡ flat_map (λ k. between (first * size) ((first + product shape) * size) (get_or contents (number + k) [])) (range_with_len 0 (inner_chunk_count shape sizes))
+row_bytes size contents number first shape sizes p d same =
+    row_found (element_bytes size contents) number first shape sizes p d same
+    ∙ same_along _ _ 0 0 (inner_chunk_count shape sizes) (λ k l. run_bytes size (get_or contents (number + (0 + k)) []) first (product shape))
 
 -- what is appended of a row
 pub row_appended : {X : Type 0} (view : X → List ℕ) (size : ℕ) (xs : List X) (number count first each : ℕ) (shape sizes : List ℕ) → IsPart size (map view xs) number count first each shape sizes → pointwise nat_eq (drop 1 shape) (drop 1 sizes) ≡ true
     → flat_map (λ x. between (first * size) ((first + each) * size) (view x)) (take (number + count - number) (drop number xs)) ≡ part_bytes size (map view xs) number first shape sizes
 row_appended view size xs number count first each shape sizes part same =
     let inside : number + count ≤ length xs = omega (arith, part.below, length-map xs view) in
-    of_some view (between (first * size) ((first + each) * size)) xs number count inside
+    of_some view [] (between (first * size) ((first + each) * size)) xs number count inside
     ∙ ap₂ (λ n m. flat_map (λ k. between (first * size) ((first + n) * size) (get_or (map view xs) (number + k) [])) (range_with_len 0 m)) part.elements part.len
     ∙ sym (row_bytes size (map view xs) number first shape sizes part.positive part.divided (same_text (drop 1 shape) (drop 1 sizes) (sym same)))
 
@@ -306,17 +317,25 @@ next_part size contents number count first each (part ∷ shape) (len ∷ sizes)
     (subst (λ m. IsPart size contents (number + index / part * inner_chunk_count shape sizes) (inner_chunk_count shape sizes) (first + index % part * m) m shape sizes) (sym rest.elements)
     (part_at size contents number count first each part len shape sizes index is l))
 
+-- what is found for all parts along the first axis
+pub parts_found : {A : Type 0} (found : ℕ → ℕ → List A) (size : ℕ) (contents : List (List ℕ)) (number count first each : ℕ) (shape sizes : List ℕ) → IsPart size contents number count first each shape sizes → length shape ≡ length sizes → 0 < length shape
+    → flat_map (λ index. found_in_part found (number + index / get_or shape 0 0 * (count / (get_or sizes 0 0 / get_or shape 0 0))) (first + index % get_or shape 0 0 * (each / get_or shape 0 0)) (drop 1 shape) (drop 1 sizes)) (range_with_len 0 (get_or sizes 0 0))
+    ≡ found_in_part found number first shape sizes
+parts_found found size contents number count first each [] sizes is e some = absurd (omega arith)
+parts_found found size contents number count first each (part ∷ shape) [] is e some = absurd (omega arith)
+parts_found found size contents number count first each (part ∷ shape) (len ∷ sizes) is e some =
+    let rest = has_rest size contents number count first each part len shape sizes is in
+    (λ i. flat_map (λ index. found_in_part found (number + index / part * rest.counts i) (first + index % part * rest.elements i) shape sizes) (range_with_len 0 len))
+    ∙ sym (axis_found found number first part len shape sizes)
+
 -- all parts along the first axis
 pub all_parts : (size : ℕ) (contents : List (List ℕ)) (number count first each : ℕ) (shape sizes : List ℕ) (index : ℕ) (old now : List ℕ) → IsPart size contents number count first each shape sizes → length shape ≡ length sizes → 0 < length shape → index ≡ get_or sizes 0 0
     → now ≡ old ++ flat_map (λ index. part_bytes size contents (number + index / get_or shape 0 0 * (count / (get_or sizes 0 0 / get_or shape 0 0))) (first + index % get_or shape 0 0 * (each / get_or shape 0 0)) (drop 1 shape) (drop 1 sizes)) (range_with_len 0 index)
     → now ≡ old ++ part_bytes size contents number first shape sizes
-all_parts size contents number count first each [] sizes index old now is e some end done = absurd (omega arith)
-all_parts size contents number count first each (part ∷ shape) [] index old now is e some end done = absurd (omega arith)
-all_parts size contents number count first each (part ∷ shape) (len ∷ sizes) index old now is e some end done =
-    let rest = has_rest size contents number count first each part len shape sizes is in
+all_parts size contents number count first each shape sizes index old now is e some end done =
     done
-    ∙ (λ i. old ++ flat_map (λ index. part_bytes size contents (number + index / part * rest.counts i) (first + index % part * rest.elements i) shape sizes) (range_with_len 0 (end i)))
-    ∙ ap (λ xs. old ++ xs) (sym (axis_bytes size contents number first part len shape sizes))
+    ∙ ap (λ n. old ++ flat_map (λ index. part_bytes size contents (number + index / get_or shape 0 0 * (count / (get_or sizes 0 0 / get_or shape 0 0))) (first + index % get_or shape 0 0 * (each / get_or shape 0 0)) (drop 1 shape) (drop 1 sizes)) (range_with_len 0 n)) end
+    ∙ ap (λ xs. old ++ xs) (parts_found (element_bytes size contents) size contents number count first each shape sizes is e some)
 
 -- all behind the first, as a slice
 pub behind_first : (xs : List ℕ) → take (length xs - 1) (drop 1 xs) ≡ drop 1 xs
@@ -403,7 +422,7 @@ fixed_element width components sign (x ∷ xs) count number inside l m =
 -- the element at a place
 module _ (type : ElementType) (size : ℕ) (contents : List (CowSlice ℕ Global)) (shape sizes : List ℕ) (is : AreContents type size contents shape sizes) (cut : IsCut shape sizes) where
   abbrev source : ℕ → List ℕ
-  source = element_bytes size (map items_of contents) 0 0 shape sizes
+  source = found_at (element_bytes size (map items_of contents)) 0 0 shape sizes
 
   abbrev numbers : List ℕ
   numbers = range_with_len 0 (product sizes)

@@ -3,6 +3,7 @@ pub mod vlen
 pub mod optional
 pub mod sharding
 pub mod ChainGrammar
+pub mod EncodedAgain
 pub mod CodecCalls
 pub mod ChainCalls
 pub mod ChainJson

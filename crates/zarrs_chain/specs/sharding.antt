@@ -2,4 +2,6 @@
 pub mod ShardingCalls
 pub mod InnerPlaces
 pub mod ShardRows
+pub mod ShardBands
+pub mod BandSizes
 pub mod ShardWalk

@@ -198,26 +198,24 @@ pub fn codec_decode<'a, B: BytesToBytesCodecTraits>(
     }
 }
 
-/// What the codec reads in part: `bytes`, `packbits` and a plain `vlen` all, any other with chains
-/// inside nothing.
+/// What the codec reads in part: `bytes`, `packbits`, a plain `vlen` and `sharding_indexed` all, any
+/// other nothing.
 #[tactic(auto, unfolding(crate::specs::ChainView::plain_codec), using(crate::specs::ChainView::plain_optional_at, crate::specs::ChainView::plain_sharding_at))]
 pub(crate) fn codec_reads<B>(codec: &ArrayToBytesCodec<B>) -> PartialDecoderCapability
     ensures value { result ≡ codec_reads_of (plain_codec codec.now) }
 {
     match codec {
-        ArrayToBytesCodec::Bytes(_) => PartialDecoderCapability {
+        ArrayToBytesCodec::Bytes(_) | ArrayToBytesCodec::Sharding(_) => PartialDecoderCapability {
             partial_read: true,
             partial_decode: true,
         },
         ArrayToBytesCodec::PackBits(codec) => codec.partial_decoder_capability(),
         ArrayToBytesCodec::VlenV2(codec) => codec.partial_decoder_capability(),
         ArrayToBytesCodec::Vlen(codec) => vlen_reads(codec),
-        ArrayToBytesCodec::Optional(_) | ArrayToBytesCodec::Sharding(_) => {
-            PartialDecoderCapability {
-                partial_read: false,
-                partial_decode: false,
-            }
-        }
+        ArrayToBytesCodec::Optional(_) => PartialDecoderCapability {
+            partial_read: false,
+            partial_decode: false,
+        },
     }
 }
 

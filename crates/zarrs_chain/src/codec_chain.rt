@@ -14,6 +14,7 @@ ghost use Rattle.zarrs_chain_meaning.specs.KeptBytes.{KeepsBytes};
 ghost use Rattle.zarrs_chain_meaning.specs.Laws.{IsChainOfMappings};
 ghost use Rattle.zarrs_chain_meaning.specs.MadeAgain.{HasRanges};
 ghost use Rattle.zarrs_chain.specs.ChainCalls.{ChainRepresents};
+ghost use Rattle.zarrs_chain.specs.EncodedAgain.{EncodedStands};
 
 use crate::array_to_bytes_codec::{
     ArrayToBytesCodec, codec_has_ranges, codec_is_sound, codec_reads, codec_writes,
@@ -24,6 +25,7 @@ use crate::representation::chain_representation;
 use std::alloc::Global;
 use zarrs_array_bytes::{ArrayBytes, ArrayBytesRaw};
 use zarrs_array_to_array::ArrayToArrayCodec;
+use zarrs_chain_meaning::machine_bytes::elements_are_bytes;
 use zarrs_chunk::{ChunkShape, CodecError};
 use zarrs_codec::{
     ArrayCodecTraits, BytesRepresentation, BytesToBytesCodecTraits, CodecTraits,
@@ -147,6 +149,8 @@ impl<B: BytesToBytesCodecTraits> CodecChain<B> {
     /// Where none changes a byte or its place, which is so of `reshape`, `squeeze` and `bytes` that
     /// turns nothing round, the answer is what was given, owned bytes owned and borrowed ones
     /// borrowed.
+    ///
+    /// The value stands for the chunk's normal form: for what the chain keeps of it.
     pub fn encode<'a>(
         &self,
         alloc: Global,
@@ -157,10 +161,13 @@ impl<B: BytesToBytesCodecTraits> CodecChain<B> {
     ) -> Result<ArrayBytesRaw<'a>, CodecError>
         ensures encodes { Encodes (chain_grammar B.functions (plain_chain self.now))
             (form_of shape.now data_type.now fill_value.now) elements.entry result }
+        ensures decoded_again { EncodedStands B.functions (plain_chain self.now)
+            (form_of shape.now data_type.now fill_value.now) elements.entry result }
         ensures kept { KeepsBytes (plain_chain self.now) data_type.now
             → IsGiven elements.entry result }
     {
         chain_is_sound(self);
+        elements_are_bytes(&elements);
         shape.as_slice();
         chain_encode(alloc, self, elements, shape, data_type, fill_value)
     }

@@ -4,6 +4,7 @@ ghost use Rattle.zarrs_chunk.specs.Answer.{Gives};
 ghost use Rattle.zarrs_data_type.specs.Form.{form_of};
 ghost use Rattle.zarrs_array_bytes.specs.Held.{raw_of, items_of};
 ghost use Rattle.zarrs_chain.specs.ChainView.{plain_chain};
+ghost use Rattle.zarrs_chain.specs.EncodedAgain.{ReencodedStands};
 ghost use Rattle.zarrs_chain.specs.Reencode.{Reencodes};
 
 use crate::codec_chain::{CodecChain, chain_is_sound};
@@ -31,6 +32,9 @@ fn owned(alloc: Global, bytes: ArrayBytesRaw<'_>) -> Result<Vec<u8>, CodecError>
 ///
 /// Into the same chain the answer is the chunk's canonical value, which `value` need not be. Bytes
 /// that both chains leave as they are are copied once; bytes that a codec made are handed out.
+///
+/// Under `to` the answer stands for the normal form of the chunk that `value` stands for under `from`:
+/// for what `to` keeps of it.
 pub fn reencode<B: BytesToBytesCodecTraits, C: BytesToBytesCodecTraits>(
     alloc: Global,
     from: &CodecChain<B>,
@@ -43,6 +47,10 @@ pub fn reencode<B: BytesToBytesCodecTraits, C: BytesToBytesCodecTraits>(
     // Wide: two chains with their bytes-to-bytes codecs, and the form of a chunk as three
     // parameters.
     ensures reencodes { Reencodes
+        B.functions (plain_chain from.now) C.functions (plain_chain to.now)
+        (form_of shape.now data_type.now fill_value.now) value.now result }
+    // Wide: the same.
+    ensures decoded_again { ReencodedStands
         B.functions (plain_chain from.now) C.functions (plain_chain to.now)
         (form_of shape.now data_type.now fill_value.now) value.now result }
 {

@@ -56,7 +56,7 @@ abbrev pub held_part : {B : Type 0} → BytesCodecs B → PlainChain B → ℕ �
 held_part f chain zero type fill held = Ok []
 held_part f chain (suc count) type fill held = held_value f chain (suc count ∷ []) type fill held
 
--- what an array-to-bytes codec reads in part: `bytes`, `packbits` and a plain `vlen` all, any other with chains inside nothing
+-- what an array-to-bytes codec reads in part: `bytes`, `packbits`, a plain `vlen` and `sharding_indexed` all, any other nothing
 abbrev pub codec_reads : {B : Type 0} → PlainCodec B → PartialDecoderCapability
 codec_reads codec = (facts codec).reads
 

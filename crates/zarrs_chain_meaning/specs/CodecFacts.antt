@@ -49,6 +49,10 @@ abbrev pub vlen_facts : Bool → Bool → (index content : Option (Option Endian
 vlen_facts wide at_end index content =
     record whole_facts { reads = reads_all_if (is_some (form_of_chains index content wide at_end)); plain = form_of_chains index content wide at_end }
 
+-- those of `sharding_indexed`: it is read in part, by its index and by what its inner chain reads
+abbrev pub shard_facts : Facts
+shard_facts = record whole_facts { reads = reads_all_if true }
+
 -- those of an array-to-bytes codec: the one definition that goes by all of them
 abbrev pub facts : {B : Type 0} → PlainCodec B → Facts
 facts (bytes_codec order) = bytes_facts order
@@ -56,4 +60,4 @@ facts (packbits_codec settings) = packbits_facts settings
 facts (vlen_v2_codec codec) = whole_facts
 facts (vlen_codec ia ix ib da dx db wide at_end) = vlen_facts wide at_end (if_alone ia (facts ix).order ib) (if_alone da (facts dx).order db)
 facts (optional_codec ma mx mb da dx db) = whole_facts
-facts (sharding_codec sa sx sb ia ix ib shape at_end) = whole_facts
+facts (sharding_codec sa sx sb ia ix ib shape at_end) = shard_facts

@@ -1,7 +1,14 @@
-use Rattle.std.proofs.Common.{◌≡◌, ℕ, ◌∙◌, ap, arith, false, get_or, refl, sym, true, subst, map, List, Ok, IfOk, rules, length, Err, ◌+◌, ◌*◌, ◌/◌, ◌<◌, ◌≤◌, ◌^◌, ◌∷◌, []}
+use Rattle.std.proofs.Common.{◌≡◌, ℕ, ◌∙◌, ap, arith, false, get_or, refl, sym, true, subst, map, List, Result, Ok, IfOk, rules, length, Err, ◌+◌, ◌*◌, ◌/◌, ◌<◌, ◌≤◌, ◌^◌, ◌∷◌, ◌++◌, [], drop, take}
 use Rattle.std.proofs.lemmas.Result.{err_from_is_err_and}
 use Rattle.std.specs.List.{All, list_all}
-use Rattle.zarrs_array_bytes.specs.Held.{flen, raw_of}
+use Rattle.zarrs_array_bytes.specs.Held.{Held, flen, raw_of}
+use Rattle.zarrs_array_bytes.specs.Tight.{IsTight}
+use Rattle.zarrs_chain_meaning.specs.sharding.Sharding.{inner_chunk_at}
+use Rattle.zarrs_chain.specs.sharding.ShardBands.{band_count, band_of, chunks_of, part_elements}
+use Rattle.zarrs_chain.proofs.ShardBands.{BandsTo, band_counted, band_facts, band_form, band_inside, band_long, bands_begin, bands_end, bands_on, bands_refused, blank_cloned, chunks_on, joinable_more}
+use Rattle.zarrs_data_type.specs.Element.{Chunk}
+use Rattle.zarrs_chunk.specs.Answer.{◌>>=◌}
+use Rattle.std.proofs.lemmas.List.{length-map}
 use Rattle.zarrs_array_bytes.specs.Present.{present_count}
 use Rattle.zarrs_array_bytes.specs.Validity.{Holds, sizes_fit, validity}
 use Rattle.zarrs_array_to_array.specs.Mapping.{mapping_of}
@@ -47,8 +54,6 @@ use Rattle.zarrs_chain_meaning.specs.sharding.Sharding.{spans_of}
 use Rattle.zarrs_chain_meaning.proofs.ArraySteps.{ok_is}
 use Rattle.zarrs_chain_meaning.proofs.InnerChunks.{is_cut}
 use Rattle.zarrs_chain_meaning.proofs.ShardReads.{spans_long}
-use Rattle.zarrs_chain.proofs.ShardContents.{append_ends, append_goes_on, append_refused, fill_held, fill_there, inner_appended, more_counted, room_inside}
-use Rattle.zarrs_chain.proofs.ShardJoined.{joined_answered, places_from}
 use Rattle.zarrs_chain.proofs.ShardRead.{answers_long, inner_read, walk_is}
 use Rattle.zarrs_chain.proofs.ShardReading.{count_is, not_stored, one_replaced, shard_answered, walk_begins, walk_goes_on}
 use Rattle.zarrs_chain.specs.sharding.ShardRows.{chunks_in}
@@ -438,119 +443,6 @@ sharding::shard_decode::read_all-loop-number-preserved g t c =
       tight = c.in_ok-elements-2.ensures.tight;
     }
 
-pub sharding::shard_contents::append_inner-append_elements-requires-clause-more_valid : goal.sharding::shard_contents::append_inner-append_elements-requires-clause-more_valid
-sharding::shard_contents::append_inner-append_elements-requires-clause-more_valid g t c =
-    let read = inner_read g.B.BytesToBytesCodecTraits.functions (plain_chain c.args.chain.now) c.args.inner.now c.args.data_type.now c.args.fill.now c.args.value.now c.in_ok-bytes_at.field-0.now c.args.span c.in_ok-content.content (sym c.in_ok-bytes_at.ensures.answer) c.in_ok-content.ensures.exact.is in
-    ap (λ n. validity c.args.data_type.now n c.in_ok-content.content) c.requires.inner_long ∙ read.1
-
-pub sharding::shard_contents::append_inner-returns-clause-answer : goal.sharding::shard_contents::append_inner-returns-clause-answer
-sharding::shard_contents::append_inner-returns-clause-answer g t c =
-    let content = c.in_ok-content.content in
-    let type = c.args.data_type.now in
-    let read = inner_read g.B.BytesToBytesCodecTraits.functions (plain_chain c.args.chain.now) c.args.inner.now type c.args.fill.now c.args.value.now c.in_ok-bytes_at.field-0.now c.args.span content (sym c.in_ok-bytes_at.ensures.answer) c.in_ok-content.ensures.exact.is in
-    inner_appended type c.args.count c.args.each c.args.elements content _ c.append_elements.result (read.0 ∙ ap (λ n. ok (elements type n content)) (sym c.requires.inner_long)) c.append_elements.ensures.answer
-
-pub sharding::shard_contents::read_contents-returns-in_err-blank-clause-answer : goal.sharding::shard_contents::read_contents-returns-in_err-blank-clause-answer
-sharding::shard_contents::read_contents-returns-in_err-blank-clause-answer g t c =
-    let shape = c.args.inner.now in
-    let sizes = c.args.shape.now in
-    let type = c.args.data_type.now in
-    let fill = c.args.fill.now in
-    let form = c.requires.form in
-    let each = count_is (product shape) c.in_ok-each.each form.inner_counted c.in_ok-each.ensures.answer in
-    let smaller = inner_smaller shape sizes (subst (All (λ size. 0 < size)) c.as_slice.ensures.value c.as_slice.ensures.positive) (subst (All (λ size. 0 < size)) c.as_slice-2.ensures.value c.as_slice-2.ensures.positive) form.divided in
-    let room = room_inside shape sizes type fill (product shape) form smaller in
-    record {
-      is =
-          let p = err_from_is_err_and c.from_residual-in_err-blank.result c.from_residual-in_err-blank.ensures.1 in
-          rw (p.1, p.2) (λ ne. absurd (fill_there type fill (product shape) c.in_ok-each.each c.in_err-blank.field-0.0 each form.filling room (c.in_err-blank.ensures.exact.is ne)));
-      no_fault = search rules;
-    }
-
-pub sharding::shard_contents::read_contents-returns-in_err-contents-clause-answer : goal.sharding::shard_contents::read_contents-returns-in_err-contents-clause-answer
-sharding::shard_contents::read_contents-returns-in_err-contents-clause-answer g t c =
-    let type = c.args.data_type.now in
-    let fill = c.args.fill.now in
-    let form = c.requires.form in
-    let room = room_inside c.args.inner.now c.args.shape.now type fill 0 form (omega arith) in
-    record {
-      is =
-          let p = err_from_is_err_and c.from_residual-in_err-contents.result c.from_residual-in_err-contents.ensures.1 in
-          rw (p.1, p.2) (λ ne. absurd (fill_there type fill 0 0 c.in_err-contents.field-0.0 refl form.filling room (c.in_err-contents.ensures.exact.is ne)));
-      no_fault = search rules;
-    }
-
-pub sharding::shard_contents::read_contents-returns-in_err-contents-2-clause-answer : goal.sharding::shard_contents::read_contents-returns-in_err-contents-2-clause-answer
-sharding::shard_contents::read_contents-returns-in_err-contents-2-clause-answer g t c =
-    let f = g.B.BytesToBytesCodecTraits.functions in
-    let chain = plain_chain c.args.chain.now in
-    let numbers = c.args.numbers.now in
-    let number = c.loop-number.number in
-    let inside : number * 2 + 1 < length numbers = omega arith in
-    record {
-      is =
-          let p = err_from_is_err_and c.from_residual-in_err-contents-2.result c.from_residual-in_err-contents-2.ensures.1 in
-          rw (p.1, p.2) (λ ne. append_refused (chain_chunk f chain) c.args.inner.now c.args.data_type.now c.args.fill.now c.args.value.now numbers number c.loop-number.count (get_or numbers (number * 2) 0, get_or numbers (number * 2 + 1) 0) c.loop-number.contents _ c.in_err-contents-2.field-0.0 c.loop-number.invariant.walk inside refl (c.in_err-contents-2.ensures.answer.is ne));
-      no_fault = search rules;
-    }
-
-pub sharding::shard_contents::read_contents-loop-number-preserved : goal.sharding::shard_contents::read_contents-loop-number-preserved
-sharding::shard_contents::read_contents-loop-number-preserved g t c =
-    let f = g.B.BytesToBytesCodecTraits.functions in
-    let chain = plain_chain c.args.chain.now in
-    let shape = c.args.inner.now in
-    let type = c.args.data_type.now in
-    let fill = c.args.fill.now in
-    let numbers = c.args.numbers.now in
-    let number = c.loop-number.number in
-    let each = count_is (product shape) c.in_ok-each.each c.requires.form.inner_counted c.in_ok-each.ensures.answer in
-    let inside : number * 2 + 1 < length numbers = omega arith in
-    record {
-      walk = append_goes_on (chain_chunk f chain) shape type fill c.args.value.now numbers number c.loop-number.count c.in_ok-each.each (get_or numbers (number * 2) 0, get_or numbers (number * 2 + 1) 0) c.loop-number.contents c.in_ok-contents-2.contents _ (answers_long f chain shape type fill) each c.loop-number.invariant.walk inside refl c.in_ok-contents-2.ensures.answer.is;
-      tight = c.in_ok-contents-2.ensures.tight;
-    }
-
-pub sharding::shard_contents::read_contents-overflow_add-count : goal.sharding::shard_contents::read_contents-overflow_add-count
-sharding::shard_contents::read_contents-overflow_add-count g t c =
-    let shape = c.args.inner.now in
-    let sizes = c.args.shape.now in
-    let form = c.requires.form in
-    let number = c.loop-number.number in
-    let each = count_is (product shape) c.in_ok-each.each form.inner_counted c.in_ok-each.ensures.answer in
-    let below : number < inner_chunk_count shape sizes = omega (arith, c.requires.len) in
-    let more = more_counted shape sizes number c.loop-number.count c.in_ok-each.each form.divided c.loop-number.invariant.walk.counted each below in
-    omega (arith, more, form.small)
-
-pub sharding::shard_contents::read_contents-returns-clause-answer : goal.sharding::shard_contents::read_contents-returns-clause-answer
-sharding::shard_contents::read_contents-returns-clause-answer g t c =
-    let f = g.B.BytesToBytesCodecTraits.functions in
-    let chain = plain_chain c.args.chain.now in
-    let numbers = c.args.numbers.now in
-    let number = c.loop-number.number in
-    let done : length numbers ≤ number * 2 = omega (arith, c.requires.len) in
-    record {
-      is = append_ends (chain_chunk f chain) c.args.inner.now c.args.data_type.now c.args.fill.now c.args.value.now numbers number c.loop-number.count c.loop-number.contents _ c.loop-number.invariant.walk done;
-      no_fault = refl;
-    }
-
-pub sharding::shard_contents::read_joined-returns-clause-answer : goal.sharding::shard_contents::read_joined-returns-clause-answer
-sharding::shard_contents::read_joined-returns-clause-answer g t c =
-    let f = g.B.BytesToBytesCodecTraits.functions in
-    let chain = plain_chain c.args.chain.now in
-    let shape = c.args.inner.now in
-    let sizes = c.args.shape.now in
-    let type = c.args.data_type.now in
-    let fill = c.args.fill.now in
-    let numbers = c.args.numbers.now in
-    let form = c.requires.form in
-    let count = count_is (product sizes) c.in_ok-count.count form.counted c.in_ok-count.ensures.answer in
-    let positive = subst (All (λ size. 0 < size)) c.as_slice.ensures.value c.as_slice.ensures.positive in
-    let many : length numbers / 2 ≡ inner_chunk_count shape sizes = omega (arith, c.requires.len) in
-    let held = fill_held type fill (product sizes) c.in_ok-count.count c.in_ok-filled.filled count form.filling form.room c.in_ok-filled.ensures.exact.is in
-    let places = ap joined_runs c.as_slice-2.ensures.value ∙ sym (ok_is _ (places_in c.in_ok-runs.runs) c.in_ok-runs.ensures.places.is) ∙ ap (places_from shape sizes 0) many in
-    joined_answered (chain_chunk f chain) shape sizes type fill c.args.value.now (spans_of numbers) c.in_ok-count.count (joined_runs c.as_slice-2.result.now) c.in_ok-contents.contents c.in_ok-filled.filled c.update_runs.result (is_cut shape sizes positive form.divided) (answers_long f chain shape type fill) (spans_long (inner_chunk_count shape sizes) numbers c.requires.len)
-    c.in_ok-contents.ensures.answer.is count held places c.update_runs.ensures.answer
-
 pub sharding::shard_decode::shard_decode-returns-clause-answer : goal.sharding::shard_decode::shard_decode-returns-clause-answer
 sharding::shard_decode::shard_decode-returns-clause-answer g t c =
     let o = out-ShardingCodec _ c.args.codec.now in
@@ -671,4 +563,285 @@ sharding::shard_rows::read_rows-joined_rows-requires g t c =
         all = ap (λ (xs : List (CowSlice ℕ Global)). length xs) c.as_slice-3.ensures.value ∙ c.in_ok-contents.ensures.all ∙ halved (inner_chunk_count shape sizes) (length c.args.numbers.now) c.requires.len;
         whole = subst (All (λ (x : CowSlice ℕ Global). validity type (product shape) (flen (raw_of x)) ≡ Ok tt)) (sym c.as_slice-3.ensures.value) c.in_ok-contents.ensures.whole;
       };
+    }
+
+-- ---- band by band
+
+pub sharding::shard_bands::read_elements-returns-then-not-has_span : goal.sharding::shard_bands::read_elements-returns-then-not-has_span
+sharding::shard_bands::read_elements-returns-then-not-has_span g t c =
+    let decode = chain_chunk g.B.BytesToBytesCodecTraits.functions (plain_chain c.args.chain.now) in
+    let e : is_stored c.args.span ≡ false = search rules in
+    let read = blank_cloned decode c.args.inner.now c.args.data_type.now c.args.fill.now c.args.value.now c.args.span (is_stored c.args.span) c.args.blank.now c.clone.result e c.requires.missing c.requires.blank_tight c.clone.ensures.copy in
+    record { answer = read.answer; whole = read.whole; tight = read.tight }
+
+pub sharding::shard_bands::read_elements-returns : goal.sharding::shard_bands::read_elements-returns
+sharding::shard_bands::read_elements-returns g t c =
+    let f = g.B.BytesToBytesCodecTraits.functions in
+    let type = c.args.data_type.now in
+    let decode = chain_chunk f (plain_chain c.args.chain.now) in
+    let e : is_stored c.args.span ≡ true = search rules in
+    let read = inner_read f (plain_chain c.args.chain.now) c.args.inner.now type c.args.fill.now c.args.value.now c.in_ok-bytes_at.field-0.now c.args.span c.in_ok-content.content (sym c.in_ok-bytes_at.ensures.answer) c.in_ok-content.ensures.exact.is in
+    record {
+      answer = record { is = ap (λ b. inner_chunk_at b decode c.args.inner.now type c.args.fill.now c.args.value.now c.args.span) e ∙ read.0; no_fault = refl };
+      whole = read.1;
+      tight = c.in_ok-content.ensures.tight;
+    }
+
+pub sharding::shard_bands::read_band-loop-number-init : goal.sharding::shard_bands::read_band-loop-number-init
+sharding::shard_bands::read_band-loop-number-init g t c =
+    let decode = chain_chunk g.B.BytesToBytesCodecTraits.functions (plain_chain c.args.chain.now) in
+    record {
+      walk = reads_begin decode c.args.inner.now c.args.data_type.now c.args.fill.now c.args.value.now c.args.numbers.now _ (ap (chunks_of c.args.data_type.now (product c.args.inner.now)) c.in_ok-contents.ensures.items);
+      all = search rules;
+      whole = search rules;
+      tight = search rules;
+    }
+
+pub sharding::shard_bands::read_band-loop-number-preserved : goal.sharding::shard_bands::read_band-loop-number-preserved
+sharding::shard_bands::read_band-loop-number-preserved g t c =
+    let decode = chain_chunk g.B.BytesToBytesCodecTraits.functions (plain_chain c.args.chain.now) in
+    let numbers = c.args.numbers.now in
+    let number = c.loop-number.number in
+    let type = c.args.data_type.now in
+    let count = product c.args.inner.now in
+    let inside : number * 2 + 1 < length numbers = omega arith in
+    let old = c.loop-number.contents.items in
+    let content = c.in_ok-content.content in
+    let more = chunks_on type count old _ content c.in_ok-push.ensures.items in
+    record {
+      walk = reads_on decode c.args.inner.now type c.args.fill.now c.args.value.now numbers number (get_or numbers (number * 2) 0, get_or numbers (number * 2 + 1) 0) (chunks_of type count old) c.loop-number.invariant.walk inside refl (elements type count content) _ c.in_ok-content.ensures.answer.is more;
+      all = long_more old _ content number c.in_ok-push.ensures.items c.loop-number.invariant.all;
+      whole = whole_more (λ (x : Held). validity type count x ≡ Ok tt) old _ content c.in_ok-push.ensures.items c.loop-number.invariant.whole c.in_ok-content.ensures.whole;
+      tight = whole_more (IsTight type) old _ content c.in_ok-push.ensures.items c.loop-number.invariant.tight c.in_ok-content.ensures.tight;
+    }
+
+pub sharding::shard_bands::read_band-returns : goal.sharding::shard_bands::read_band-returns
+sharding::shard_bands::read_band-returns g t c =
+    let decode = chain_chunk g.B.BytesToBytesCodecTraits.functions (plain_chain c.args.chain.now) in
+    let end : c.loop-number.number ≡ length c.args.numbers.now / 2 = omega arith in
+    record {
+      answer = record { is = reads_end decode c.args.inner.now c.args.data_type.now c.args.fill.now c.args.value.now c.args.numbers.now c.loop-number.number _ c.loop-number.invariant.walk end; no_fault = refl };
+      all = c.loop-number.invariant.all ∙ end;
+      whole = c.loop-number.invariant.whole;
+      tight = c.loop-number.invariant.tight;
+    }
+
+pub sharding::shard_bands::read_band-returns-in_err-content : goal.sharding::shard_bands::read_band-returns-in_err-content
+sharding::shard_bands::read_band-returns-in_err-content g t c =
+    let decode = chain_chunk g.B.BytesToBytesCodecTraits.functions (plain_chain c.args.chain.now) in
+    let numbers = c.args.numbers.now in
+    let number = c.loop-number.number in
+    let inside : number * 2 + 1 < length numbers = omega arith in
+    record {
+      answer = record {
+        is =
+            let p = err_from_is_err_and c.from_residual-in_err-content.result c.from_residual-in_err-content.ensures.1 in
+            rw (p.1, p.2) (λ ne. reads_refused decode c.args.inner.now c.args.data_type.now c.args.fill.now c.args.value.now numbers number (get_or numbers (number * 2) 0, get_or numbers (number * 2 + 1) 0) _ c.loop-number.invariant.walk inside refl c.in_err-content.field-0.0 (c.in_err-content.ensures.answer.is ne));
+        no_fault = search rules;
+      };
+      all = search rules;
+      whole = search rules;
+      tight = search rules;
+    }
+
+pub sharding::shard_bands::read_bands-band_sizes-requires : goal.sharding::shard_bands::read_bands-band_sizes-requires
+sharding::shard_bands::read_bands-band_sizes-requires g t c =
+    let f = g.B.BytesToBytesCodecTraits.functions in
+    let chain = plain_chain c.args.chain.now in
+    let inner : List ℕ = c.args.inner.now in
+    let shape : List ℕ = c.args.shape.now in
+    let band : List ℕ = band_of inner shape in
+    let type = c.args.data_type.now in
+    let fill = c.args.fill.now in
+    let numbers : List ℕ = c.args.numbers.now in
+    let form = c.requires.form in
+    let parts_positive : All (λ part. 0 < part) inner = subst (All (λ part. 0 < part)) c.as_slice.ensures.value c.as_slice.ensures.positive in
+    let positive : All (λ part. 0 < part) shape = subst (All (λ part. 0 < part)) c.as_slice-2.ensures.value c.as_slice-2.ensures.positive in
+    record {
+      form = band_form inner shape c.in_ok-band.band type fill form c.in_ok-band.ensures.value;
+      all = halved (inner_chunk_count inner shape) (length numbers) c.requires.len;
+    }
+
+pub sharding::shard_bands::read_bands-loop-number-init : goal.sharding::shard_bands::read_bands-loop-number-init
+sharding::shard_bands::read_bands-loop-number-init g t c =
+    let f = g.B.BytesToBytesCodecTraits.functions in
+    let chain = plain_chain c.args.chain.now in
+    let inner : List ℕ = c.args.inner.now in
+    let shape : List ℕ = c.args.shape.now in
+    let band : List ℕ = band_of inner shape in
+    let type = c.args.data_type.now in
+    let fill = c.args.fill.now in
+    let numbers : List ℕ = c.args.numbers.now in
+    let form = c.requires.form in
+    let parts_positive : All (λ part. 0 < part) inner = subst (All (λ part. 0 < part)) c.as_slice.ensures.value c.as_slice.ensures.positive in
+    let positive : All (λ part. 0 < part) shape = subst (All (λ part. 0 < part)) c.as_slice-2.ensures.value c.as_slice-2.ensures.positive in
+    record {
+      walk = bands_begin (chain_chunk f chain) inner band (inner_chunk_count inner band) type fill c.args.value.now numbers c.in_ok-elements.elements c.in_ok-elements.ensures.answer.is;
+      tight = c.in_ok-elements.ensures.tight;
+    }
+
+pub sharding::shard_bands::read_bands-band_numbers-part-requires : goal.sharding::shard_bands::read_bands-band_numbers-part-requires
+sharding::shard_bands::read_bands-band_numbers-part-requires g t c =
+    let f = g.B.BytesToBytesCodecTraits.functions in
+    let chain = plain_chain c.args.chain.now in
+    let inner : List ℕ = c.args.inner.now in
+    let shape : List ℕ = c.args.shape.now in
+    let band : List ℕ = band_of inner shape in
+    let type = c.args.data_type.now in
+    let fill = c.args.fill.now in
+    let numbers : List ℕ = c.args.numbers.now in
+    let form = c.requires.form in
+    let parts_positive : All (λ part. 0 < part) inner = subst (All (λ part. 0 < part)) c.as_slice.ensures.value c.as_slice.ensures.positive in
+    let positive : All (λ part. 0 < part) shape = subst (All (λ part. 0 < part)) c.as_slice-2.ensures.value c.as_slice-2.ensures.positive in
+    let of_band = band_form inner shape band type fill form refl in
+    let facts = band_facts inner shape band of_band parts_positive positive in
+    let per : ℕ = inner_chunk_count inner band in
+    let number : ℕ = c.loop-number.number in
+    let are = c.in_ok-sizes.ensures.answer.is in
+    let below : number < band_count inner shape = omega (arith, are.count_is) in
+    let inside = band_inside number per (band_count inner shape) (inner_chunk_count inner shape) numbers below facts.all c.requires.len in
+    record { inside = subst (λ n. number * n * 2 + n * 2 ≤ length numbers) (sym are.chunks_are) inside }
+
+pub sharding::shard_bands::read_bands-join_band-requires : goal.sharding::shard_bands::read_bands-join_band-requires
+sharding::shard_bands::read_bands-join_band-requires g t c =
+    let f = g.B.BytesToBytesCodecTraits.functions in
+    let chain = plain_chain c.args.chain.now in
+    let inner : List ℕ = c.args.inner.now in
+    let shape : List ℕ = c.args.shape.now in
+    let band : List ℕ = band_of inner shape in
+    let type = c.args.data_type.now in
+    let fill = c.args.fill.now in
+    let numbers : List ℕ = c.args.numbers.now in
+    let form = c.requires.form in
+    let parts_positive : All (λ part. 0 < part) inner = subst (All (λ part. 0 < part)) c.as_slice.ensures.value c.as_slice.ensures.positive in
+    let positive : All (λ part. 0 < part) shape = subst (All (λ part. 0 < part)) c.as_slice-2.ensures.value c.as_slice-2.ensures.positive in
+    let of_band = band_form inner shape band type fill form refl in
+    let facts = band_facts inner shape band of_band parts_positive positive in
+    let per : ℕ = inner_chunk_count inner band in
+    let number : ℕ = c.loop-number.number in
+    let are = c.in_ok-sizes.ensures.answer.is in
+    let below : number < band_count inner shape = omega (arith, are.count_is) in
+    let inside = band_inside number per (band_count inner shape) (inner_chunk_count inner shape) numbers below facts.all c.requires.len in
+    let part_is : c.band_numbers-part.result.now ≡ take (per * 2) (drop (number * per * 2) numbers) = c.band_numbers-part.ensures.value ∙ ap (λ n. take (n * 2) (drop (number * n * 2) numbers)) are.chunks_are in
+    let many : length c.in_ok-contents.contents.items ≡ per = c.in_ok-contents.ensures.all ∙ band_long number per numbers c.band_numbers-part.result.now inside part_is in
+    let band_is = c.in_ok-band.ensures.value in
+    record {
+      form = band_form inner shape c.in_ok-band.band type fill form band_is;
+      all = ap (λ (xs : List Held). length xs) c.as_slice-in-loop-number.ensures.value ∙ many ∙ ap (inner_chunk_count inner) (sym band_is);
+      joinable = joinable_more type c.loop-number.done (product inner) c.loop-number.elements c.as_slice-in-loop-number.result.now c.in_ok-contents.contents.items c.loop-number.invariant.walk.valid c.loop-number.invariant.tight c.as_slice-in-loop-number.ensures.value c.in_ok-contents.ensures.whole c.in_ok-contents.ensures.tight;
+      counted = subst (λ (ns : List ℕ). c.loop-number.done + product ns < 2 ^ 64) (sym band_is) (band_counted inner shape band number c.loop-number.done of_band facts below c.loop-number.invariant.walk.counted);
+    }
+
+pub sharding::shard_bands::read_bands-overflow_add-done : goal.sharding::shard_bands::read_bands-overflow_add-done
+sharding::shard_bands::read_bands-overflow_add-done g t c =
+    let f = g.B.BytesToBytesCodecTraits.functions in
+    let chain = plain_chain c.args.chain.now in
+    let inner : List ℕ = c.args.inner.now in
+    let shape : List ℕ = c.args.shape.now in
+    let band : List ℕ = band_of inner shape in
+    let type = c.args.data_type.now in
+    let fill = c.args.fill.now in
+    let numbers : List ℕ = c.args.numbers.now in
+    let form = c.requires.form in
+    let parts_positive : All (λ part. 0 < part) inner = subst (All (λ part. 0 < part)) c.as_slice.ensures.value c.as_slice.ensures.positive in
+    let positive : All (λ part. 0 < part) shape = subst (All (λ part. 0 < part)) c.as_slice-2.ensures.value c.as_slice-2.ensures.positive in
+    let of_band = band_form inner shape band type fill form refl in
+    let facts = band_facts inner shape band of_band parts_positive positive in
+    let per : ℕ = inner_chunk_count inner band in
+    let number : ℕ = c.loop-number.number in
+    let are = c.in_ok-sizes.ensures.answer.is in
+    let below : number < band_count inner shape = omega (arith, are.count_is) in
+    let fits = band_counted inner shape band number c.loop-number.done of_band facts below c.loop-number.invariant.walk.counted in
+    omega (arith, fits, are.elements_are)
+
+pub sharding::shard_bands::read_bands-loop-number-preserved : goal.sharding::shard_bands::read_bands-loop-number-preserved
+sharding::shard_bands::read_bands-loop-number-preserved g t c =
+    let f = g.B.BytesToBytesCodecTraits.functions in
+    let chain = plain_chain c.args.chain.now in
+    let inner : List ℕ = c.args.inner.now in
+    let shape : List ℕ = c.args.shape.now in
+    let band : List ℕ = band_of inner shape in
+    let type = c.args.data_type.now in
+    let fill = c.args.fill.now in
+    let numbers : List ℕ = c.args.numbers.now in
+    let form = c.requires.form in
+    let parts_positive : All (λ part. 0 < part) inner = subst (All (λ part. 0 < part)) c.as_slice.ensures.value c.as_slice.ensures.positive in
+    let positive : All (λ part. 0 < part) shape = subst (All (λ part. 0 < part)) c.as_slice-2.ensures.value c.as_slice-2.ensures.positive in
+    let of_band = band_form inner shape band type fill form refl in
+    let facts = band_facts inner shape band of_band parts_positive positive in
+    let per : ℕ = inner_chunk_count inner band in
+    let number : ℕ = c.loop-number.number in
+    let are = c.in_ok-sizes.ensures.answer.is in
+    let below : number < band_count inner shape = omega (arith, are.count_is) in
+    let inside = band_inside number per (band_count inner shape) (inner_chunk_count inner shape) numbers below facts.all c.requires.len in
+    let part_is : c.band_numbers-part.result.now ≡ take (per * 2) (drop (number * per * 2) numbers) = c.band_numbers-part.ensures.value ∙ ap (λ n. take (n * 2) (drop (number * n * 2) numbers)) are.chunks_are in
+    let many : length c.in_ok-contents.contents.items ≡ per = c.in_ok-contents.ensures.all ∙ band_long number per numbers c.band_numbers-part.result.now inside part_is in
+    let chunks = chunks_of type (product inner) c.in_ok-contents.contents.items in
+    let long : length chunks ≡ per = length-map c.in_ok-contents.contents.items (elements type (product inner)) ∙ many in
+    let given : AnswersBy {E = CodecError} memory (Holds type) (Ok c.in_ok-elements-2.elements) (Ok (elements type c.loop-number.done c.loop-number.elements ++ part_elements chunks 0 0 inner band)) =
+    subst (λ (ns : List ℕ). AnswersBy {E = CodecError} memory (Holds type) (Ok c.in_ok-elements-2.elements) (Ok (elements type c.loop-number.done c.loop-number.elements ++ part_elements chunks 0 0 inner ns))) c.in_ok-band.ensures.value
+    (subst (λ (xs : List Held). AnswersBy {E = CodecError} memory (Holds type) (Ok c.in_ok-elements-2.elements) (Ok (elements type c.loop-number.done c.loop-number.elements ++ part_elements (chunks_of type (product inner) xs) 0 0 inner c.in_ok-band.band))) c.as_slice-in-loop-number.ensures.value c.in_ok-elements-2.ensures.answer.is) in
+    let next = bands_on (chain_chunk f chain) inner band per type fill c.args.value.now numbers number c.loop-number.done c.loop-number.elements c.loop-number.invariant.walk inside c.band_numbers-part.result.now part_is chunks c.in_ok-elements-2.elements c.in_ok-contents.ensures.answer.is long (is_cut inner band parts_positive facts.divided) refl facts.size given in
+    let done : c.loop-number.done + per * product inner ≡ c.loop-number.done + c.in_ok-sizes.sizes.elements = ap (λ n. c.loop-number.done + n) (sym (are.elements_are ∙ facts.size)) in
+    record {
+      walk = subst (λ n. BandsTo (chain_chunk f chain) inner band per type fill c.args.value.now numbers (number + 1) n c.in_ok-elements-2.elements) done next;
+      tight = c.in_ok-elements-2.ensures.tight;
+    }
+
+pub sharding::shard_bands::read_bands-returns-in_err-contents : goal.sharding::shard_bands::read_bands-returns-in_err-contents
+sharding::shard_bands::read_bands-returns-in_err-contents g t c =
+    let f = g.B.BytesToBytesCodecTraits.functions in
+    let chain = plain_chain c.args.chain.now in
+    let inner : List ℕ = c.args.inner.now in
+    let shape : List ℕ = c.args.shape.now in
+    let band : List ℕ = band_of inner shape in
+    let type = c.args.data_type.now in
+    let fill = c.args.fill.now in
+    let numbers : List ℕ = c.args.numbers.now in
+    let form = c.requires.form in
+    let parts_positive : All (λ part. 0 < part) inner = subst (All (λ part. 0 < part)) c.as_slice.ensures.value c.as_slice.ensures.positive in
+    let positive : All (λ part. 0 < part) shape = subst (All (λ part. 0 < part)) c.as_slice-2.ensures.value c.as_slice-2.ensures.positive in
+    let of_band = band_form inner shape band type fill form refl in
+    let facts = band_facts inner shape band of_band parts_positive positive in
+    let per : ℕ = inner_chunk_count inner band in
+    let number : ℕ = c.loop-number.number in
+    let are = c.in_ok-sizes.ensures.answer.is in
+    let below : number < band_count inner shape = omega (arith, are.count_is) in
+    let inside = band_inside number per (band_count inner shape) (inner_chunk_count inner shape) numbers below facts.all c.requires.len in
+    let part_is : c.band_numbers-part.result.now ≡ take (per * 2) (drop (number * per * 2) numbers) = c.band_numbers-part.ensures.value ∙ ap (λ n. take (n * 2) (drop (number * n * 2) numbers)) are.chunks_are in
+    record {
+      answer = record {
+        is =
+            let p = err_from_is_err_and c.from_residual-in_err-contents.result c.from_residual-in_err-contents.ensures.1 in
+            rw (p.1, p.2) (λ ne. ap (λ (r : Result (List Chunk) CodecError). r >>= (λ inner_chunks. ok (joined_inner_chunks inner shape inner_chunks))) (bands_refused (chain_chunk f chain) inner band per type fill c.args.value.now numbers number c.loop-number.done c.loop-number.elements c.loop-number.invariant.walk inside c.band_numbers-part.result.now part_is c.in_err-contents.field-0.0 (c.in_err-contents.ensures.answer.is ne)));
+        no_fault = search rules;
+      };
+      tight = search rules;
+    }
+
+pub sharding::shard_bands::read_bands-returns : goal.sharding::shard_bands::read_bands-returns
+sharding::shard_bands::read_bands-returns g t c =
+    let f = g.B.BytesToBytesCodecTraits.functions in
+    let chain = plain_chain c.args.chain.now in
+    let inner : List ℕ = c.args.inner.now in
+    let shape : List ℕ = c.args.shape.now in
+    let band : List ℕ = band_of inner shape in
+    let type = c.args.data_type.now in
+    let fill = c.args.fill.now in
+    let numbers : List ℕ = c.args.numbers.now in
+    let form = c.requires.form in
+    let parts_positive : All (λ part. 0 < part) inner = subst (All (λ part. 0 < part)) c.as_slice.ensures.value c.as_slice.ensures.positive in
+    let positive : All (λ part. 0 < part) shape = subst (All (λ part. 0 < part)) c.as_slice-2.ensures.value c.as_slice-2.ensures.positive in
+    let of_band = band_form inner shape band type fill form refl in
+    let facts = band_facts inner shape band of_band parts_positive positive in
+    let per : ℕ = inner_chunk_count inner band in
+    let number : ℕ = c.loop-number.number in
+    let are = c.in_ok-sizes.ensures.answer.is in
+    let end : number ≡ band_count inner shape = omega (arith, are.count_is) in
+    record {
+      answer = record {
+        is = bands_end (chain_chunk f chain) inner shape per type fill c.args.value.now numbers number c.loop-number.done c.loop-number.elements c.loop-number.invariant.walk parts_positive form.divided refl end c.requires.len;
+        no_fault = refl;
+      };
+      tight = c.loop-number.invariant.tight;
     }

@@ -1,17 +1,17 @@
 use Rattle.std.proofs.Common.{◌≡◌, All, Ok, length}
-use Rattle.std.specs.List.{flat_map}
 use Rattle.zarrs_array_bytes.specs.Held.{flen, raw_of}
 use Rattle.zarrs_array_bytes.specs.Validity.{validity}
 use Rattle.zarrs_chunk.specs.ChunkShape.{product}
 use Rattle.zarrs_chain.specs.sharding.ShardRows.{chunks_in}
 use Rattle.zarrs_chain.proofs.InnerBytes.{ReadsTo}
+use Rattle.zarrs_chain.proofs.ShardBands.{BandsTo}
+use Rattle.zarrs_chain.specs.sharding.ShardBands.{band_of, chunks_of}
 use Rattle.zarrs_array_bytes.specs.Tight.{IsTight}
 use Rattle.zarrs_chunk.specs.Answer.{◌>>=◌}
 use Rattle.zarrs_chain_meaning.specs.CodecMeaning.{chain_chunk}
-use Rattle.zarrs_chain_meaning.specs.sharding.InnerChunks.{joined_inner_chunks}
+use Rattle.zarrs_chain_meaning.specs.sharding.InnerChunks.{inner_chunk_count, joined_inner_chunks}
 use Rattle.zarrs_chain_meaning.specs.sharding.Sharding.{inner_chunks_at, spans_of}
 use Rattle.zarrs_chain.specs.ChainView.{plain_chain}
-use Rattle.zarrs_chain.proofs.ShardContents.{AppendsTo}
 use Rattle.zarrs_chain.proofs.ShardReading.{WalksTo}
 use Rattle.zarrs_chain.proofs.+decode.Given as goal
 
@@ -32,10 +32,20 @@ invariant-sharding::shard_rows::read_all_bytes-loop-number g l =
       whole : All (λ content. validity l.data_type (product l.inner) (flen (raw_of content)) ≡ Ok tt) l.contents.items;
     }
 
-abbrev pub invariant-sharding::shard_contents::read_contents-loop-number : goal.invariant-sharding::shard_contents::read_contents-loop-number
-invariant-sharding::shard_contents::read_contents-loop-number g l =
+abbrev pub invariant-sharding::shard_bands::read_band-loop-number : goal.invariant-sharding::shard_bands::read_band-loop-number
+invariant-sharding::shard_bands::read_band-loop-number g l =
     let decode = chain_chunk g.B.BytesToBytesCodecTraits.functions (plain_chain l.chain) in
     record {
-      walk : AppendsTo decode l.inner l.data_type l.fill l.value l.numbers l.number l.count l.contents (inner_chunks_at decode l.inner l.data_type l.fill l.value (spans_of l.numbers) >>= λ inner_chunks. Ok (flat_map (λ inner_chunk. inner_chunk) inner_chunks));
-      tight : IsTight l.data_type l.contents;
+      walk : ReadsTo decode l.inner l.data_type l.fill l.value l.numbers l.number (chunks_of l.data_type (product l.inner) l.contents.items);
+      all : length l.contents.items ≡ l.number;
+      whole : All (λ content. validity l.data_type (product l.inner) content ≡ Ok tt) l.contents.items;
+      tight : All (IsTight l.data_type) l.contents.items;
+    }
+
+abbrev pub invariant-sharding::shard_bands::read_bands-loop-number : goal.invariant-sharding::shard_bands::read_bands-loop-number
+invariant-sharding::shard_bands::read_bands-loop-number g l =
+    let decode = chain_chunk g.B.BytesToBytesCodecTraits.functions (plain_chain l.chain) in
+    record {
+      walk : BandsTo decode l.inner (band_of l.inner l.shape) (inner_chunk_count l.inner (band_of l.inner l.shape)) l.data_type l.fill l.value l.numbers l.number l.done l.elements;
+      tight : IsTight l.data_type l.elements;
     }

@@ -18,15 +18,18 @@ use Rattle.zarrs_chain_meaning.specs.sharding.Sharding.{Span, inner_chunk_at, in
 use Rattle.zarrs_chain.specs.ChainView.{plain_chain}
 use Rattle.zarrs_chain.specs.declared.codec_chain.CodecChain.{CodecChain}
 
--- the bytes of the element at a place of a part of the chunk; the part has the last axes, and begins in the inner chunk of a number, at the element `first` of it
-abbrev pub element_bytes : ℕ → List (List ℕ) → ℕ → ℕ → List ℕ → List ℕ → ℕ → List ℕ
-element_bytes size contents number first shape sizes place =
-    piece size (get_or contents (number + inner_chunk_of shape sizes place) []) (first + place_inside shape sizes place)
+-- what is found for each place of a part of the chunk, row by row; the part has the last axes, begins in the inner chunk of a number, at the element `first` of it, and `found` gives what an inner chunk's element has
+abbrev pub found_in_part : {A : Type 0} → (ℕ → ℕ → List A) → ℕ → ℕ → List ℕ → List ℕ → List A
+found_in_part found number first shape sizes =
+    flat_map (λ place. found (number + inner_chunk_of shape sizes place) (first + place_inside shape sizes place)) (range_with_len 0 (product sizes))
+
+-- the bytes of the element of an inner chunk
+abbrev pub element_bytes : ℕ → List (List ℕ) → ℕ → ℕ → List ℕ
+element_bytes size contents number inside = piece size (get_or contents number []) inside
 
 -- the bytes of all elements of such a part, row by row
 abbrev pub part_bytes : ℕ → List (List ℕ) → ℕ → ℕ → List ℕ → List ℕ → List ℕ
-part_bytes size contents number first shape sizes =
-    flat_map (element_bytes size contents number first shape sizes) (range_with_len 0 (product sizes))
+part_bytes size contents number first shape sizes = found_in_part (element_bytes size contents) number first shape sizes
 
 -- Such a part is of `count` inner chunks from that of a number on, and has `each` elements of each, from `first` on; all of them are there.
 pub record IsPart (size : ℕ) (contents : List (List ℕ)) (number count first each : ℕ) (shape sizes : List ℕ) : Type 0 where

@@ -1,7 +1,7 @@
 -- What is read and written of a shard, inner chunk by inner chunk.
 use Rattle.std.specs.Prelude.{ℕ, suc, ◌-◌, ◌<◌, nat_eq, if◌then◌else◌, Bool, true, false, Option, Some, None, List, [], ◌∷◌, ◌++◌, length, drop, Result, Ok, IsOk}
 use Rattle.std.specs.Cmp.Lexicographic.{pointwise}
-use Rattle.std.specs.List.{flat_map, list_all}
+use Rattle.std.specs.List.{list_all}
 use Rattle.zarrs_array_bytes.specs.Elements.{elements, piece, select}
 use Rattle.zarrs_array_bytes.specs.Held.{Held}
 use Rattle.zarrs_array_bytes.specs.Pieces.{pieces_at}
@@ -126,15 +126,3 @@ ReadsNextInner f chain shape sizes type fill value number span held result =
 abbrev pub ReadsAll : {B : Type 0} → BytesCodecs B → CodecChain B → List ℕ → List ℕ → ElementType → List ℕ → List ℕ → List ℕ → Result Held CodecError → Type 0
 ReadsAll f chain shape sizes type fill value numbers result =
     GivesBy (Holds type) result (inner_chunks_at (chain_chunk f (plain_chain chain)) shape type fill value (spans_of numbers) >>= λ inner_chunks. Ok (joined_inner_chunks shape sizes inner_chunks))
-
--- ---- reading the elements of all inner chunks first
-
--- a container is given of so many elements, and behind them those of an inner chunk, as the value has it or of fill elements
-abbrev pub AppendsInner : {B : Type 0} → BytesCodecs B → CodecChain B → List ℕ → ElementType → List ℕ → List ℕ → Bool → Span → ℕ → Held → Result Held CodecError → Type 0
-AppendsInner f chain shape type fill value stored span count held result =
-    GivesBy (Holds type) result (inner_chunk_at stored (chain_chunk f (plain_chain chain)) shape type fill value span >>= λ inner_chunk. Ok (elements type count held ++ inner_chunk))
-
--- a container is given of the elements of all inner chunks that these numbers of an index say, one inner chunk after another
-abbrev pub ReadsContents : {B : Type 0} → BytesCodecs B → CodecChain B → List ℕ → ElementType → List ℕ → List ℕ → List ℕ → Result Held CodecError → Type 0
-ReadsContents f chain shape type fill value numbers result =
-    GivesBy (Holds type) result (inner_chunks_at (chain_chunk f (plain_chain chain)) shape type fill value (spans_of numbers) >>= λ inner_chunks. Ok (flat_map (λ inner_chunk. inner_chunk) inner_chunks))

@@ -36,7 +36,7 @@ fn append_between(
 }
 
 /// Whether no axis behind the first is divided.
-fn is_row(shape: &[u64], sizes: &[u64]) -> bool
+pub(crate) fn is_row(shape: &[u64], sizes: &[u64]) -> bool
     requires axes { length shape.now ≡ length sizes.now }
     ensures value { result ≡ pointwise nat_eq (drop 1 shape.now) (drop 1 sizes.now) }
 {

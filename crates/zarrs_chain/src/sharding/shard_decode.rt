@@ -12,7 +12,7 @@ ghost use Rattle.zarrs_chain.specs.sharding.ShardWalk.{ReplacesInner, ReadsInner
 use crate::codec_chain::CodecChain;
 use crate::decode::chain_decode;
 use crate::sharding::kept_bytes::keeps_bytes;
-use crate::sharding::shard_contents::read_joined;
+use crate::sharding::shard_bands::read_bands;
 use crate::sharding::shard_form::shard_form;
 use crate::sharding::shard_index::{index_decode, index_size};
 use crate::sharding::shard_rows::read_rows;
@@ -91,7 +91,7 @@ fn read_inner<'a, B: BytesToBytesCodecTraits>(
 
 /// Whether an inner chunk is stored at a span.
 #[tactic(auto, unfolding(zarrs_chain_meaning::specs::sharding::Sharding::missing))]
-pub(crate) fn has_span(span: (usize, usize)) -> bool
+pub fn has_span(span: (usize, usize)) -> bool
     ensures value { result ≡ is_stored span }
 {
     span.0 != usize::MAX || span.1 != usize::MAX
@@ -207,14 +207,12 @@ fn read_chunk<'a, B: BytesToBytesCodecTraits>(
             );
         }
     }
-    if data_type.fixed_size().is_some() || numbers.len() == 2 {
+    if data_type.fixed_size().is_some() {
         return read_all(
             alloc, chain, inner, value, numbers, shape, grid, data_type, fill,
         );
     }
-    read_joined(
-        alloc, chain, inner, value, numbers, shape, grid, data_type, fill,
-    )
+    read_bands(alloc, chain, inner, value, numbers, shape, data_type, fill)
 }
 
 /// The chunk that a value stands for, where the codec takes such chunks. Errors:

@@ -18,6 +18,7 @@ use crate::sharding::left_out::is_left_out;
 use crate::sharding::shard_form::shard_form;
 use crate::sharding::shard_index::{index_encode, index_size};
 use crate::sharding::sharding_codec::ShardingCodec;
+use crate::sharding::value_room::value_room;
 use crate::sharding::written_shard::{WrittenShard, first_offset, place_index};
 use std::alloc::Global;
 use std::borrow::CowSlice;
@@ -161,7 +162,7 @@ fn shard_encode<'a, B: BytesToBytesCodecTraits>(
     let grid = inner_chunk_grid(alloc, shape, inner)?;
     let size = index_size(alloc, &codec.index_codecs, &grid)? as usize;
     let front = first_offset(size, codec.index_location);
-    let room = held.size().saturating_add(size);
+    let room = value_room(alloc, held, inner, shape, &grid, fill).saturating_add(size);
     let mut written = WrittenShard::new(alloc, front, room)?;
     write_all(
         alloc,

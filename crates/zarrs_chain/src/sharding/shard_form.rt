@@ -8,7 +8,7 @@ use zarrs_data_type::{DataType, FillValue};
 
 /// Inner chunks divide a chunk that is taken, its elements and their bytes are counted, and the
 /// fill value fits and is its own normal form. The call does nothing; its contract is for proofs.
-pub(crate) fn shard_form<B: BytesToBytesCodecTraits>(
+pub fn shard_form<B: BytesToBytesCodecTraits>(
     chain: &CodecChain<B>,
     index_chain: &CodecChain<B>,
     inner: &ChunkShape,

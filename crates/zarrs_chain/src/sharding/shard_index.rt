@@ -24,7 +24,7 @@ use zarrs_metadata::VlenIndexDataType;
 /// How many bytes the index of such a grid has. Errors: those of the index chain; `IndexNotFixed`
 /// where it doesn't fix their number.
 #[cycle(representation)]
-pub(crate) fn index_size<B: BytesToBytesCodecTraits>(
+pub fn index_size<B: BytesToBytesCodecTraits>(
     alloc: Global,
     chain: &CodecChain<B>,
     grid: &ChunkShape,
@@ -98,7 +98,7 @@ pub(crate) fn index_encode<'a, B: BytesToBytesCodecTraits>(
 
 /// The numbers that an index part stands for. Errors: those of the chain.
 #[cycle(decode)]
-pub(crate) fn index_decode<B: BytesToBytesCodecTraits>(
+pub fn index_decode<B: BytesToBytesCodecTraits>(
     alloc: Global,
     chain: &CodecChain<B>,
     part: &[u8],

@@ -107,7 +107,7 @@ fn read_all_bytes<'a, B: BytesToBytesCodecTraits>(
 }
 
 /// The inner chunk of fill elements. Errors: `OutOfMemory`.
-fn blank_inner_chunk<'b>(
+pub(crate) fn blank_inner_chunk<'b>(
     alloc: Global,
     inner: &ChunkShape,
     data_type: &DataType,
@@ -118,6 +118,7 @@ fn blank_inner_chunk<'b>(
     requires room { sizes_fit data_type.now (product inner.now) ≡ Ok tt }
     ensures answer { GivesBy (Holds data_type.now) result
         (Ok (missing_chunk inner.now data_type.now fill.now)) }
+    ensures tight { IfOk result (IsTight data_type.now) }
 {
     let count = inner.num_elements()?;
     ArrayBytes::new_fill_value(alloc, data_type, count, fill)

@@ -81,12 +81,12 @@ impl<B: BytesToBytesCodecTraits> ArrayToBytesCodecTraits for ShardingCodec<B> {
 }
 
 impl<B: BytesToBytesCodecTraits> CodecTraits for ShardingCodec<B> {
-    ghost use Rattle.std.specs.Prelude.{Some, false};
+    ghost use Rattle.std.specs.Prelude.{Some, false, true};
     ghost use Rattle.zarrs_chain.specs.ChainView.{plain_sharding};
     ghost use Rattle.zarrs_chain_meaning.specs.CodecNames.{sharding_name};
     ghost use Rattle.zarrs_chain_meaning.specs.WrittenMetadata.{codec_configuration};
 
-    ghost reads_in_part = { λ _. record { partial_read = false; partial_decode = false } };
+    ghost reads_in_part = { λ _. record { partial_read = true; partial_decode = true } };
 
     ghost writes_in_part = { λ _. record { partial_encode = false } };
 
@@ -106,8 +106,8 @@ impl<B: BytesToBytesCodecTraits> CodecTraits for ShardingCodec<B> {
 
     fn partial_decoder_capability(&self) -> PartialDecoderCapability {
         PartialDecoderCapability {
-            partial_read: false,
-            partial_decode: false,
+            partial_read: true,
+            partial_decode: true,
         }
     }
 
