@@ -56,7 +56,7 @@ fill_bytes (optional type) fill h = either_bytes (is_null fill) (fill_element ty
 next_at : (r : Result (List ℕ) CodecError) (g : List ℕ → Chunk) (P : Option Chunk → Type 0) (places : List ℕ) → r ≡ Ok places → P (Some (g places)) → IsOkAnd (seen (λ (chunk : Chunk). Some chunk) (r >>= λ places. let made : Result Chunk CodecError = Ok (g places) in made)) P
 next_at r g P places e h = rw e h
 
-found : {A : Type 0} (r : Result A CodecError) (P : A → Type 0) → IsOkAnd r P → (x : A) × (r ≡ Ok x) × P x
+pub found : {A : Type 0} (r : Result A CodecError) (P : A → Type 0) → IsOkAnd r P → (x : A) × (r ≡ Ok x) × P x
 found (Ok x) P h = (x, refl, h)
 found (Err e) P h = absurd h
 

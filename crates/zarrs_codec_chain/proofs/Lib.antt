@@ -23,3 +23,16 @@ pub mod Counting
 pub mod SameWriters
 pub mod PlannedAlike
 pub mod MadeCoders
+pub mod ShardReads
+pub mod ShardPlaces
+pub mod PlaceCodecs
+pub mod GroupedReads
+pub mod BoxRows
+pub mod FewerExcused
+pub mod SpanSeen
+pub mod GroupWalks
+pub mod ShardSpans
+pub mod SpanChains
+pub mod LeafReads
+pub mod WholeSpans
+pub mod ShardParts

@@ -45,7 +45,7 @@ module _ {B : Type 0} (f : BytesCodecs B) (form : ChunkForm B) (encoded : List �
       ∙ source_alone stored places
 
   -- such a read rests on the places' bytes
-  pub sure_alone : (before : StorageState) (places : List ℕ) (P : Type 0) → (are_sure before.sure (place_bytes (place_size form.type) places) ≡ true → P) → IfOk (codec_rests_on form.chain.array_to_bytes encoded form.type form.fill before.value places) (λ numbers. are_sure before.sure numbers ≡ true → P)
+  pub sure_alone : (before : StorageState) (places : List ℕ) (P : Type 0) → (are_sure before.sure (place_bytes (place_size form.type) places) ≡ true → P) → IfOk (codec_rests_on f form.chain.array_to_bytes encoded form.type form.fill before.value places) (λ numbers. are_sure before.sure numbers ≡ true → P)
   sure_alone before places P h =
       let are = bytes_alone form.chain.bytes_to_bytes form.chain.array_to_bytes order alone in
-      subst (λ (p : Part B). IfOk (p.rests_on encoded form.type form.fill before.value places) (λ numbers. are_sure before.sure numbers ≡ true → P)) (sym are.1.does) h
+      subst (λ (p : Part B). IfOk (p.rests_on f encoded form.type form.fill before.value places) (λ numbers. are_sure before.sure numbers ≡ true → P)) (sym are.1.does) h

@@ -25,7 +25,8 @@ use Rattle.zarrs_codec_chain.specs.ChunkRead.{encoded_places, outer_stored, stor
 use Rattle.zarrs_chain_meaning.specs.ChunkForm.{ChunkForm}
 use Rattle.zarrs_codec_chain.specs.CodecPart.{codec_read}
 use Rattle.zarrs_codec_chain.specs.ChunkSource.{Source, is_source_stored, opened_chunk, source_at, source_made_at, source_places, source_read}
-use Rattle.zarrs_chain_meaning.specs.CodecMeaning.{codec_chunk, chain_chunk, codec_representation}
+use Rattle.zarrs_chain_meaning.specs.CodecMeaning.{codec_chunk, chain_chunk, codec_representation, HasMappings}
+use Rattle.zarrs_chain_meaning.specs.Laws.{IsChainOfMappings}
 use Rattle.zarrs_chain_meaning.specs.PlainChain.{PlainChain}
 use Rattle.zarrs_codec_chain.specs.declared.partial_decoder.cache.CacheStage.{CacheStage}
 use Rattle.zarrs_codec_chain.specs.declared.partial_decoder.cache.CacheStage.TheVariants as stage
@@ -45,6 +46,7 @@ pub record IsReadable {B : Type 0} (f : BytesCodecs B) (chain : PlainChain B) (s
   pub encoded_is : map_is.encoded ≡ encoded
   pub count : product encoded ≡ product sizes
   pub measured : codec_representation f chain.array_to_bytes encoded type fill ≡ Ok r
+  pub positive : All (λ size. 0 < size) encoded
 
 pub is_readable : {B : Type 0} (f : BytesCodecs B) (chain : PlainChain B) (sizes : List ℕ) (type : ElementType) (fill encoded : List ℕ) (r : BytesRepresentation) → All IsMapping chain.array_to_array → All (λ size. 0 < size) sizes
     → taken_form f chain sizes type fill ≡ Ok (encoded, r) → IsReadable f chain sizes type fill encoded r
@@ -58,6 +60,7 @@ is_readable f chain sizes type fill encoded r mappings positive e =
       encoded_is = t.encoded_is;
       count = ap product (sym t.encoded_is) ∙ h.count;
       measured = subst (λ s. codec_representation f chain.array_to_bytes s type fill ≡ Ok r) t.encoded_is t.measured;
+      positive = subst (All (λ size. 0 < size)) t.encoded_is (h.positive positive);
     }
 
 -- where places go through the codecs of a chain that takes the chunk
@@ -90,7 +93,7 @@ take_codecs codecs = take_all (length codecs) codecs (omega arith)
 same_source : (one other : Source) → ok one ≡ ok other → other ≡ one
 same_source one other e = cc
 
-module _ {B : Type 0} (f : BytesCodecs B) (chain : PlainChain B) (encoded : List ℕ) (type : ElementType) (fill : List ℕ) (r : BytesRepresentation) (measured : codec_representation f chain.array_to_bytes encoded type fill ≡ Ok r) where
+module _ {B : Type 0} (f : BytesCodecs B) (chain : PlainChain B) (encoded : List ℕ) (type : ElementType) (fill : List ℕ) (r : BytesRepresentation) (measured : codec_representation f chain.array_to_bytes encoded type fill ≡ Ok r) (has : HasMappings chain.array_to_bytes) (positive : All (λ size. 0 < size) encoded) where
   abbrev read_below : Result (List ℕ) CodecError → List ℕ → Result Chunk CodecError
   read_below bytes places = seen (λ b. Some b) bytes >>= λ below. codec_read f chain.array_to_bytes encoded type fill below places
 
@@ -109,7 +112,7 @@ module _ {B : Type 0} (f : BytesCodecs B) (chain : PlainChain B) (encoded : List
       let a = bind_ok (opened_chunk f chain encoded type fill r value) _ source e in
       let b = bind_ok (outer_bytes f chain.bytes_to_bytes r value) _ a.0 a.1 in
       ap (λ x. source_places f chain encoded type fill r x places) (same_source _ _ a.2)
-      ∙ sym (codec_selects f chain.array_to_bytes encoded type fill b.0 a.0 places b.2 h)
+      ∙ sym (codec_selects f chain.array_to_bytes encoded type fill b.0 r a.0 places has positive measured b.2 h)
       ∙ ap (λ o. read_below o places) (sym b.1)
 
 -- places that go through a chain lie inside the moved chunk
@@ -140,12 +143,12 @@ made_at f s form stored source encoded r e made = rw e at made
 
 -- What a decoder reads by what its answers rest on is what is read of the stored value.
 pub source_is_stored : {B : Type 0} (f : BytesCodecs B) (s : CacheStage) (form : ChunkForm B) (encoded : List ℕ) (r : BytesRepresentation) (stored : Option (List ℕ)) (source : Source) (selection : Selection)
-    → All IsMapping form.chain.array_to_array → All (λ size. 0 < size) form.sizes → taken_form f form.chain form.sizes form.type form.fill ≡ Ok (encoded, r) → source_made_at f form s stored ≡ Ok source
+    → IsChainOfMappings form.chain → All (λ size. 0 < size) form.sizes → taken_form f form.chain form.sizes form.type form.fill ≡ Ok (encoded, r) → source_made_at f form s stored ≡ Ok source
     → source_read f form encoded r source selection ≡ stored_read f form stored selection
 source_is_stored f s form encoded r stored source selection mappings positive e made =
-    let h = is_readable f form.chain form.sizes form.type form.fill encoded r mappings positive e in
+    let h = is_readable f form.chain form.sizes form.type form.fill encoded r mappings.mappings positive e in
     at_both (encoded_places form.type form.chain.array_to_array form.sizes selection) (All (λ place. place < product encoded)) _ _ (mapped_below form.type form.chain.array_to_array form.sizes encoded selection h.map_is h.mapped h.is_map h.count)
-    (λ places inside. unchanged f form.chain encoded form.type form.fill r h.measured s stored source places (made_at f s form stored source encoded r e made) inside)
+    (λ places inside. unchanged f form.chain encoded form.type form.fill r h.measured mappings.inner_mappings h.positive s stored source places (made_at f s form stored source encoded r e made) inside)
     ∙ sym (form_read f form encoded r stored selection e)
 
 there_at : {B : Type 0} (f : BytesCodecs B) (chain : PlainChain B) (encoded : List ℕ) (type : ElementType) (fill : List ℕ) (r : BytesRepresentation) (s : CacheStage) (stored : Option (List ℕ)) (source : Source) → source_at f chain encoded type fill r s stored ≡ Ok source → is_source_stored source ≡ is_some stored
@@ -232,14 +235,14 @@ chunk_steps f chain sizes type fill encoded r value chunk h e =
     }
 
 -- Of a value that a chain reads as a chunk, the chunk's elements are read.
-pub stored_selects : {B : Type 0} (f : BytesCodecs B) (form : ChunkForm B) (encoded : List ℕ) (r : BytesRepresentation) (value : List ℕ) (chunk : Chunk) (selection : Selection) → All IsMapping form.chain.array_to_array → All (λ size. 0 < size) form.sizes
+pub stored_selects : {B : Type 0} (f : BytesCodecs B) (form : ChunkForm B) (encoded : List ℕ) (r : BytesRepresentation) (value : List ℕ) (chunk : Chunk) (selection : Selection) → IsChainOfMappings form.chain → All (λ size. 0 < size) form.sizes
     → taken_form f form.chain form.sizes form.type form.fill ≡ Ok (encoded, r) → chain_chunk f form.chain form.sizes form.type form.fill value ≡ Ok chunk
     → stored_read f form (Some value) selection ≡ seen (select chunk) (places_of selection form.sizes)
 stored_selects f form encoded r value chunk selection mappings positive e is =
-    let h = is_readable f form.chain form.sizes form.type form.fill encoded r mappings positive e in
+    let h = is_readable f form.chain form.sizes form.type form.fill encoded r mappings.mappings positive e in
     let s = chunk_steps f form.chain form.sizes form.type form.fill encoded r value chunk h is in
     read_by_places f form encoded r (Some value) selection (select chunk) h e
     (λ places inside.
     ap (λ (o : Result (List ℕ) CodecError). seen (λ b. Some b) o >>= λ below. codec_read f form.chain.array_to_bytes encoded form.type form.fill below (map h.map_is.to places)) s.opened
-    ∙ codec_selects f form.chain.array_to_bytes encoded form.type form.fill s.bytes s.inner (map h.map_is.to places) s.decoded (moved_below places h.map_is form.sizes encoded h.is_map h.count inside)
+    ∙ codec_selects f form.chain.array_to_bytes encoded form.type form.fill s.bytes r s.inner (map h.map_is.to places) mappings.inner_mappings h.positive h.measured s.decoded (moved_below places h.map_is form.sizes encoded h.is_map h.count inside)
     ∙ ap ok (select_back h.map_is form.sizes s.inner places inside ∙ ap (λ (c : Chunk). select c places) s.is))

@@ -1,10 +1,10 @@
 -- What a write in place leaves through array-to-array codecs and `bytes`, and edits of chunks through any chain.
 use Rattle.zarrs_data_type.specs.Form.{form_of}
-use Rattle.std.proofs.Common.{◌≡◌, ℕ, ◌*◌, ◌<◌, ◌^◌, ◌||◌, nat_lt, Bool, true, false, Option, Some, None, List, [], ◌∷◌, length, map, replicate, get_or, Result, Ok, Err, arith, refl, ap, ap₂, sym, ◌∙◌, subst}
+use Rattle.std.proofs.Common.{◌≡◌, ℕ, ◌*◌, ◌<◌, ◌^◌, ◌||◌, nat_lt, Bool, true, false, Option, Some, None, List, [], ◌∷◌, length, map, replicate, Result, Ok, Err, arith, refl, ap, ap₂, sym, ◌∙◌, subst}
 use Rattle.std.specs.List.{All}
 use Rattle.std.specs.Prelude.{is_ok, IfOk, IsOkAnd, OnOk}
 use Rattle.std.proofs.lemmas.Bool.Decides.{nat_tests}
-use Rattle.std.proofs.lemmas.List.{length-map, length-replicate, get_or-map}
+use Rattle.std.proofs.lemmas.List.{length-map, length-replicate}
 use Rattle.zarrs_chunk.specs.Answer.{◌>>=◌, seen, Answers, fault, memory, memory_or_fault}
 use Rattle.zarrs_chunk.specs.ChunkShape.{product}
 use Rattle.zarrs_chunk.specs.Selection.{Selection, places_of}
@@ -47,6 +47,7 @@ use Rattle.zarrs_chain_meaning.proofs.CodecLaws.{chain_chunk_only, chain_value_o
 use Rattle.zarrs_codec_chain.proofs.LawfulPart.{IsBytes, part_laws}
 use Rattle.zarrs_codec_chain.proofs.PartialCalls.{seen_is_ok}
 use Rattle.zarrs_codec_chain.proofs.PartialReads.{IsReadable}
+use Rattle.zarrs_codec_chain.proofs.ShardPlaces.{moved_below}
 
 -- ---- `bytes` alone behind array-to-array codecs
 
@@ -96,12 +97,6 @@ with_moved : (sizes : List ℕ) (m : CoordinateMap) (type : ElementType) (chunk 
 with_moved sizes m type chunk places new h long inside =
     ap (λ (n : ℕ). update (moved_chunk m chunk) (map m.to places) (elements type n new)) (length-map places m.to)
     ∙ sym (moved_update sizes m chunk places (elements type (length places) new) h long inside)
-
-moved_inside : (sizes : List ℕ) (m : CoordinateMap) (places : List ℕ) → IsCoordinateMap sizes m → All (λ place. place < product sizes) places → All (λ place. place < product m.encoded) (map m.to places)
-moved_inside sizes m places h inside = λ k d l.
-    let n : k < length places = omega (arith, length-map places m.to) in
-    let below = h.places.to_below (get_or places k 0) (inside k 0 n) in
-    rw (get_or-map m.to places k 0 d n) (omega (arith, below, h.count))
 
 -- the places of a selection lie inside
 places_inside : (r : Result (List ℕ) CodecError) (P : List ℕ → Type 0) (places : List ℕ) → r ≡ Ok places → IfOk r P → P places
@@ -203,7 +198,7 @@ module _ {B : Type 0} (f : BytesCodecs B) (form : ChunkForm B) (encoded : List �
       let m = h.map_is in
       let there = map m.to places in
       let fit_there : data_fit form.type (length there) new ≡ Ok tt = ap (λ (n : ℕ). data_fit form.type n new) (length-map places m.to) ∙ fit in
-      let w = write_updates order m.encoded form.type form.fill stored (moved_chunk m chunk) there new at_bytes starts (moved_inside form.sizes m places h.is_map inside) fit_there in
+      let w = write_updates order m.encoded form.type form.fill stored (moved_chunk m chunk) there new at_bytes starts (moved_below form.sizes m places h.is_map inside) fit_there in
       written_through (bytes_left order (form_of m.encoded form.type form.fill) stored there new) (with_elements form.type chunk places new) (edited_is form.sizes form.type chunk places new is fit)
       (subst (λ (c : Chunk). BytesWritten order (form_of m.encoded form.type form.fill) (bytes_left order (form_of m.encoded form.type form.fill) stored there new) c) (with_moved form.sizes m form.type chunk places new h.is_map is.count_is inside) w)
 

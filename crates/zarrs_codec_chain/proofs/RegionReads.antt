@@ -1,7 +1,9 @@
 -- Reads of regions that go through array-to-array codecs as regions.
 use Rattle.std.proofs.Common.{◌≡◌, ◌^◌, ◌<◌, ℕ, true, Some, None, List, [], ◌∷◌, get_or, map, Result, Ok, Err, IfOk, refl, ap, sym, ◌∙◌, subst}
 use Rattle.std.specs.Prelude.{IfErr, IsOkAnd}
-use Rattle.std.specs.List.{All}
+use Rattle.std.specs.List.{All, flat_map, list_all}
+use Rattle.std.proofs.lemmas.List.{map-id}
+use Rattle.std.proofs.lemmas.List.Concat.{flat_map_single}
 use Rattle.std.proofs.lemmas.List.Elements.{All-cons, All-nil}
 use Rattle.zarrs_chunk.specs.Answer.{seen, AnswersBy, memory, memory_or_fault}
 use Rattle.zarrs_chunk.specs.ChunkShape.{product}
@@ -35,11 +37,12 @@ use Rattle.zarrs_chain_meaning.proofs.NestedStages.{chained_of}
 use Rattle.zarrs_codec_chain.specs.ChunkRead.{WhereSure, asks_in_part, encoded_places}
 use Rattle.zarrs_chain_meaning.specs.ChunkForm.{ChunkForm}
 use Rattle.zarrs_codec_chain.specs.CodecPart.{codec_read, codec_rests_on}
+use Rattle.zarrs_codec_chain.specs.PlaceLaws.{SameMembers}
 use Rattle.zarrs_codec_chain.specs.ChunkSource.{Source, bytes_above, chunk_below, source_places, source_read}
 use Rattle.zarrs_codec_chain.proofs.PartialReads.{IsReadable}
 use Rattle.zarrs_codec_chain.proofs.PlaceWrites.{memory_too}
 use Rattle.zarrs_codec_chain.proofs.SureReads.{where_sure}
-use Rattle.zarrs_codec_chain.proofs.LawfulPart.{codec_any, part_laws}
+use Rattle.zarrs_codec_chain.proofs.LawfulPart.{codec_any, codec_sure_alike}
 
 -- ---- what is read of places in any order
 
@@ -58,6 +61,9 @@ types_taken type (codec ∷ codecs) sizes m e =
     let b = bind_ok (type_taken codec type) _ a.0 a.1 in
     let c = bind_ok (arrays_map type codecs a.0.encoded) _ m a.2 in
     All-cons (λ codec. type_taken codec type ≡ Ok tt) codec codecs b.1 (types_taken type codecs a.0.encoded c.0 c.1)
+
+each_alone : (places : List ℕ) → flat_map (λ place. place ∷ []) places ≡ places
+each_alone places = flat_map_single (λ place. place) places ∙ map-id places
 
 module _ {B : Type 0} (f : BytesCodecs B) (form : ChunkForm B) (encoded : List ℕ) (r : BytesRepresentation) (h : IsReadable f form.chain form.sizes form.type form.fill encoded r) (are : All IsMapping form.chain.array_to_array) (positive : All (λ size. 0 < size) form.sizes) (counted : product form.sizes < 2 ^ 64)
     (region : Region) (inside : is_box_inside form.sizes region.starts region.lengths ≡ true) (kept : keeps_regions form.chain.array_to_array ≡ true) where
@@ -111,13 +117,20 @@ module _ {B : Type 0} (f : BytesCodecs B) (form : ChunkForm B) (encoded : List �
         (subst (λ ps. IsOkAnd (read_last ps) (Holds form.type held)) (sym (ok_is (window_places last) places at)) answer)).1 d)
     region_answered places held (Err e) at answer d = λ unexcused. absurd (ok_no_err (decoded_of form.chain.array_to_array form.type (window_of form.sizes region) held) e (d (memory_too e unexcused)))
 
+  -- the places of the last window are the region's, where they go
+  pub region_members : SameMembers (map h.map_is.to (window_places (window_of form.sizes region))) (window_places last)
+  region_members test =
+      ap (list_all test) (sym (each_alone (map h.map_is.to (window_places (window_of form.sizes region)))))
+      ∙ region_sure form.chain.array_to_array form.sizes h.map_is region are positive chained_is kept inside (Some test) (λ place. place ∷ [])
+      ∙ ap (list_all test) (each_alone (window_places last))
+
   -- the bytes that a read of the last window rests on
   pub region_sure_where : (before : StorageState) (places : List ℕ) (P : Type 0) → ok (window_places last) ≡ ok places → taken_form f form.chain form.sizes form.type form.fill ≡ Ok (encoded, r)
-      → (asks_in_part form.chain.bytes_to_bytes form.chain.array_to_bytes ≡ true → IfOk (codec_rests_on form.chain.array_to_bytes encoded form.type form.fill before.value places) (λ numbers. are_sure before.sure numbers ≡ true → P)) → WhereSure f form before (subset region) P
+      → (asks_in_part form.chain.bytes_to_bytes form.chain.array_to_bytes ≡ true → IfOk (codec_rests_on f form.chain.array_to_bytes encoded form.type form.fill before.value places) (λ numbers. are_sure before.sure numbers ≡ true → P)) → WhereSure f form before (subset region) P
   region_sure_where before places P at taken sure =
       where_sure f form before (subset region) P encoded r (map h.map_is.to (window_places (window_of form.sizes region))) region_goes taken
-      (λ asks. (part_laws form.chain.array_to_bytes).sure_alike before.sure (map h.map_is.to (window_places (window_of form.sizes region))) (window_places last) (λ numbers. region_sure form.chain.array_to_array form.sizes h.map_is region are positive chained_is kept inside before.sure numbers) encoded form.type form.fill before.value P
-      (subst (λ ps. IfOk (codec_rests_on form.chain.array_to_bytes encoded form.type form.fill before.value ps) (λ numbers. are_sure before.sure numbers ≡ true → P)) (sym (ok_is (window_places last) places at)) (sure asks)))
+      (λ asks. codec_sure_alike f form.chain.array_to_bytes before.sure (map h.map_is.to (window_places (window_of form.sizes region))) (window_places last) region_members encoded form.type form.fill before.value P
+      (subst (λ ps. IfOk (codec_rests_on f form.chain.array_to_bytes encoded form.type form.fill before.value ps) (λ numbers. are_sure before.sure numbers ≡ true → P)) (sym (ok_is (window_places last) places at)) (sure asks)))
 
 -- ---- calls
 

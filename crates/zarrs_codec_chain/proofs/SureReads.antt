@@ -10,10 +10,10 @@ use Rattle.zarrs_codec.specs.StorageState.{are_sure, StorageState}
 use Rattle.zarrs_codec.specs.declared.bytes_representation.BytesRepresentation.{BytesRepresentation}
 use Rattle.zarrs_array_to_array.specs.ArrayToArrayCodec.{ArrayMapping}
 use Rattle.zarrs_chain_meaning.specs.Chain.{codec_reads, taken_form}
-use Rattle.zarrs_codec_chain.specs.ChunkRead.{are_asked_sure, asks_in_part, encoded_places, read_rests_on, reads_surely, WhereSure}
+use Rattle.zarrs_codec_chain.specs.ChunkRead.{are_given_sure, are_asked_sure, asks_in_part, encoded_places, read_rests_on, reads_surely, WhereSure}
 use Rattle.zarrs_chain_meaning.specs.ChunkForm.{ChunkForm}
 use Rattle.zarrs_codec_chain.specs.CodecPart.{codec_rests_on}
-use Rattle.zarrs_codec_chain.specs.vlen.VlenPartialDecoder.{CodecForm, CodecWhereSure, are_given_sure, codec_reads_surely, codec_selection_rests_on}
+use Rattle.zarrs_codec_chain.specs.vlen.VlenPartialDecoder.{CodecForm, CodecWhereSure, codec_reads_surely, codec_selection_rests_on}
 use Rattle.zarrs_bytes.proofs.Coding.{ok}
 use Rattle.zarrs_chain_meaning.proofs.ArraySteps.{error_is}
 
@@ -25,8 +25,8 @@ sure_if sure P (Ok numbers) false h = tt
 sure_if sure P (Err e) b h = tt
 
 pub where_sure : {B : Type 0} (f : BytesCodecs B) (form : ChunkForm B) (before : StorageState) (selection : Selection) (P : Type 0) (encoded : List ℕ) (r : BytesRepresentation) (places : List ℕ) → encoded_places form.type form.chain.array_to_array form.sizes selection ≡ Ok places → taken_form f form.chain form.sizes form.type form.fill ≡ Ok (encoded, r)
-    → (asks_in_part form.chain.bytes_to_bytes form.chain.array_to_bytes ≡ true → IfOk (codec_rests_on form.chain.array_to_bytes encoded form.type form.fill before.value places) (λ numbers. are_sure before.sure numbers ≡ true → P)) → WhereSure f form before selection P
-where_sure f form before selection P encoded r places a b h = rw (a, b) (sure_if before.sure P (codec_rests_on form.chain.array_to_bytes encoded form.type form.fill before.value places) (asks_in_part form.chain.bytes_to_bytes form.chain.array_to_bytes) h)
+    → (asks_in_part form.chain.bytes_to_bytes form.chain.array_to_bytes ≡ true → IfOk (codec_rests_on f form.chain.array_to_bytes encoded form.type form.fill before.value places) (λ numbers. are_sure before.sure numbers ≡ true → P)) → WhereSure f form before selection P
+where_sure f form before selection P encoded r places a b h = rw (a, b) (sure_if before.sure P (codec_rests_on f form.chain.array_to_bytes encoded form.type form.fill before.value places) (asks_in_part form.chain.bytes_to_bytes form.chain.array_to_bytes) h)
 
 anyway : (sure : Option (ℕ → Bool)) (P : Type 0) (r : Result (Option (List ℕ)) CodecError) → P → IfOk r (λ plan. IfSome plan (λ numbers. are_sure sure numbers ≡ true → P))
 anyway sure P (Ok (Some numbers)) h = λ s. h
@@ -47,7 +47,7 @@ pub surely : {B : Type 0} (f : BytesCodecs B) (form : ChunkForm B) (before : Sto
 surely f form before selection P true by_cache here e = by_cache refl
 surely f form before selection P false by_cache here e = surely_by before.sure P (read_rests_on f form before.value selection) here e
 
-given_surely : (sure : Option (ℕ → Bool)) (P : Type 0) (r : Result (List ℕ) CodecError) → IfOk r (λ numbers. are_sure sure numbers ≡ true → P) → are_given_sure sure r ≡ true → P
+pub given_surely : (sure : Option (ℕ → Bool)) (P : Type 0) (r : Result (List ℕ) CodecError) → IfOk r (λ numbers. are_sure sure numbers ≡ true → P) → are_given_sure sure r ≡ true → P
 given_surely sure P (Ok numbers) h e = h e
 given_surely sure P (Err x) h e = absurd cc
 
@@ -56,8 +56,8 @@ in_part_surely sure P r true h e = given_surely sure P r (h refl) e
 in_part_surely sure P r false h e = absurd cc
 
 -- the same of a `vlen`
-pub codec_surely : {B : Type 0} (form : CodecForm B) (before : StorageState) (selection : Selection) (P : Type 0) → CodecWhereSure form before selection P → codec_reads_surely form before.value before.sure selection ≡ true → P
-codec_surely form before selection P h = in_part_surely before.sure P (codec_selection_rests_on form before.value selection) (codec_reads form.codec).partial_decode h
+pub codec_surely : {B : Type 0} (f : BytesCodecs B) (form : CodecForm B) (before : StorageState) (selection : Selection) (P : Type 0) → CodecWhereSure f form before selection P → codec_reads_surely f form before.value before.sure selection ≡ true → P
+codec_surely f form before selection P h = in_part_surely before.sure P (codec_selection_rests_on f form before.value selection) (codec_reads form.codec).partial_decode h
 
 -- ---- indexers
 

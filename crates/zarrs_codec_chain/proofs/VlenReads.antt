@@ -114,12 +114,13 @@ each_place (Ok places) P g h inside e = e places inside
 each_place (Err x) P g h inside e = refl
 
 -- of a value that stands for a chunk, the chunk's elements are read
-pub vlen_selects : {B : Type 0} (f : BytesCodecs B) (codec : VlenCodec B) (sizes : List ℕ) (type : ElementType) (fill value : List ℕ) (chunk : Chunk) (selection : Selection) → HasMappings (plain_vlen codec) → All (λ size. 0 < size) sizes
+pub vlen_selects : {B : Type 0} (f : BytesCodecs B) (codec : VlenCodec B) (sizes : List ℕ) (type : ElementType) (fill value : List ℕ) (chunk : Chunk) (selection : Selection) → HasMappings (plain_vlen codec) → All (λ size. 0 < size) sizes → is_ok (codec_representation f (plain_vlen codec) sizes type fill) ≡ true
     → CodecStands f (plain_vlen codec) sizes type fill value chunk
     → codec_stored_read f (record { codec = plain_vlen codec; sizes = sizes; type = type; fill = fill }) (Some value) selection ≡ seen (select chunk) (places_of selection sizes)
-vlen_selects f codec sizes type fill value chunk selection has positive stands =
+vlen_selects f codec sizes type fill value chunk selection has positive taken stands =
+    let r = from_ok (codec_representation f (plain_vlen codec) sizes type fill) taken in
     each_place (places_of selection sizes) (All (λ place. place < product sizes)) (select chunk) _ (places_below selection sizes)
-    (λ places inside. codec_selects f (plain_vlen codec) sizes type fill value chunk places (chunk_only f (plain_vlen codec) has sizes type fill value chunk positive stands) inside)
+    (λ places inside. codec_selects f (plain_vlen codec) sizes type fill value r.0 chunk places has positive r.1 (chunk_only f (plain_vlen codec) has sizes type fill value chunk positive stands) inside)
 
 -- and fill elements where nothing is stored
 pub vlen_fills : {B : Type 0} (f : BytesCodecs B) (codec : VlenCodec B) (sizes : List ℕ) (type : ElementType) (fill : List ℕ) (selection : Selection) → is_ok (codec_representation f (plain_vlen codec) sizes type fill) ≡ true
@@ -139,8 +140,8 @@ places_so : (r : Result (List ℕ) CodecError) (places : List ℕ) (P : List ℕ
 places_so r places P e h = rw e h
 
 -- what holds of the bytes that the places of a selection rest on
-pub where_sure : {B : Type 0} (form : CodecForm B) (before : StorageState) (selection : Selection) (P : Type 0) (places : List ℕ) → places_of selection form.sizes ≡ Ok places
-    → ((codec_reads form.codec).partial_decode ≡ true → IfOk (codec_rests_on form.codec form.sizes form.type form.fill before.value places) (λ numbers. are_sure before.sure numbers ≡ true → P)) → CodecWhereSure form before selection P
-where_sure form before selection P places e h reads =
-    both_refused (places_of selection form.sizes) (codec_rests_on form.codec form.sizes form.type form.fill before.value) (λ numbers. are_sure before.sure numbers ≡ true → P)
-    (places_so (places_of selection form.sizes) places (λ ps. IfOk (codec_rests_on form.codec form.sizes form.type form.fill before.value ps) (λ numbers. are_sure before.sure numbers ≡ true → P)) e (h reads))
+pub where_sure : {B : Type 0} (f : BytesCodecs B) (form : CodecForm B) (before : StorageState) (selection : Selection) (P : Type 0) (places : List ℕ) → places_of selection form.sizes ≡ Ok places
+    → ((codec_reads form.codec).partial_decode ≡ true → IfOk (codec_rests_on f form.codec form.sizes form.type form.fill before.value places) (λ numbers. are_sure before.sure numbers ≡ true → P)) → CodecWhereSure f form before selection P
+where_sure f form before selection P places e h reads =
+    both_refused (places_of selection form.sizes) (codec_rests_on f form.codec form.sizes form.type form.fill before.value) (λ numbers. are_sure before.sure numbers ≡ true → P)
+    (places_so (places_of selection form.sizes) places (λ ps. IfOk (codec_rests_on f form.codec form.sizes form.type form.fill before.value ps) (λ numbers. are_sure before.sure numbers ≡ true → P)) e (h reads))

@@ -1,10 +1,10 @@
 -- Reads by the whole chunk, and readers without a cache.
-use Rattle.std.proofs.Common.{◌≡◌, ℕ, ◌^◌, nat_lt, if◌then◌else◌, Bool, true, false, Option, Some, List, length, Result, Ok, Err, refl, ap, sym, ◌∙◌, subst}
+use Rattle.std.proofs.Common.{◌≡◌, ℕ, ◌^◌, nat_lt, if◌then◌else◌, Bool, true, false, Option, Some, None, List, length, map, Result, Ok, Err, refl, ap, sym, ◌∙◌, subst}
 use Rattle.zarrs_chunk.specs.Answer.{◌>>=◌, checked_u64, seen, AnswersBy, fault, memory, memory_or_fault}
 use Rattle.zarrs_chunk.specs.ChunkShape.{product}
 use Rattle.zarrs_chunk.specs.declared.codec_error.CodecError.{CodecError}
 use Rattle.zarrs_chunk.specs.declared.codec_error.CodecError.TheVariants.{Overflow}
-use Rattle.zarrs_data_type.specs.Element.{Chunk}
+use Rattle.zarrs_data_type.specs.Element.{Chunk, fill_element}
 use Rattle.zarrs_data_type.specs.ElementType.{ElementType}
 use Rattle.zarrs_array_bytes.specs.Chunks.{chunk_at}
 use Rattle.zarrs_array_bytes.specs.Elements.{elements, select}
@@ -87,3 +87,12 @@ whole_answer f chain encoded type fill r stored value places result whole is h =
     let same : source_places f chain encoded type fill r (bytes_above (length chain.bytes_to_bytes) stored) places ≡ seen (λ chunk. select chunk places) (opened_chunk f chain encoded type fill r value)
     = ap (λ (s : Option (List ℕ)). source_places f chain encoded type fill r (bytes_above (length chain.bytes_to_bytes) s) places) is ∙ whole_places f chain encoded type fill r value places whole in
     subst (λ (x : Result Chunk CodecError). AnswersBy memory_or_fault (Holds type) result x) (sym same) (fails_too (Holds type) result (seen (λ chunk. select chunk places) (opened_chunk f chain encoded type fill r value)) h)
+
+-- where nothing is stored, it reads fill elements
+pub none_answer : {B : Type 0} (f : BytesCodecs B) (chain : PlainChain B) (encoded : List ℕ) (type : ElementType) (fill : List ℕ) (r : BytesRepresentation) (stored : Option (List ℕ)) (places : List ℕ) (result : Result Held CodecError) → (codec_reads chain.array_to_bytes).partial_decode ≡ false
+    → stored ≡ None → AnswersBy memory (Holds type) result (ok (map (λ _. fill_element type fill) places))
+    → AnswersBy memory_or_fault (Holds type) result (source_places f chain encoded type fill r (bytes_above (length chain.bytes_to_bytes) stored) places)
+none_answer f chain encoded type fill r stored places result whole is h =
+    let same : source_places f chain encoded type fill r (bytes_above (length chain.bytes_to_bytes) stored) places ≡ ok (map (λ _. fill_element type fill) places)
+    = ap (λ (s : Option (List ℕ)). source_places f chain encoded type fill r (bytes_above (length chain.bytes_to_bytes) s) places) is ∙ (part_laws chain.array_to_bytes).wholly f encoded type fill None places whole in
+    subst (λ (x : Result Chunk CodecError). AnswersBy memory_or_fault (Holds type) result x) (sym same) (fails_too (Holds type) result (ok (map (λ _. fill_element type fill) places)) h)

@@ -91,9 +91,9 @@ GivesOpened f coder value runs result =
 
 -- no failure of the handle comes where a read asks for a part of the value alone and the bytes are sure that it rests on
 abbrev pub SureSource : {B T : Type 0} {b : _} → ChunkCoder B b → StorageState → List (ℕ × ℕ) → Result T CodecError → Type 0
-SureSource coder before runs result =
+SureSource {b = b} coder before runs result =
     asks_in_part (plain_chain coder.chain.now).bytes_to_bytes (plain_chain coder.chain.now).array_to_bytes ≡ true
-    → IfOk (codec_rests_on (plain_chain coder.chain.now).array_to_bytes coder.encoded coder.data_type coder.fill_value before.value (joined_runs runs)) (λ numbers. are_sure before.sure numbers ≡ true → is_fault result ≡ false)
+    → IfOk (codec_rests_on b.functions (plain_chain coder.chain.now).array_to_bytes coder.encoded coder.data_type coder.fill_value before.value (joined_runs runs)) (λ numbers. are_sure before.sure numbers ≡ true → is_fault result ≡ false)
 
 -- with a cache the handle is left alone: it is the one that it was
 abbrev pub LeavesAlone : {H B : Type 0} {b : _} → ChunkCoder B b → (before after : H) → Type 0

@@ -102,7 +102,7 @@ IsPlanSeen f form ranges places = IsReadPlan f form (option_map (λ v. v.items) 
 
 -- ---- what a read rests on
 
--- whether a read asks for a part of the value alone: it does over `bytes`, `packbits` and a plain `vlen` where there are no bytes-to-bytes codecs
+-- whether a read asks for a part of the value alone: it does over `bytes`, `packbits`, a plain `vlen` and `sharding_indexed` where there are no bytes-to-bytes codecs
 abbrev pub asks_in_part : {B : Type 0} → List B → PlainCodec B → Bool
 asks_in_part [] codec = (codec_reads codec).partial_decode
 asks_in_part (first ∷ rest) codec = false
@@ -112,7 +112,7 @@ abbrev pub read_rests_on : {B : Type 0} → BytesCodecs B → ChunkForm B → Op
 read_rests_on f form stored selection = do
   places ← encoded_places form.type form.chain.array_to_array form.sizes selection
   taken ← taken_form f form.chain form.sizes form.type form.fill
-  numbers ← codec_rests_on form.chain.array_to_bytes taken.0 form.type form.fill stored places
+  numbers ← codec_rests_on f form.chain.array_to_bytes taken.0 form.type form.fill stored places
   Ok (if asks_in_part form.chain.bytes_to_bytes form.chain.array_to_bytes then Some numbers else None)
 
 -- P, where a read asks for a part of the value alone and the bytes that it rests on are sure
@@ -125,6 +125,11 @@ abbrev pub are_asked_sure : Option (ℕ → Bool) → Result (Option (List ℕ))
 are_asked_sure sure (Ok (Some numbers)) = are_sure sure numbers
 are_asked_sure sure (Ok None) = false
 are_asked_sure sure (Err error) = false
+
+-- these bytes are sure
+abbrev pub are_given_sure : Option (ℕ → Bool) → Result (List ℕ) CodecError → Bool
+are_given_sure sure (Ok numbers) = are_sure sure numbers
+are_given_sure sure (Err error) = false
 
 -- a read of the selection never meets a failure of the handle that has this value and these sure bytes: it comes from a cache, or the bytes are sure that it rests on
 abbrev pub reads_surely : {B : Type 0} → Bool → BytesCodecs B → ChunkForm B → Option (List ℕ) → Option (ℕ → Bool) → Selection → Bool
@@ -166,9 +171,9 @@ ChunkReadsRuns f codec form before runs result =
     AnswersBy memory_or_fault (Holds form.type) result (codec_read f codec form.sizes form.type form.fill before.value (joined_runs runs))
 
 -- no failure of the handle comes where the bytes are sure that a read of these runs rests on
-abbrev pub SureRuns : {B T : Type 0} → PlainCodec B → Form → StorageState → List (ℕ × ℕ) → Result T CodecError → Type 0
-SureRuns codec form before runs result =
-    IfOk (codec_rests_on codec form.sizes form.type form.fill before.value (joined_runs runs)) (λ numbers. are_sure before.sure numbers ≡ true → is_fault result ≡ false)
+abbrev pub SureRuns : {B T : Type 0} → BytesCodecs B → PlainCodec B → Form → StorageState → List (ℕ × ℕ) → Result T CodecError → Type 0
+SureRuns f codec form before runs result =
+    IfOk (codec_rests_on f codec form.sizes form.type form.fill before.value (joined_runs runs)) (λ numbers. are_sure before.sure numbers ≡ true → is_fault result ≡ false)
 
 -- the plan of a read of the selected places is given, or the first error: the ranges are the bytes of these places and no others; none, where the read asks for more
 abbrev pub PlansRead : {B : Type 0} → BytesCodecs B → ChunkForm B → Selection → Result (Option (Vec ByteSpan Global)) CodecError → Type 0

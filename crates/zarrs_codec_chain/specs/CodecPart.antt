@@ -1,18 +1,21 @@
 -- What each array-to-bytes codec does in part, as one record: what a read of places answers and rests on, what is planned, and whether a write replaces its places' bytes alone.
-use Rattle.std.specs.Prelude.{ℕ, Bool, true, false, Option, Some, None, IsOkAnd, List, [], ◌∷◌, Result, Ok}
+use Rattle.std.specs.Prelude.{ℕ, Bool, true, false, Option, Some, None, IsOkAnd, List, [], ◌∷◌, Ok}
 use Rattle.zarrs_bytes.specs.CountLaws.{read_count}
 use Rattle.zarrs_bytes.specs.PartialRead.{place_bytes, place_size, read_places}
 use Rattle.zarrs_bytes.specs.PlannedRanges.{IsPlan as IsElementPlan}
 use Rattle.zarrs_chain_meaning.specs.CodecMeaning.{meaning}
-use Rattle.zarrs_chain_meaning.specs.Meaning.{Meaning}
+use Rattle.zarrs_chain_meaning.specs.Meaning.{Meaning, through}
 use Rattle.zarrs_chain_meaning.specs.PlainChain.{PlainCodec, bytes_codec, packbits_codec, vlen_v2_codec, vlen_codec, optional_codec, sharding_codec}
 use Rattle.zarrs_chain_meaning.specs.vlen.PlainVlen.{plain_form_of}
 use Rattle.zarrs_chain_meaning.specs.vlen.PlainForm.{PlainForm}
 use Rattle.zarrs_chunk.specs.ChunkShape.{product}
-use Rattle.zarrs_chunk.specs.declared.codec_error.CodecError.{CodecError}
+use Rattle.zarrs_array_to_array.specs.ArrayToArrayCodec.{ArrayMapping}
 use Rattle.zarrs_codec.specs.BytesToBytesCodec.{BytesCodecs}
 use Rattle.zarrs_codec.specs.ByteSpan.{ByteSpan}
+use Rattle.zarrs_codec.specs.StorageState.{value_indices}
 use Rattle.zarrs_codec_chain.specs.PartRead.{PlaceReader, whole_read, read_by_form, AnswersEach, whole_count, form_count}
+use Rattle.zarrs_codec_chain.specs.PlaceLaws.{Resting, read_through, rests_through, whole_rests}
+use Rattle.zarrs_codec_chain.specs.ShardRead.{shard_count, shard_read, shard_rests}
 use Rattle.zarrs_data_type.specs.ElementType.{ElementType}
 use Rattle.zarrs_data_type.specs.Form.{form_of}
 use Rattle.zarrs_data_type.specs.declared.endianness.Endianness.{Endianness}
@@ -26,19 +29,19 @@ use Rattle.zarrs_plain_vlen.specs.VlenRead.{stored_rests_on}
 pub record Part (B : Type 0) : Type 1 where
   pub read : BytesCodecs B → PlaceReader
   pub counted : (f : BytesCodecs B) → AnswersEach (read f)
-  pub rests_on : List ℕ → ElementType → List ℕ → Option (List ℕ) → List ℕ → Result (List ℕ) CodecError
+  pub rests_on : BytesCodecs B → Resting
   pub plans : Bool
   pub IsPlanned : List ℕ → ElementType → List ℕ → List ℕ → List ByteSpan → Type 0
   pub in_place : Option (Option Endianness)
 
 -- ---- read and written whole
 
--- what a codec does in part that is read and written whole: nothing
+-- what a codec does in part that is read and written whole: nothing, so a read rests on all bytes
 abbrev pub whole_part : {B : Type 0} → Meaning B → Part B
 whole_part m = record {
   read = λ f. whole_read (m.chunk f);
   counted = λ f. whole_count (m.chunk f);
-  rests_on = λ sizes type fill stored places. Ok [];
+  rests_on = λ f. whole_rests;
   plans = false;
   IsPlanned = λ sizes type fill places ranges. ⊥;
   in_place = None;
@@ -51,7 +54,7 @@ abbrev pub bytes_part : {B : Type 0} → Option Endianness → Part B
 bytes_part order = record {
   read = λ f sizes. read_places order;
   counted = λ f sizes. read_count order;
-  rests_on = λ sizes type fill stored places. Ok (place_bytes (place_size type) places);
+  rests_on = λ f sizes type fill stored places. Ok (place_bytes (place_size type) places);
   plans = true;
   IsPlanned = λ sizes type fill places ranges. IsElementPlan (place_size type) places ranges;
   in_place = Some order;
@@ -62,7 +65,7 @@ abbrev pub packbits_part : {B : Type 0} → PackBitsSettings → Part B
 packbits_part settings = record {
   read = λ f sizes type fill stored places. read_places_of settings (form_of sizes type fill) stored places;
   counted = λ f sizes type fill. read_count_of settings (form_of sizes type fill);
-  rests_on = λ sizes type fill stored places. bytes_of_places settings (form_of sizes type fill) places;
+  rests_on = λ f sizes type fill stored places. bytes_of_places settings (form_of sizes type fill) places;
   plans = true;
   IsPlanned = λ sizes type fill places ranges. IsOkAnd (packed_layout settings (form_of sizes type fill)) (λ layout. IsPackBitsPlan layout places ranges);
   in_place = None;
@@ -70,9 +73,9 @@ packbits_part settings = record {
 
 -- ---- vlen
 
--- the numbers of the bytes of what is stored that the elements at these places rest on, of a `vlen` by its plain form: the offsets' and the elements'; none where it has no such form
+-- the numbers of the bytes of what is stored that the elements at these places rest on, of a `vlen` by its plain form: the offsets' and the elements'; all where it has no such form
 abbrev pub form_rests_on : Option PlainForm → ℕ → Option (List ℕ) → List ℕ → List ℕ
-form_rests_on None count stored places = []
+form_rests_on None count stored places = value_indices stored
 form_rests_on (Some form) count stored places = stored_rests_on form count stored places
 
 -- of a `vlen` with a plain form the offsets and the elements' bytes; which ones, the offsets say, so nothing is planned
@@ -80,7 +83,20 @@ abbrev pub vlen_part : {B : Type 0} → Option PlainForm → Meaning B → Part 
 vlen_part form m = record {
   read = λ f. read_by_form form (m.chunk f);
   counted = λ f. form_count form (m.chunk f);
-  rests_on = λ sizes type fill stored places. Ok (form_rests_on form (product sizes) stored places);
+  rests_on = λ f sizes type fill stored places. Ok (form_rests_on form (product sizes) stored places);
+  plans = false;
+  IsPlanned = λ sizes type fill places ranges. ⊥;
+  in_place = None;
+}
+
+-- ---- shards
+
+-- of `sharding_indexed`, whose inner chain has these array-to-array codecs, this array-to-bytes codec by what it means and does in part, and these bytes-to-bytes codecs, and whose index chain means this: the index, and what is read of the inner chunks; where these stand, the index says, so nothing is planned
+abbrev pub shard_part : {B : Type 0} → List ArrayMapping → Meaning B → Part B → List B → (index : Meaning B) → List ℕ → Bool → Part B
+shard_part arrays m p outer index shape at_end = record {
+  read = λ f. shard_read shape at_end (index.representation f) (index.chunk f) (read_through f arrays (m.representation f) (p.read f) outer);
+  counted = λ f. shard_count shape at_end (index.representation f) (index.chunk f) (read_through f arrays (m.representation f) (p.read f) outer);
+  rests_on = λ f. shard_rests shape at_end (index.representation f) (index.chunk f) (rests_through arrays (p.rests_on f) outer);
   plans = false;
   IsPlanned = λ sizes type fill places ranges. ⊥;
   in_place = None;
@@ -95,15 +111,15 @@ part_of (packbits_codec settings) = packbits_part settings
 part_of (vlen_v2_codec codec) = whole_part (meaning (vlen_v2_codec codec))
 part_of (vlen_codec ia ix ib da dx db wide at_end) = vlen_part (plain_form_of (vlen_codec ia ix ib da dx db wide at_end)) (meaning (vlen_codec ia ix ib da dx db wide at_end))
 part_of (optional_codec ma mx mb da dx db) = whole_part (meaning (optional_codec ma mx mb da dx db))
-part_of (sharding_codec sa sx sb ia ix ib shape at_end) = whole_part (meaning (sharding_codec sa sx sb ia ix ib shape at_end))
+part_of (sharding_codec sa sx sb ia ix ib shape at_end) = shard_part sa (meaning sx) (part_of sx) sb (through ia (meaning ix) ib) shape at_end
 
 -- the elements at these places of a chunk that the codec gets
 abbrev pub codec_read : {B : Type 0} → BytesCodecs B → PlainCodec B → PlaceReader
 codec_read f codec = (part_of codec).read f
 
--- the numbers of the bytes of what is stored that the elements at these places rest on, where the codec reads in part
-abbrev pub codec_rests_on : {B : Type 0} → PlainCodec B → List ℕ → ElementType → List ℕ → Option (List ℕ) → List ℕ → Result (List ℕ) CodecError
-codec_rests_on codec = (part_of codec).rests_on
+-- the numbers of the bytes of what is stored that the elements at these places rest on: all, where the codec is read whole
+abbrev pub codec_rests_on : {B : Type 0} → BytesCodecs B → PlainCodec B → Resting
+codec_rests_on f codec = (part_of codec).rests_on f
 
 -- whether the bytes of a place are known before anything is read
 abbrev pub codec_plans : {B : Type 0} → PlainCodec B → Bool

@@ -42,7 +42,7 @@ AnswersEach read =
     → read sizes type fill stored places ≡ Ok chunk → length chunk ≡ length places
 
 -- what is made of places one by one
-each_count : (f : ℕ → Element) (places : List ℕ) (chunk : Chunk) → (let made : Result Chunk CodecError = Ok (map f places) in made ≡ Ok chunk) → length chunk ≡ length places
+pub each_count : (f : ℕ → Element) (places : List ℕ) (chunk : Chunk) → (let made : Result Chunk CodecError = Ok (map f places) in made ≡ Ok chunk) → length chunk ≡ length places
 each_count f places chunk e = ap length (sym (same_value (map f places) chunk e)) ∙ length-map places f
 
 -- by the whole chunk

@@ -16,7 +16,7 @@ abbrev pub planned_bytes : {B : Type 0} → BytesCodecs B → ChunkForm B → Se
 planned_bytes f form selection = do
   places ← encoded_places form.type form.chain.array_to_array form.sizes selection
   taken ← taken_form f form.chain form.sizes form.type form.fill
-  numbers ← codec_rests_on form.chain.array_to_bytes taken.0 form.type form.fill None places
+  numbers ← codec_rests_on f form.chain.array_to_bytes taken.0 form.type form.fill None places
   Ok (if reads_places form.chain.bytes_to_bytes form.chain.array_to_bytes then Some numbers else None)
 
 -- these are the planned bytes

@@ -13,9 +13,7 @@ use Rattle.zarrs_chain_meaning.specs.BytesStages.{outer_bytes}
 use Rattle.zarrs_chain_meaning.specs.Chain.{taken_form}
 use Rattle.zarrs_chain_meaning.specs.Laws.{IsChainOfMappings}
 use Rattle.zarrs_chain_meaning.specs.CodecMeaning.{ChainStands}
-use Rattle.zarrs_chain_meaning.specs.vlen.PlainVlen.{plain_form_of}
-use Rattle.zarrs_chain_meaning.specs.vlen.PlainForm.{PlainForm}
-use Rattle.zarrs_codec_chain.specs.ChunkRead.{encoded_places, planned_order, planned_region, stored_read}
+use Rattle.zarrs_codec_chain.specs.ChunkRead.{encoded_places, planned_order, planned_region, read_rests_on, stored_read}
 use Rattle.zarrs_chain_meaning.specs.ChunkForm.{ChunkForm}
 use Rattle.zarrs_codec_chain.specs.ChunkSource.{source_made}
 use Rattle.zarrs_codec_chain.specs.CodecPart.{codec_rests_on}
@@ -45,14 +43,21 @@ abbrev pub selection_rests_on : {B : Type 0} → BytesCodecs B → ChunkForm B �
 selection_rests_on f form below selection = do
   places ← encoded_places form.type form.chain.array_to_array form.sizes selection
   taken ← taken_form f form.chain form.sizes form.type form.fill
-  codec_rests_on form.chain.array_to_bytes taken.0 form.type form.fill (Some below) places
+  codec_rests_on f form.chain.array_to_bytes taken.0 form.type form.fill (Some below) places
 
--- Over a plain `vlen` two values whose bytes below the bytes-to-bytes codecs are as many, and the same where a read rests, are read alike, or rejected for the same cause.
+-- Two values whose bytes below the bytes-to-bytes codecs are as many, and the same where a read rests, are read alike, or rejected for the same cause.
 abbrev pub StoredReadsAlike : {B : Type 0} → BytesCodecs B → Type 0
 StoredReadsAlike {B} f =
-    (form : ChunkForm B) (plain : PlainForm) (value other below beside : List ℕ) (selection : Selection)
-    → plain_form_of form.chain.array_to_bytes ≡ Some plain → bytes_below f form value ≡ Ok below → bytes_below f form other ≡ Ok beside
+    (form : ChunkForm B) (value other below beside : List ℕ) (selection : Selection)
+    → bytes_below f form value ≡ Ok below → bytes_below f form other ≡ Ok beside
     → length below ≡ length beside → IfOk (selection_rests_on f form below selection) (All (λ number. slice_index below number ≡ slice_index beside number))
+    → stored_read f form (Some value) selection ≡ stored_read f form (Some other) selection
+
+-- Locality: where a read asks for a part of the value alone, two values of one length that are the same at the bytes which it rests on are read alike, or rejected for the same cause.
+abbrev pub AskedReadsAlike : {B : Type 0} → BytesCodecs B → Type 0
+AskedReadsAlike {B} f =
+    (form : ChunkForm B) (value other : List ℕ) (selection : Selection) (numbers : List ℕ)
+    → read_rests_on f form (Some value) selection ≡ Ok (Some numbers) → length value ≡ length other → All (λ number. slice_index value number ≡ slice_index other number) numbers
     → stored_read f form (Some value) selection ≡ stored_read f form (Some other) selection
 
 -- The places whose bytes are planned are those that a selection selects, each as often. Those of a region that is planned as it stands rise.

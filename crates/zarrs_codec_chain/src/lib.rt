@@ -9,7 +9,9 @@
 //!
 //! Its array-to-bytes codec is one of `bytes`, `packbits`, `vlen`, `vlen-utf8`, `vlen-bytes`,
 //! `optional` and `sharding_indexed` ([`ArrayToBytesCodec`]). Over `bytes`, `packbits` and a plain
-//! `vlen` a read asks for a part of the value; over any other it decodes the whole value.
+//! `vlen` a read asks for a part of the value, and over `sharding_indexed` for the index and for what
+//! its inner chain asks for of the inner chunks that have any of the places; over any other it decodes
+//! the whole value.
 #![tactic(auto)]
 
 mod chunk_coder;
@@ -17,6 +19,7 @@ mod codec_chain_partial;
 pub mod laws;
 mod partial_decoder;
 mod partial_encoder;
+mod sharding;
 mod vlen;
 
 pub use codec_chain_partial::CodecChainPartialTraits;
@@ -28,7 +31,7 @@ pub use vlen::vlen_partial_decoder::{VlenCodecPartialTraits, VlenPartialDecoder}
 // What a user of chains needs of the crates below, by the one path of this crate.
 pub use zarrs_array_bytes::{
     ArrayBytes, ArrayBytesDecodeIntoTarget, ArrayBytesFixedView, ArrayBytesOffsets, ArrayBytesRaw,
-    update_array_bytes,
+    append_elements, update_array_bytes,
 };
 pub use zarrs_array_to_array::{
     ArrayToArrayCodec, RESHAPE, ReshapeCodec, SQUEEZE, SqueezeCodec, TRANSPOSE, TransposeCodec,
@@ -51,6 +54,7 @@ pub use zarrs_codec::{
 };
 pub use zarrs_crc32c::{CRC32C, Crc32cCodec, Crc32cMaker};
 pub use zarrs_data_type::{Components, DataType, Endianness, FillValue, HasComponents};
+pub use zarrs_lent_handles::{LentHandle, Piece, PiecesHandle, join_ranges};
 pub use zarrs_metadata::{
     BytesCodecConfiguration, BytesCodecConfigurationV1, Configuration, MetadataV3,
     OptionalCodecConfiguration, OptionalCodecConfigurationV1, PackBitsCodecConfiguration,

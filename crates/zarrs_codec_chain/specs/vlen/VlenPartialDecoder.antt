@@ -1,5 +1,5 @@
 -- What a partial decoder of `vlen` is made of, and what it reads of a chunk.
-use Rattle.std.specs.Prelude.{◌≡◌, ℕ, ◌&&◌, Bool, true, Option, is_some, IfOk, List, Result, Ok, false, Some, None, map, Err, IfErr}
+use Rattle.std.specs.Prelude.{◌≡◌, ℕ, ◌&&◌, Bool, true, Option, is_some, IfOk, List, Result, false, Some, None, map, Err, IfErr}
 use Rattle.zarrs_chunk.specs.Answer.{◌>>=◌, AnswersBy, is_fault, memory, memory_or_fault, seen}
 use Rattle.zarrs_chunk.specs.Selection.{Selection, places_of, bounds_of}
 use Rattle.zarrs_chunk.specs.declared.codec_error.CodecError.{CodecError}
@@ -10,6 +10,7 @@ use Rattle.zarrs_codec.specs.BytesToBytesCodec.{BytesCodecs}
 use Rattle.zarrs_codec.specs.StorageState.{are_sure, StorageState}
 use Rattle.zarrs_chain_meaning.specs.Chain.{codec_reads}
 use Rattle.zarrs_chain.specs.ChainView.{plain_vlen}
+use Rattle.zarrs_codec_chain.specs.ChunkRead.{are_given_sure}
 use Rattle.zarrs_codec_chain.specs.CodecPart.{codec_read, codec_rests_on}
 use Rattle.zarrs_chain_meaning.specs.PlainChain.{PlainCodec}
 use Rattle.zarrs_codec_chain.specs.declared.vlen.vlen_partial_decoder.VlenPartialDecoder.{VlenPartialDecoder}
@@ -42,25 +43,20 @@ codec_stored_read f form stored selection = do
   codec_read f form.codec form.sizes form.type form.fill stored places
 
 -- the numbers of the bytes that a read rests on, of what is stored, or the first error: the selection's; the codec's
-abbrev pub codec_selection_rests_on : {B : Type 0} → CodecForm B → Option (List ℕ) → Selection → Result (List ℕ) CodecError
-codec_selection_rests_on form stored selection = do
+abbrev pub codec_selection_rests_on : {B : Type 0} → BytesCodecs B → CodecForm B → Option (List ℕ) → Selection → Result (List ℕ) CodecError
+codec_selection_rests_on f form stored selection = do
   places ← places_of selection form.sizes
-  codec_rests_on form.codec form.sizes form.type form.fill stored places
+  codec_rests_on f form.codec form.sizes form.type form.fill stored places
 
 -- P, where a read asks for a part of the value alone and the bytes that it rests on are sure
-abbrev pub CodecWhereSure : {B : Type 0} → CodecForm B → StorageState → Selection → Type 0 → Type 0
-CodecWhereSure form before selection P =
-    (codec_reads form.codec).partial_decode ≡ true → IfOk (codec_selection_rests_on form before.value selection) (λ numbers. are_sure before.sure numbers ≡ true → P)
-
--- these bytes are sure
-abbrev pub are_given_sure : Option (ℕ → Bool) → Result (List ℕ) CodecError → Bool
-are_given_sure sure (Ok numbers) = are_sure sure numbers
-are_given_sure sure (Err error) = false
+abbrev pub CodecWhereSure : {B : Type 0} → BytesCodecs B → CodecForm B → StorageState → Selection → Type 0 → Type 0
+CodecWhereSure f form before selection P =
+    (codec_reads form.codec).partial_decode ≡ true → IfOk (codec_selection_rests_on f form before.value selection) (λ numbers. are_sure before.sure numbers ≡ true → P)
 
 -- a read of the selection never meets a failure of the handle that has this value and these sure bytes: it asks for a part of the value alone, and the bytes are sure that it rests on
-abbrev pub codec_reads_surely : {B : Type 0} → CodecForm B → Option (List ℕ) → Option (ℕ → Bool) → Selection → Bool
-codec_reads_surely form stored sure selection =
-    (codec_reads form.codec).partial_decode && are_given_sure sure (codec_selection_rests_on form stored selection)
+abbrev pub codec_reads_surely : {B : Type 0} → BytesCodecs B → CodecForm B → Option (List ℕ) → Option (ℕ → Bool) → Selection → Bool
+codec_reads_surely f form stored sure selection =
+    (codec_reads form.codec).partial_decode && are_given_sure sure (codec_selection_rests_on f form stored selection)
 
 -- the reader of a chunk of this form, where these bytes are sure and this value or none is stored: it answers of a selection what `codec_stored_read` says
 abbrev pub codec_reader : {B : Type 0} → BytesCodecs B → CodecForm B → Option (ℕ → Bool) → Option (List ℕ) → Bool → ArrayReader
@@ -69,7 +65,7 @@ codec_reader f form sure stored in_part = record {
   type = form.type;
   is_stored = is_some stored;
   answer = codec_stored_read f form stored;
-  sure = codec_reads_surely form stored sure;
+  sure = codec_reads_surely f form stored sure;
   in_part = in_part;
 }
 
@@ -83,7 +79,7 @@ pub record ReadsVlen {B : Type 0} (f : BytesCodecs B) (form : CodecForm B) (befo
       → AnswersBy memory_or_fault (Holds form.type) result (seen (map (λ _. fill_element form.type form.fill)) (places_of selection form.sizes))
   pub exact : AnswersBy memory_or_fault (Holds form.type) result (codec_stored_read f form before.value selection)
   pub indexer_first : IfErr (bounds_of selection form.sizes) (λ cause. AnswersBy memory (Holds form.type) result (Err cause))
-  pub sure : CodecWhereSure form before selection (is_fault result ≡ false)
+  pub sure : CodecWhereSure f form before selection (is_fault result ≡ false)
 
 -- a reading call of a decoder leaves all as it was, but for the failure that it answers (`state` says what a handle keeps)
 abbrev pub VlenLeaves : {H B T L : Type 0} {h : _} {b : _} → (H → StorageState) → (H → L) → VlenPartialDecoder H B h b → VlenPartialDecoder H B h b → Result T CodecError → Type 0

@@ -5,12 +5,13 @@ use Rattle.zarrs_chunk.specs.Runs.{joined_runs}
 use Rattle.zarrs_chunk.specs.declared.codec_error.CodecError.{CodecError}
 use Rattle.zarrs_data_type.specs.Element.{Chunk}
 use Rattle.zarrs_data_type.specs.ElementType.{ElementType}
-use Rattle.zarrs_data_type.specs.Form.{form_of}
+use Rattle.zarrs_data_type.specs.Form.{form_of, Form}
 use Rattle.zarrs_array_bytes.specs.Held.{Held}
 use Rattle.zarrs_array_bytes.specs.Validity.{Holds}
 use Rattle.zarrs_codec.specs.BytesToBytesCodec.{BytesCodecs}
 use Rattle.zarrs_codec.specs.StorageState.{StorageState, are_sure}
 use Rattle.zarrs_chain_meaning.specs.CallAnswers.{codec_represented}
+use Rattle.zarrs_chain_meaning.specs.Chain.{codec_reads}
 use Rattle.zarrs_chain_meaning.specs.CodecMeaning.{codec_chunk}
 use Rattle.zarrs_chain_meaning.specs.vlen.PlainVlen.{plain_form}
 use Rattle.zarrs_chain_meaning.specs.declared.vlen.plain_vlen.PlainVlen.{PlainVlen}
@@ -18,7 +19,7 @@ use Rattle.zarrs_chain.specs.ChainView.{plain_vlen}
 use Rattle.zarrs_chain.specs.declared.vlen.vlen_codec.VlenCodec.{VlenCodec}
 use Rattle.zarrs_plain_vlen.specs.PlainRead.{plain_read}
 use Rattle.zarrs_plain_vlen.specs.VlenRead.{stored_rests_on}
-use Rattle.zarrs_codec_chain.specs.ChunkRead.{TakenBy}
+use Rattle.zarrs_codec_chain.specs.ChunkRead.{SureRuns, TakenBy}
 use Rattle.zarrs_codec_chain.specs.PartRead.{whole_read}
 
 -- ---- which chunks the codec takes
@@ -51,3 +52,8 @@ SurePlain state codec before count runs result =
     are_sure (state before).sure (stored_rests_on (plain_form codec) count (state before).value (joined_runs runs)) ≡ true → is_fault result ≡ false
 
 -- ---- either way
+
+-- of a codec that reads in part, no failure of the handle comes where the bytes are sure that a read of these runs rests on
+abbrev pub SureVlenRuns : {B T : Type 0} → BytesCodecs B → VlenCodec B → Form → StorageState → List (ℕ × ℕ) → Result T CodecError → Type 0
+SureVlenRuns f codec form before runs result =
+    (codec_reads (plain_vlen codec)).partial_decode ≡ true → SureRuns f (plain_vlen codec) form before runs result

@@ -1,6 +1,6 @@
 //! Reading runs of places through an array-to-bytes codec, of a handle or of bytes in memory.
 ghost use Rattle.zarrs_data_type.specs.Form.{form_of};
-ghost use Rattle.std.specs.Prelude.{◌≡◌, ◌<◌, ◌≤◌, ◌+◌, ◌^◌, [], IfOk, All, length, option_map, true};
+ghost use Rattle.std.specs.Prelude.{◌≡◌, ◌<◌, ◌≤◌, ◌+◌, ◌^◌, [], IfOk, All, length, option_map, true, false};
 ghost use Rattle.zarrs_chunk.specs.Answer.{GivesBy, no_refusal};
 ghost use Rattle.zarrs_chunk.specs.ChunkShape.{product};
 ghost use Rattle.zarrs_chunk.specs.Runs.{joined_runs, AreApart};
@@ -12,7 +12,9 @@ ghost use Rattle.zarrs_chain.specs.ChainView.{plain_chain, plain_codec};
 ghost use Rattle.zarrs_codec_chain.specs.ChunkRead.{ChunkReadsRuns, SureRuns};
 ghost use Rattle.zarrs_codec_chain.specs.CodecPart.{codec_plans, codec_read, order_in_place, IsCodecPlan};
 ghost use Rattle.zarrs_codec_chain.specs.CodecRead.{Takes};
+ghost use Rattle.zarrs_codec_chain.specs.SpanReads.{is_sharding};
 
+use crate::sharding::shard_runs::shard_runs;
 use crate::vlen::vlen_runs::vlen_runs;
 use std::alloc::Global;
 use zarrs_array_bytes::ArrayBytes;
@@ -22,6 +24,47 @@ use zarrs_chunk::{ChunkShape, CodecError};
 use zarrs_codec::{ByteRange, BytesPartialDecoderTraits, BytesToBytesCodecTraits};
 use zarrs_data_type::{DataType, FillValue};
 use zarrs_lent_handles::LentHandle;
+
+/// The elements at the places of these runs of a chunk that the codec takes, which isn't
+/// `sharding_indexed`, over a handle that keeps its bytes: the fill value at each place where nothing
+/// is stored. Errors: the codec's own; `OutOfMemory` and `Storage`, which may come before.
+#[tactic(auto, unfolding(zarrs_chain::specs::ChainView::plain_codec), using(zarrs_chain::specs::ChainView::plain_vlen_at, zarrs_chain::specs::ChainView::plain_optional_at, zarrs_chain::specs::ChainView::plain_sharding_at))]
+pub(crate) fn plain_runs<H: BytesPartialDecoderTraits, B: BytesToBytesCodecTraits>(
+    alloc: Global,
+    codec: &ArrayToBytesCodec<B>,
+    handle: &mut H,
+    shape: &ChunkShape,
+    kind: &DataType,
+    fill: &FillValue,
+    runs: &[(u64, u64)],
+) -> Result<ArrayBytes<'static>, CodecError>
+    requires taken { Takes B.functions codec.now shape.now kind.now fill.now }
+    requires in_part { (codec_reads_of (plain_codec codec.now)).partial_decode ≡ true }
+    requires plain { is_sharding (plain_codec codec.now) ≡ false }
+    requires filled { All (λ run. 0 < run.1) runs.now }
+    requires below { All (λ run. run.0 + run.1 ≤ product shape.now) runs.now }
+    requires count { length (joined_runs runs.now) < 2 ^ 64 }
+    ensures answer { ChunkReadsRuns B.functions (plain_codec codec.now)
+        (form_of shape.now kind.now fill.now) (H.state handle.old) runs.now result }
+    ensures tight { IfOk result (IsTight kind.now) }
+    ensures sure { SureRuns B.functions (plain_codec codec.now) (form_of shape.now kind.now fill.now)
+        (H.state handle.old) runs.now result }
+    ensures left { H.state handle.new ≡ after_reading result (H.state handle.old) }
+    ensures same_reference { H.lent handle.new ≡ H.lent handle.old }
+{
+    match codec {
+        ArrayToBytesCodec::Bytes(codec) => { codec.read_runs(alloc, handle, kind, fill, runs) }
+        ArrayToBytesCodec::PackBits(codec) => {
+            codec.read_runs(alloc, handle, shape, kind, fill, runs)
+        }
+        ArrayToBytesCodec::Vlen(codec) => {
+            vlen_runs(alloc, codec, handle, shape, kind, fill, runs)
+        }
+        ArrayToBytesCodec::VlenV2(_)
+        | ArrayToBytesCodec::Optional(_)
+        | ArrayToBytesCodec::Sharding(_) => unreachable!(),
+    }
+}
 
 /// The elements at the places of these runs of a chunk that the codec takes, over a handle that
 /// keeps its bytes: the fill value at each place where nothing is stored. Errors: the codec's own;
@@ -44,22 +87,22 @@ pub(crate) fn read_runs<H: BytesPartialDecoderTraits, B: BytesToBytesCodecTraits
     ensures answer { ChunkReadsRuns B.functions (plain_codec codec.now)
         (form_of shape.now kind.now fill.now) (H.state handle.old) runs.now result }
     ensures tight { IfOk result (IsTight kind.now) }
-    ensures sure { SureRuns (plain_codec codec.now) (form_of shape.now kind.now fill.now)
+    ensures sure { SureRuns B.functions (plain_codec codec.now) (form_of shape.now kind.now fill.now)
         (H.state handle.old) runs.now result }
     ensures left { H.state handle.new ≡ after_reading result (H.state handle.old) }
     ensures same_reference { H.lent handle.new ≡ H.lent handle.old }
 {
     match codec {
-        ArrayToBytesCodec::Bytes(codec) => { codec.read_runs(alloc, handle, kind, fill, runs) }
-        ArrayToBytesCodec::PackBits(codec) => {
-            codec.read_runs(alloc, handle, shape, kind, fill, runs)
+        ArrayToBytesCodec::Sharding(codec) => {
+            shard_runs(alloc, codec, handle, shape, kind, fill, runs)
         }
-        ArrayToBytesCodec::Vlen(codec) => {
-            vlen_runs(alloc, codec, handle, shape, kind, fill, runs)
+        ArrayToBytesCodec::Bytes(_)
+        | ArrayToBytesCodec::PackBits(_)
+        | ArrayToBytesCodec::VlenV2(_)
+        | ArrayToBytesCodec::Vlen(_)
+        | ArrayToBytesCodec::Optional(_) => {
+            plain_runs(alloc, codec, handle, shape, kind, fill, runs)
         }
-        ArrayToBytesCodec::VlenV2(_)
-        | ArrayToBytesCodec::Optional(_)
-        | ArrayToBytesCodec::Sharding(_) => unreachable!(),
     }
 }
 

@@ -11,9 +11,8 @@ ghost use Rattle.zarrs_array_bytes.specs.Tight.{IsTight};
 ghost use Rattle.zarrs_array_bytes.specs.Validity.{Holds};
 ghost use Rattle.zarrs_codec.specs.StorageState.{after_reading};
 ghost use Rattle.zarrs_chain.specs.ChainView.{plain_vlen};
-ghost use Rattle.zarrs_codec_chain.specs.ChunkRead.{ChunkReadsRuns, SureRuns};
-ghost use Rattle.zarrs_codec_chain.specs.vlen.VlenRuns.{VlenTakes, vlen_whole_runs, ReadsPlain, SurePlain};
-ghost use Rattle.zarrs_chain_meaning.specs.Chain.{codec_reads};
+ghost use Rattle.zarrs_codec_chain.specs.ChunkRead.{ChunkReadsRuns};
+ghost use Rattle.zarrs_codec_chain.specs.vlen.VlenRuns.{VlenTakes, vlen_whole_runs, ReadsPlain, SurePlain, SureVlenRuns};
 
 use crate::partial_decoder::fill_runs::fill_runs;
 use std::alloc::Global;
@@ -155,8 +154,8 @@ pub(crate) fn vlen_runs<H: BytesPartialDecoderTraits, B: BytesToBytesCodecTraits
     ensures answer { ChunkReadsRuns B.functions (plain_vlen codec.now)
         (form_of shape.now kind.now fill.now) (H.state handle.old) runs.now result }
     ensures tight { IfOk result (IsTight kind.now) }
-    ensures sure { (codec_reads (plain_vlen codec.now)).partial_decode ≡ true → SureRuns (plain_vlen
-        codec.now) (form_of shape.now kind.now fill.now) (H.state handle.old) runs.now result }
+    ensures sure { SureVlenRuns B.functions codec.now (form_of shape.now kind.now fill.now)
+        (H.state handle.old) runs.now result }
     ensures left { H.state handle.new ≡ after_reading result (H.state handle.old) }
     ensures same_reference { H.lent handle.new ≡ H.lent handle.old }
 {

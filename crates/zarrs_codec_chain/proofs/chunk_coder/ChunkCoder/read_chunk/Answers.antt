@@ -18,12 +18,12 @@ returns-clause-reads g c =
     let selection = selection_of c.args.indexer.now in
     let mappings = c.is_sound.ensures.mappings in
     let positive = c.is_sound.ensures.positive in
-    let same = source_is_stored f (kept_stage k.cache) form k.encoded k.representation stored (reader_source k stored) selection mappings.mappings positive k.taken c.requires.cache_filled in
+    let same = source_is_stored f (kept_stage k.cache) form k.encoded k.representation stored (reader_source k stored) selection mappings positive k.taken c.requires.cache_filled in
     record {
       selected = λ value chunk here stands.
           subst (λ e. AnswersBy memory_or_fault (Holds k.data_type) c.read.result e)
           (same ∙ ap (λ v. stored_read f form v selection) here
-          ∙ stored_selects f form k.encoded k.representation value chunk selection mappings.mappings positive k.taken (chain_chunk_only f form.chain mappings form.sizes form.type form.fill value chunk positive stands))
+          ∙ stored_selects f form k.encoded k.representation value chunk selection mappings positive k.taken (chain_chunk_only f form.chain mappings form.sizes form.type form.fill value chunk positive stands))
           c.read.ensures.answer;
       unstored = λ here.
           subst (λ e. AnswersBy memory_or_fault (Holds k.data_type) c.read.result e)

@@ -36,7 +36,7 @@ returns-in-Some-clause-sure g c reads =
     let form = sym c.plain_form.ensures.form ∙ ap (option_map plain_form) c.in-Some.is in
     let state = g.H.BytesPartialDecoderTraits.state c.args.handle.now in
     subst (λ rests. IfOk rests (λ numbers. are_sure state.sure numbers ≡ true → is_fault c.plain_runs.result ≡ false))
-    (sym ((part_laws codec).rests_plainly (plain_form c.in-Some.plain) c.args.shape.now c.args.kind.now c.args.fill.now state.value (joined_runs c.args.runs.now) form))
+    (sym ((part_laws codec).rests_plainly g.B.BytesToBytesCodecTraits.functions (plain_form c.in-Some.plain) c.args.shape.now c.args.kind.now c.args.fill.now state.value (joined_runs c.args.runs.now) form))
     c.plain_runs.ensures.sure
 
 pub returns-in-None-clause-answer : goal.returns-in-None-clause-answer

@@ -20,7 +20,7 @@ returns-in_err-runs-clause-reads g c =
     record {
       selected = (λ value chunk here stands.
           subst (λ expected. AnswersBy memory_or_fault (Holds d.data_type) c.from_residual.result expected)
-          (ap (λ stored. codec_stored_read f (vlen_form d) stored selection) here ∙ vlen_selects f d.codec.now d.shape d.data_type d.fill_value value chunk selection c.vlen_is_sound.ensures.mappings positive stands)
+          (ap (λ stored. codec_stored_read f (vlen_form d) stored selection) here ∙ vlen_selects f d.codec.now d.shape d.data_type d.fill_value value chunk selection c.vlen_is_sound.ensures.mappings positive d.taken stands)
           exact);
       unstored = (λ here.
           subst (λ expected. AnswersBy memory_or_fault (Holds d.data_type) c.from_residual.result expected)
@@ -43,7 +43,7 @@ returns-clause-reads g c =
     record {
       selected = (λ value chunk here stands.
           subst (λ expected. AnswersBy memory_or_fault (Holds d.data_type) c.vlen_runs.result expected)
-          (ap (λ stored. codec_stored_read f (vlen_form d) stored selection) here ∙ vlen_selects f d.codec.now d.shape d.data_type d.fill_value value chunk selection c.vlen_is_sound.ensures.mappings positive stands)
+          (ap (λ stored. codec_stored_read f (vlen_form d) stored selection) here ∙ vlen_selects f d.codec.now d.shape d.data_type d.fill_value value chunk selection c.vlen_is_sound.ensures.mappings positive d.taken stands)
           exact);
       unstored = (λ here.
           subst (λ expected. AnswersBy memory_or_fault (Holds d.data_type) c.vlen_runs.result expected)
@@ -51,5 +51,5 @@ returns-clause-reads g c =
           exact);
       exact = exact;
       indexer_first = search rules;
-      sure = where_sure (vlen_form d) before selection _ (joined_runs c.deref.result.now) places c.vlen_runs.ensures.sure;
+      sure = where_sure f (vlen_form d) before selection _ (joined_runs c.deref.result.now) places c.vlen_runs.ensures.sure;
     }

@@ -6,4 +6,4 @@ use Rattle.zarrs_codec_chain.proofs.vlen.vlen_partial_decoder.VlenPartialDecoder
 pub returns-clause-sure : goal.returns-clause-sure
 returns-clause-sure g c =
     let d = c.args.self.now in
-    codec_surely (vlen_form d) (g.H.BytesPartialDecoderTraits.state (vlen_handle_of d)) (selection_of c.args.indexer.now) _ c.partial_decode.ensures.reads.sure
+    codec_surely g.B.BytesToBytesCodecTraits.functions (vlen_form d) (g.H.BytesPartialDecoderTraits.state (vlen_handle_of d)) (selection_of c.args.indexer.now) _ c.partial_decode.ensures.reads.sure

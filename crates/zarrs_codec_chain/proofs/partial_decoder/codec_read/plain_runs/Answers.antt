@@ -3,7 +3,7 @@ use Rattle.zarrs_bytes.specs.PartialRead.{place_size}
 use Rattle.zarrs_bytes.proofs.Ranges.{runs_fit}
 use Rattle.zarrs_bytes.proofs.Taken.{taken_fixed, taken_fill, taken_small}
 use Rattle.zarrs_codec_chain.proofs.PartialCalls.{bytes_taken, packed_taken}
-use Rattle.zarrs_codec_chain.proofs.partial_decoder.codec_read.read_runs.Goals as goal
+use Rattle.zarrs_codec_chain.proofs.partial_decoder.codec_read.plain_runs.Goals as goal
 
 pub read_runs-requires-clause-fixed : goal.read_runs-requires-clause-fixed
 read_runs-requires-clause-fixed g c =

@@ -1,0 +1,145 @@
+-- Reads in part of `sharding_indexed`: the index, and then of each inner chunk with selected places what is read of its own bytes, in the order of their numbers.
+use Rattle.std.specs.List.{range_with_len}
+use Rattle.std.specs.Prelude.{◌≡◌, ℕ, zero, suc, ◌+◌, ◌-◌, nat_le, if◌then◌else◌, Bool, true, false, Some, None, List, [], ◌∷◌, ◌++◌, length, drop, map, get_or, Result, Ok, Err, refl}
+use Rattle.std.proofs.Common.{◌∙◌, ap, sym}
+use Rattle.zarrs_chain_meaning.specs.Meaning.{Measure, Decoder}
+use Rattle.zarrs_chain_meaning.specs.sharding.InnerChunks.{inner_chunk_of}
+use Rattle.zarrs_chain_meaning.specs.sharding.Sharding.{index_shape, index_size, Span, is_stored, spans_of, index_part_of, spanned_bytes}
+use Rattle.zarrs_chain_meaning.specs.vlen.Vlen.{offset_type, offset_bytes, offsets_in_chunk}
+use Rattle.zarrs_chunk.specs.Answer.{◌>>=◌, demand, seen}
+use Rattle.zarrs_chunk.specs.declared.codec_error.CodecError.TheVariants.{InvalidBytesLength, InvalidByteRange}
+use Rattle.zarrs_chunk.specs.declared.codec_error.CodecError.{CodecError}
+use Rattle.zarrs_codec.specs.CountLaws.{passed, same_value}
+use Rattle.zarrs_codec_chain.specs.PartRead.{PlaceReader, AnswersEach, each_count}
+use Rattle.zarrs_codec_chain.specs.PlaceLaws.{Resting}
+use Rattle.zarrs_data_type.specs.Element.{absent, Chunk, fill_element}
+use Rattle.zarrs_data_type.specs.ElementType.{ElementType}
+use Rattle.zarrs_shard_runs.specs.PlacesInside.{places_of_inner}
+
+-- ---- the answer
+
+-- where the inner chunks stand, by the index of a value whose index has so many bytes; or the first error
+abbrev pub spans_by : List ℕ → Bool → Decoder → List ℕ → List ℕ → ℕ → Result (List Span) CodecError
+spans_by shape at_end index sizes value size = do
+  _ ← demand (nat_le size (length value)) (InvalidBytesLength (length value) size)
+  rows ← index (index_shape shape sizes) (offset_type true) (offset_bytes true 0) (index_part_of at_end size value)
+  Ok (spans_of (offsets_in_chunk true rows))
+
+-- the same, by how many bytes the index chain makes of an index
+abbrev pub spans_in : List ℕ → Bool → Measure → Decoder → List ℕ → List ℕ → Result (List Span) CodecError
+spans_in shape at_end measure index sizes value = index_size measure shape sizes >>= spans_by shape at_end index sizes value
+
+-- the elements at places of the inner chunk at a span: by its own bytes; fill elements where it isn't stored
+abbrev pub span_read : Bool → PlaceReader → List ℕ → ElementType → List ℕ → List ℕ → Span → List ℕ → Result Chunk CodecError
+span_read false read shape type fill value span places = read shape type fill None places
+span_read true read shape type fill value span places = do
+  _ ← demand (nat_le (span.0 + span.1) (length value)) InvalidByteRange
+  read shape type fill (Some (spanned_bytes value span)) places
+
+-- one without selected places isn't read
+abbrev pub inner_read : PlaceReader → List ℕ → ElementType → List ℕ → List ℕ → Span → List ℕ → Result Chunk CodecError
+inner_read read shape type fill value span [] = Ok []
+inner_read read shape type fill value span (place ∷ places) = span_read (is_stored span) read shape type fill value span (place ∷ places)
+
+-- of each inner chunk from a number on the elements at its places, or the first error
+abbrev pub inner_reads : PlaceReader → List ℕ → List ℕ → ElementType → List ℕ → List ℕ → List ℕ → ℕ → List Span → Result (List Chunk) CodecError
+inner_reads read shape sizes type fill value places number [] = Ok []
+inner_reads read shape sizes type fill value places number (span ∷ spans) = do
+  part ← inner_read read shape type fill value span (places_of_inner shape sizes number places)
+  parts ← inner_reads read shape sizes type fill value places (suc number) spans
+  Ok (part ∷ parts)
+
+-- the parts, that of this number without its first element
+abbrev pub without_first : ℕ → List Chunk → List Chunk
+without_first number [] = []
+without_first zero (part ∷ parts) = drop 1 part ∷ parts
+without_first (suc number) (part ∷ parts) = part ∷ without_first number parts
+
+-- place by place the next element of its inner chunk's part
+abbrev pub in_turn : List ℕ → List ℕ → List Chunk → List ℕ → Chunk
+in_turn shape sizes parts [] = []
+in_turn shape sizes parts (place ∷ places) =
+    get_or (get_or parts (inner_chunk_of shape sizes place) []) 0 absent ∷ in_turn shape sizes (without_first (inner_chunk_of shape sizes place) parts) places
+
+-- the elements at places, by where the inner chunks stand
+abbrev pub spans_read : PlaceReader → List ℕ → List ℕ → ElementType → List ℕ → List ℕ → List ℕ → List Span → Result Chunk CodecError
+spans_read read shape sizes type fill value places spans = do
+  parts ← inner_reads read shape sizes type fill value places 0 spans
+  Ok (in_turn shape sizes parts places)
+
+-- what `sharding_indexed` reads, whose inner chain reads so
+abbrev pub shard_read : List ℕ → Bool → Measure → Decoder → PlaceReader → PlaceReader
+shard_read shape at_end measure index read sizes type fill None places = Ok (map (λ _. fill_element type fill) places)
+shard_read shape at_end measure index read sizes type fill (Some value) places = do
+  spans ← spans_in shape at_end measure index sizes value
+  spans_read read shape sizes type fill value places spans
+
+-- in turn there is an element for each place
+in_turn_count : (shape sizes : List ℕ) (parts : List Chunk) (places : List ℕ) → length (in_turn shape sizes parts places) ≡ length places
+in_turn_count shape sizes parts [] = refl
+in_turn_count shape sizes parts (place ∷ places) = ap suc (in_turn_count shape sizes (without_first (inner_chunk_of shape sizes place) parts) places)
+
+-- so a shard's read answers one for each place
+pub shard_count : (shape : List ℕ) (at_end : Bool) (measure : Measure) (index : Decoder) (read : PlaceReader) → AnswersEach (shard_read shape at_end measure index read)
+shard_count shape at_end measure index read sizes type fill None places chunk e = each_count (λ _. fill_element type fill) places chunk e
+shard_count shape at_end measure index read sizes type fill (Some value) places chunk e =
+    let spans = passed (spans_in shape at_end measure index sizes value) (spans_read read shape sizes type fill value places) chunk e in
+    let parts = passed (inner_reads read shape sizes type fill value places 0 spans.given) (λ parts. Ok (in_turn shape sizes parts places)) chunk spans.second_is in
+    ap length (sym (same_value (in_turn shape sizes parts.given places) chunk parts.second_is)) ∙ in_turn_count shape sizes parts.given places
+
+-- ---- the answer by groups
+
+-- the elements at the places of groups, each an inner chunk's number and places of it, group by group; or the first error
+abbrev pub groups_read : PlaceReader → List ℕ → ElementType → List ℕ → List ℕ → List Span → List (ℕ × List ℕ) → Result Chunk CodecError
+groups_read read shape type fill value spans [] = Ok []
+groups_read read shape type fill value spans (group ∷ groups) = do
+  part ← span_read (is_stored (get_or spans group.0 (0, 0))) read shape type fill value (get_or spans group.0 (0, 0)) group.1
+  rest ← groups_read read shape type fill value spans groups
+  Ok (part ++ rest)
+
+-- ---- what it rests on
+
+-- the numbers of the index's bytes
+abbrev pub index_bytes_at : Bool → ℕ → List ℕ → List ℕ
+index_bytes_at false size value = range_with_len 0 size
+index_bytes_at true size value = range_with_len (length value - size) size
+
+-- those of the inner chunk at a span, which its own read rests on; none where it isn't stored, or ends behind the value
+abbrev pub span_rests : Bool → Resting → List ℕ → ElementType → List ℕ → List ℕ → Span → List ℕ → Result (List ℕ) CodecError
+span_rests false rests shape type fill value span places = Ok []
+span_rests true rests shape type fill value span places =
+    if nat_le (span.0 + span.1) (length value) then seen (map (λ number. span.0 + number)) (rests shape type fill (Some (spanned_bytes value span)) places) else Ok []
+
+-- one without selected places rests on nothing
+abbrev pub inner_rests : Resting → List ℕ → ElementType → List ℕ → List ℕ → Span → List ℕ → Result (List ℕ) CodecError
+inner_rests rests shape type fill value span [] = Ok []
+inner_rests rests shape type fill value span (place ∷ places) = span_rests (is_stored span) rests shape type fill value span (place ∷ places)
+
+-- of each inner chunk from a number on
+abbrev pub inner_chunks_rest : Resting → List ℕ → List ℕ → ElementType → List ℕ → List ℕ → List ℕ → ℕ → List Span → Result (List ℕ) CodecError
+inner_chunks_rest rests shape sizes type fill value places number [] = Ok []
+inner_chunks_rest rests shape sizes type fill value places number (span ∷ spans) = do
+  here ← inner_rests rests shape type fill value span (places_of_inner shape sizes number places)
+  behind ← inner_chunks_rest rests shape sizes type fill value places (suc number) spans
+  Ok (here ++ behind)
+
+-- of each group
+abbrev pub groups_rest : Resting → List ℕ → ElementType → List ℕ → List ℕ → List Span → List (ℕ × List ℕ) → Result (List ℕ) CodecError
+groups_rest rests shape type fill value spans [] = Ok []
+groups_rest rests shape type fill value spans (group ∷ groups) = do
+  here ← span_rests (is_stored (get_or spans group.0 (0, 0))) rests shape type fill value (get_or spans group.0 (0, 0)) group.1
+  behind ← groups_rest rests shape type fill value spans groups
+  Ok (here ++ behind)
+
+-- none where the index can't be read
+abbrev pub spans_rest : Resting → List ℕ → List ℕ → ElementType → List ℕ → List ℕ → List ℕ → Result (List Span) CodecError → Result (List ℕ) CodecError
+spans_rest rests shape sizes type fill value places (Ok spans) = inner_chunks_rest rests shape sizes type fill value places 0 spans
+spans_rest rests shape sizes type fill value places (Err cause) = Ok []
+
+-- what a read of `sharding_indexed` rests on, by what one of its inner chain rests on: the index, and what the inner reads rest on
+abbrev pub shard_rests : List ℕ → Bool → Measure → Decoder → Resting → Resting
+shard_rests shape at_end measure index rests sizes type fill None places = Ok []
+shard_rests shape at_end measure index rests sizes type fill (Some value) places = do
+  size ← index_size measure shape sizes
+  behind ← spans_rest rests shape sizes type fill value places (spans_by shape at_end index sizes value size)
+  Ok (index_bytes_at at_end size value ++ behind)

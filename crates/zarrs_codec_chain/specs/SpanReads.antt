@@ -1,0 +1,189 @@
+-- What reads give of a value that stands in a span: of what a handle keeps, or of bytes in memory.
+use Rattle.std.specs.Prelude.{◌≡◌, ℕ, ◌+◌, ◌-◌, ◌<◌, ◌^◌, if◌then◌else◌, suc, nat_le, Bool, true, false, Option, Some, None, IfOk, List, [], ◌∷◌, length, Vec, Result, Ok, option_map}
+use Rattle.std.specs.List.{All, flat_map}
+use Rattle.std.specs.declared.alloc.Global.{Global}
+use Rattle.zarrs_chunk.specs.Answer.{◌>>=◌, Answers, AnswersBy, GivesBy, demand, is_fault, memory_or_fault}
+use Rattle.zarrs_chunk.specs.ChunkShape.{product}
+use Rattle.zarrs_chunk.specs.Runs.{AreFilled, EndWithin, joined_runs}
+use Rattle.zarrs_chunk.specs.declared.codec_error.CodecError.TheVariants.{InvalidBytesLength, InvalidByteRange}
+use Rattle.zarrs_chunk.specs.declared.codec_error.CodecError.{CodecError}
+use Rattle.zarrs_array_bytes.specs.Elements.{select}
+use Rattle.zarrs_array_bytes.specs.Held.{Held}
+use Rattle.zarrs_array_bytes.specs.Validity.{Holds}
+use Rattle.zarrs_chain.specs.ChainView.{plain_chain}
+use Rattle.zarrs_chain.specs.declared.codec_chain.CodecChain.{CodecChain}
+use Rattle.zarrs_chain.specs.sharding.ShardingCalls.{index_size_of}
+use Rattle.zarrs_chain_meaning.specs.Chain.{taken_form}
+use Rattle.zarrs_chain_meaning.specs.CodecMeaning.{meaning, chain_chunk, chain_representation, codec_representation}
+use Rattle.zarrs_chain_meaning.specs.PlainChain.{PlainChain, PlainCodec, bytes_codec, packbits_codec, vlen_v2_codec, vlen_codec, optional_codec, sharding_codec}
+use Rattle.zarrs_chain_meaning.specs.sharding.InnerChunks.{grid}
+use Rattle.zarrs_chain_meaning.specs.sharding.Sharding.{Span, is_stored, spans_of}
+use Rattle.zarrs_codec.specs.BytesToBytesCodec.{BytesCodecs}
+use Rattle.zarrs_codec.specs.StorageState.{StorageState, are_sure}
+use Rattle.zarrs_codec.specs.declared.bytes_representation.BytesRepresentation.{BytesRepresentation}
+use Rattle.zarrs_codec_chain.specs.ChunkRead.{are_given_sure}
+use Rattle.zarrs_codec_chain.specs.ChunkSource.{bytes_above, source_places}
+use Rattle.zarrs_codec_chain.specs.CodecPart.{codec_read, codec_rests_on}
+use Rattle.zarrs_codec_chain.specs.PartRead.{PlaceReader}
+use Rattle.zarrs_codec_chain.specs.PlaceLaws.{Resting, read_through, rests_through, whole_rests}
+use Rattle.zarrs_codec_chain.specs.ShardRead.{spans_in, span_read, groups_read, index_bytes_at, span_rests, groups_rest}
+use Rattle.zarrs_codec_chain.specs.declared.sharding.value_span.ValueSpan.{ValueSpan}
+use Rattle.zarrs_data_type.specs.Element.{Chunk}
+use Rattle.zarrs_data_type.specs.ElementType.{ElementType}
+use Rattle.zarrs_lent_handles.specs.SpanHandle.{is_span_of, span_state}
+use Rattle.zarrs_shard_runs.specs.GroupedRuns.{order_places}
+use Rattle.zarrs_shard_runs.specs.declared.grouped_runs.InnerRuns.{InnerRuns}
+
+-- ---- spans
+
+-- the bytes in memory that a span is one of, where it is
+abbrev pub span_held : ValueSpan → Option (List ℕ)
+span_held span = option_map (λ bytes. bytes.now) span.held
+
+-- the state of bytes in memory, which are all sure; where there are none, that of the handle
+abbrev pub held_state : Option (List ℕ) → StorageState → StorageState
+held_state None state = state
+held_state (Some bytes) state = record state { value = Some bytes; sure = Some (λ _. true) }
+
+-- the state of a handle, where the value in a span is what is seen of it
+abbrev pub seen_state : ValueSpan → StorageState → StorageState
+seen_state span state = span_state span.at span.len (held_state (span_held span) state)
+
+-- the span ends inside the bytes that it is one of
+abbrev pub StandsIn : ValueSpan → StorageState → Type 0
+StandsIn span state = is_span_of span.at span.len (held_state (span_held span) state).value ≡ true
+
+-- the bytes that a span is one of, where it begins there, and how many bytes it has
+abbrev pub span_parts : ValueSpan → Option (List ℕ) × ℕ × ℕ
+span_parts span = (span_held span, span.at, span.len)
+
+-- the span of a span at an offset, or the error where it ends behind that
+abbrev pub inner_span : ValueSpan → ℕ → ℕ → Result (Option (List ℕ) × ℕ × ℕ) CodecError
+inner_span span offset len = do
+  _ ← demand (nat_le (offset + len) span.len) InvalidByteRange
+  Ok (span_held span, span.at + offset, len)
+
+-- where in a span an index of so many bytes stands, or the error where the span has fewer
+abbrev pub index_span : ValueSpan → ℕ → Bool → Result (Option (List ℕ) × ℕ × ℕ) CodecError
+index_span span size at_end = do
+  _ ← demand (nat_le size span.len) (InvalidBytesLength span.len size)
+  inner_span span (if at_end then span.len - size else 0) size
+
+-- ---- the index
+
+-- where the inner chunks stand, by the index of what is stored
+abbrev pub stored_spans : {B : Type 0} → BytesCodecs B → PlainChain B → List ℕ → Bool → List ℕ → Option (List ℕ) → Result (List Span) CodecError
+stored_spans f index shape at_end sizes None = Ok []
+stored_spans f index shape at_end sizes (Some value) = spans_in shape at_end (chain_representation f index) (chain_chunk f index) sizes value
+
+-- the numbers of the index's bytes
+abbrev pub stored_index_bytes : Bool → ℕ → Option (List ℕ) → List ℕ
+stored_index_bytes at_end size None = []
+stored_index_bytes at_end size (Some value) = index_bytes_at at_end size value
+
+-- the numbers that are given are those of where the inner chunks stand, or the first error
+abbrev pub GivesSpans : {B : Type 0} → BytesCodecs B → CodecChain B → List ℕ → Bool → List ℕ → StorageState → Result (Vec ℕ Global) CodecError → Type 0
+GivesSpans f index shape at_end sizes before result =
+    Answers memory_or_fault (λ numbers. spans_of numbers.items) result (stored_spans f (plain_chain index) shape at_end sizes before.value)
+
+-- no failure of the handle comes where the index's bytes are sure
+abbrev pub SureIndex : {B T : Type 0} → BytesCodecs B → CodecChain B → List ℕ → Bool → List ℕ → StorageState → Result T CodecError → Type 0
+SureIndex f index shape at_end sizes before result =
+    IfOk (index_size_of f index (grid shape sizes)) (λ size. are_sure before.sure (stored_index_bytes at_end size before.value) ≡ true → is_fault result ≡ false)
+
+-- ---- the inner chunks
+
+-- the elements at places of the inner chunk at a span of what is stored, whose chain reads so
+abbrev pub stored_span_read : PlaceReader → List ℕ → ElementType → List ℕ → Option (List ℕ) → Span → List ℕ → Result Chunk CodecError
+stored_span_read read shape type fill None span places = Ok []
+stored_span_read read shape type fill (Some value) span places = span_read (is_stored span) read shape type fill value span places
+
+-- and what that rests on
+abbrev pub stored_span_rests : Resting → List ℕ → ElementType → List ℕ → Option (List ℕ) → Span → List ℕ → Result (List ℕ) CodecError
+stored_span_rests rests shape type fill None span places = Ok []
+stored_span_rests rests shape type fill (Some value) span places = span_rests (is_stored span) rests shape type fill value span places
+
+-- the elements at the places of groups, each of them an inner chunk's
+abbrev pub stored_groups_read : PlaceReader → List ℕ → ElementType → List ℕ → Option (List ℕ) → List Span → List (ℕ × List ℕ) → Result Chunk CodecError
+stored_groups_read read shape type fill None spans groups = Ok []
+stored_groups_read read shape type fill (Some value) spans groups = groups_read read shape type fill value spans groups
+
+-- and what that rests on
+abbrev pub stored_groups_rest : Resting → List ℕ → ElementType → List ℕ → Option (List ℕ) → List Span → List (ℕ × List ℕ) → Result (List ℕ) CodecError
+stored_groups_rest rests shape type fill None spans groups = Ok []
+stored_groups_rest rests shape type fill (Some value) spans groups = groups_rest rests shape type fill value spans groups
+
+-- the number of each group is that of an inner chunk; 64 bits count the groups' places; none of their runs is empty, and each ends within an inner chunk
+pub record AreInnerRuns (shape : List ℕ) (count : ℕ) (groups : List InnerRuns) : Type 0 where
+  pub there : All (λ it. it.number < count) groups
+  pub counted : length (flat_map (λ it. joined_runs it.runs.items) groups) < 2 ^ 64
+  pub filled : All (λ it. AreFilled it.runs.items) groups
+  pub inside : All (λ it. EndWithin (product shape) it.runs.items) groups
+
+-- ---- chains
+
+-- what a chain reads of places
+abbrev pub chain_read : {B : Type 0} → BytesCodecs B → PlainChain B → PlaceReader
+chain_read f chain = read_through f chain.array_to_array ((meaning chain.array_to_bytes).representation f) (codec_read f chain.array_to_bytes) chain.bytes_to_bytes
+
+-- and what that rests on
+abbrev pub chain_rests : {B : Type 0} → BytesCodecs B → PlainChain B → Resting
+chain_rests f chain = rests_through chain.array_to_array (codec_rests_on f chain.array_to_bytes) chain.bytes_to_bytes
+
+-- what its array-to-bytes codec reads of places of the chunk that it gets, by what stands below the bytes-to-bytes codecs
+abbrev pub moved_read : {B : Type 0} → BytesCodecs B → PlainChain B → List ℕ → ElementType → List ℕ → BytesRepresentation → Option (List ℕ) → List ℕ → Result Chunk CodecError
+moved_read f chain encoded type fill r stored places = source_places f chain encoded type fill r (bytes_above (length chain.bytes_to_bytes) stored) places
+
+-- what a read rests on below bytes-to-bytes codecs: with any of them all bytes
+abbrev pub outer_rests : {B : Type 0} → List B → Resting → Resting
+outer_rests [] rests = rests
+outer_rests (codec ∷ codecs) rests = whole_rests
+
+-- and what that rests on
+abbrev pub moved_rests : {B : Type 0} → BytesCodecs B → PlainChain B → Resting
+moved_rests f chain = outer_rests chain.bytes_to_bytes (codec_rests_on f chain.array_to_bytes)
+
+-- the chain takes such chunks, and its array-to-bytes codec gets chunks of this shape, whose values have so many bytes
+abbrev pub TakesForm : {B : Type 0} → BytesCodecs B → CodecChain B → List ℕ → ElementType → List ℕ → List ℕ → BytesRepresentation → Type 0
+TakesForm f chain sizes type fill encoded r = taken_form f (plain_chain chain) sizes type fill ≡ Ok (encoded, r)
+
+-- the chain's array-to-bytes codec takes such chunks, whose values have so many bytes
+abbrev pub CodecMeasures : {B : Type 0} → BytesCodecs B → CodecChain B → List ℕ → ElementType → List ℕ → BytesRepresentation → Type 0
+CodecMeasures f chain encoded type fill r = codec_representation f (plain_chain chain).array_to_bytes encoded type fill ≡ Ok r
+
+-- a container is given of what a read of places answers, or the first error; lack of memory or a failure of the handle may come in its place
+abbrev pub AnswersRuns : ElementType → Result Chunk CodecError → Result Held CodecError → Type 0
+AnswersRuns type expected result = AnswersBy memory_or_fault (Holds type) result expected
+
+-- no failure of the handle comes where these bytes are sure
+abbrev pub SureWhere : {T : Type 0} → StorageState → Result (List ℕ) CodecError → Result T CodecError → Type 0
+SureWhere before rests result = are_given_sure before.sure rests ≡ true → is_fault result ≡ false
+
+-- the same of the bytes that a read of these places rests on
+abbrev pub SurePlaces : {T : Type 0} → StorageState → (Option (List ℕ) → List ℕ → Result (List ℕ) CodecError) → List ℕ → Result T CodecError → Type 0
+SurePlaces before rests places result = SureWhere before (rests before.value places) result
+
+-- of so many elements those in this order are given, or all as they are
+abbrev pub PutsInOrder : ElementType → ℕ → Held → Option (Vec (ℕ × ℕ) Global) → Result Held CodecError → Type 0
+PutsInOrder type count held order result =
+    (chunk : Chunk) → Holds type held chunk → length chunk ≡ count → GivesBy (Holds type) result (Ok (select chunk (order_places count order)))
+
+-- ---- codecs
+
+-- the codec is `sharding_indexed`
+abbrev pub is_sharding : {B : Type 0} → PlainCodec B → Bool
+is_sharding (bytes_codec order) = false
+is_sharding (packbits_codec settings) = false
+is_sharding (vlen_v2_codec codec) = false
+is_sharding (vlen_codec ia ix ib da dx db wide at_end) = false
+is_sharding (optional_codec ma mx mb da dx db) = false
+is_sharding (sharding_codec sa sx sb ia ix ib shape at_end) = true
+
+-- how many shards stand in one another
+abbrev pub shard_depth : {B : Type 0} → PlainCodec B → ℕ
+shard_depth (bytes_codec order) = 0
+shard_depth (packbits_codec settings) = 0
+shard_depth (vlen_v2_codec codec) = 0
+shard_depth (vlen_codec ia ix ib da dx db wide at_end) = 0
+shard_depth (optional_codec ma mx mb da dx db) = 0
+shard_depth (sharding_codec sa sx sb ia ix ib shape at_end) = suc (shard_depth sx)

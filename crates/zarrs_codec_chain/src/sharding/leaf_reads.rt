@@ -1,0 +1,164 @@
+//! Reading runs of places of a value in a span, through a codec that isn't `sharding_indexed`.
+ghost use Rattle.std.specs.Prelude.{◌≡◌, ◌+◌, ◌<◌, ◌≤◌, ◌^◌, IfOk, length, false, true};
+ghost use Rattle.zarrs_array_bytes.specs.Elements.{select};
+ghost use Rattle.zarrs_array_bytes.specs.Held.{items_of};
+ghost use Rattle.zarrs_array_bytes.specs.Validity.{Holds};
+ghost use Rattle.zarrs_chain_meaning.specs.CodecMeaning.{codec_chunk};
+ghost use Rattle.zarrs_chunk.specs.Answer.{GivesBy, seen};
+ghost use Rattle.zarrs_lent_handles.specs.SpanHandle.{spanned};
+ghost use Rattle.zarrs_array_bytes.specs.Tight.{IsTight};
+ghost use Rattle.zarrs_chain.specs.ChainView.{plain_codec};
+ghost use Rattle.zarrs_chain_meaning.specs.Chain.{codec_reads as codec_reads_of};
+ghost use Rattle.zarrs_chunk.specs.ChunkShape.{product};
+ghost use Rattle.zarrs_chunk.specs.Runs.{AreFilled, EndWithin, joined_runs};
+ghost use Rattle.zarrs_codec.specs.StorageState.{after_reading};
+ghost use Rattle.zarrs_codec_chain.specs.ChunkRead.{ChunkReadsRuns, SureRuns};
+ghost use Rattle.zarrs_codec_chain.specs.CodecRead.{Takes};
+ghost use Rattle.zarrs_codec_chain.specs.SpanReads.{StandsIn, is_sharding, seen_state};
+ghost use Rattle.zarrs_data_type.specs.Form.{form_of};
+
+use crate::partial_decoder::codec_read::plain_runs;
+use crate::sharding::span_bytes::span_bytes;
+use crate::sharding::value_span::ValueSpan;
+use std::alloc::Global;
+use zarrs_array_bytes::{ArrayBytes, ArrayBytesRaw};
+use zarrs_chain::ArrayToBytesCodec;
+use zarrs_chain::stages::codec_decode;
+use zarrs_chunk::{ChunkShape, CodecError};
+use zarrs_codec::{BytesPartialDecoderTraits, BytesToBytesCodecTraits, CodecTraits};
+use zarrs_data_type::{DataType, FillValue};
+use zarrs_lent_handles::{LentHandle, SpanHandle};
+
+/// The bytes of a span.
+pub(crate) fn part_of(bytes: &[u8], at: u64, len: u64) -> &[u8]
+    requires inside { at + len ≤ length bytes.now }
+    ensures value { result.now ≡ spanned at len bytes.now }
+{
+    &bytes[at as usize..(at + len) as usize]
+}
+
+/// By what the places rest on alone.
+fn part_in_span<H: BytesPartialDecoderTraits, B: BytesToBytesCodecTraits>(
+    alloc: Global,
+    codec: &ArrayToBytesCodec<B>,
+    handle: &mut H,
+    span: &ValueSpan<'_>,
+    shape: &ChunkShape,
+    kind: &DataType,
+    fill: &FillValue,
+    runs: &[(u64, u64)],
+) -> Result<ArrayBytes<'static>, CodecError>
+    requires taken { Takes B.functions codec.now shape.now kind.now fill.now }
+    requires in_part { (codec_reads_of (plain_codec codec.now)).partial_decode ≡ true }
+    requires plain { is_sharding (plain_codec codec.now) ≡ false }
+    requires counted { product shape.now < 2 ^ 64 }
+    requires stands { StandsIn span.now (H.state handle.old) }
+    requires filled { AreFilled runs.now }
+    requires below { EndWithin (product shape.now) runs.now }
+    requires count { length (joined_runs runs.now) < 2 ^ 64 }
+    ensures answer { ChunkReadsRuns B.functions (plain_codec codec.now) (form_of shape.now kind.now
+        fill.now) (seen_state span.now (H.state handle.old)) runs.now result }
+    ensures tight { IfOk result (IsTight kind.now) }
+    ensures sure { SureRuns B.functions (plain_codec codec.now) (form_of shape.now kind.now fill.now)
+        (seen_state span.now (H.state handle.old)) runs.now result }
+    ensures left { H.state handle.new ≡ after_reading result (H.state handle.old) }
+    ensures same_reference { H.lent handle.new ≡ H.lent handle.old }
+{
+    match span.held {
+        Some(bytes) => {
+            let mut lent = LentHandle::new(Some(part_of(bytes, span.at, span.len)));
+            plain_runs::<LentHandle<'_>, B>(alloc, codec, &mut lent, shape, kind, fill, runs)
+        }
+        None => {
+            let mut below = SpanHandle::new(handle, span.at, span.len);
+            plain_runs::<SpanHandle<'_, H>, B>(alloc, codec, &mut below, shape, kind, fill, runs)
+        }
+    }
+}
+
+/// The elements at the places of these runs of the chunk that a value stands for.
+fn runs_of_bytes<B: BytesToBytesCodecTraits>(
+    alloc: Global,
+    codec: &ArrayToBytesCodec<B>,
+    value: ArrayBytesRaw<'_>,
+    shape: &ChunkShape,
+    kind: &DataType,
+    fill: &FillValue,
+    runs: &[(u64, u64)],
+) -> Result<ArrayBytes<'static>, CodecError>
+    requires taken { Takes B.functions codec.now shape.now kind.now fill.now }
+    requires counted { product shape.now < 2 ^ 64 }
+    requires below { EndWithin (product shape.now) runs.now }
+    // Wide: the form of a chunk, the span and the places.
+    ensures answer { GivesBy (Holds kind.now) result (seen (λ chunk. select chunk
+        (joined_runs runs.now)) (codec_chunk B.functions (plain_codec codec.now) shape.now kind.now
+        fill.now (items_of value.entry))) }
+    ensures tight { IfOk result (IsTight kind.now) }
+{
+    let chunk = codec_decode(alloc, codec, value, shape, kind, fill)?;
+    let count = shape.num_elements()?;
+    chunk.extract_runs(alloc, runs, count, kind)
+}
+
+/// By the whole chunk.
+fn whole_in_span<H: BytesPartialDecoderTraits, B: BytesToBytesCodecTraits>(
+    alloc: Global,
+    codec: &ArrayToBytesCodec<B>,
+    handle: &mut H,
+    span: &ValueSpan<'_>,
+    shape: &ChunkShape,
+    kind: &DataType,
+    fill: &FillValue,
+    runs: &[(u64, u64)],
+) -> Result<ArrayBytes<'static>, CodecError>
+    requires taken { Takes B.functions codec.now shape.now kind.now fill.now }
+    requires whole { (codec_reads_of (plain_codec codec.now)).partial_decode ≡ false }
+    requires counted { product shape.now < 2 ^ 64 }
+    requires stands { StandsIn span.now (H.state handle.old) }
+    requires filled { AreFilled runs.now }
+    requires below { EndWithin (product shape.now) runs.now }
+    requires count { length (joined_runs runs.now) < 2 ^ 64 }
+    ensures answer { ChunkReadsRuns B.functions (plain_codec codec.now) (form_of shape.now kind.now
+        fill.now) (seen_state span.now (H.state handle.old)) runs.now result }
+    ensures tight { IfOk result (IsTight kind.now) }
+    ensures sure { SureRuns B.functions (plain_codec codec.now) (form_of shape.now kind.now fill.now)
+        (seen_state span.now (H.state handle.old)) runs.now result }
+    ensures left { H.state handle.new ≡ after_reading result (H.state handle.old) }
+    ensures same_reference { H.lent handle.new ≡ H.lent handle.old }
+{
+    let value = span_bytes(alloc, handle, span)?;
+    runs_of_bytes(alloc, codec, value, shape, kind, fill, runs)
+}
+
+/// The elements at the places of these runs of a chunk that the codec takes.
+pub(crate) fn leaf_runs<H: BytesPartialDecoderTraits, B: BytesToBytesCodecTraits>(
+    alloc: Global,
+    codec: &ArrayToBytesCodec<B>,
+    handle: &mut H,
+    span: &ValueSpan<'_>,
+    shape: &ChunkShape,
+    kind: &DataType,
+    fill: &FillValue,
+    runs: &[(u64, u64)],
+) -> Result<ArrayBytes<'static>, CodecError>
+    requires taken { Takes B.functions codec.now shape.now kind.now fill.now }
+    requires plain { is_sharding (plain_codec codec.now) ≡ false }
+    requires counted { product shape.now < 2 ^ 64 }
+    requires stands { StandsIn span.now (H.state handle.old) }
+    requires filled { AreFilled runs.now }
+    requires below { EndWithin (product shape.now) runs.now }
+    requires count { length (joined_runs runs.now) < 2 ^ 64 }
+    ensures answer { ChunkReadsRuns B.functions (plain_codec codec.now) (form_of shape.now kind.now
+        fill.now) (seen_state span.now (H.state handle.old)) runs.now result }
+    ensures tight { IfOk result (IsTight kind.now) }
+    ensures sure { SureRuns B.functions (plain_codec codec.now) (form_of shape.now kind.now fill.now)
+        (seen_state span.now (H.state handle.old)) runs.now result }
+    ensures left { H.state handle.new ≡ after_reading result (H.state handle.old) }
+    ensures same_reference { H.lent handle.new ≡ H.lent handle.old }
+{
+    if codec.partial_decoder_capability().partial_decode {
+        part_in_span(alloc, codec, handle, span, shape, kind, fill, runs)
+    } else {
+        whole_in_span(alloc, codec, handle, span, shape, kind, fill, runs)
+    }
+}
