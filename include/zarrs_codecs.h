@@ -249,8 +249,8 @@ uint32_t zarrs_planned_ranges(const uint8_t *header, size_t header_len,
  * all of them, joined. Where all bytes of the ranges that zarrs_planned_ranges returns are among them, the
  * answer is the same for every value that has these bytes there. ZARRS_STORAGE says that a byte is needed
  * which isn't among them: it comes only where the header, the form of the selection and the ranges have no
- * error, and never where all bytes of the value are among them. Ranges that touch, come in another order or
- * end behind the value are rejected. */
+ * error, and never where all bytes of the value are among them; zarrs_lacking returns which bytes to fetch
+ * before it is called again. Ranges that touch, come in another order or end behind the value are rejected. */
 uint32_t zarrs_read_pieces(const uint8_t *header, size_t header_len,
                            uint64_t len, const uint64_t *ranges, size_t ranges_len,
                            const uint8_t *fetched, size_t fetched_len,
@@ -258,6 +258,20 @@ uint32_t zarrs_read_pieces(const uint8_t *header, size_t header_len,
                            uint8_t *masks, size_t masks_len,
                            uint64_t *offsets, size_t offsets_len,
                            uint8_t *bytes, size_t bytes_len, zarrs_sizes *needed);
+
+/* Which bytes zarrs_read_pieces lacks, given the same: ranges in order, each a start and an end, and between
+ * one and the next at least a byte; none where it is answered. The value has each byte of them, and no range
+ * that was fetched has it. Where zarrs_planned_ranges plans the read, they are all planned bytes that are
+ * lacking and no others, so that one round is enough. So a chunk of any codecs is read in rounds, the first one
+ * with no ranges: each fetches what the one before it lacked, and joins ranges that touch. Texts of a
+ * zarrs.vlen whose chains are bytes take at most three: how long the offsets are, the offsets, the texts. Of a
+ * shard the index is lacking first, and then, one inner chunk after the other, what the read of each lacks. Of
+ * any other chain the whole value is lacking. Codes are those of zarrs_read_pieces, but for ZARRS_STORAGE. */
+uint32_t zarrs_lacking(const uint8_t *header, size_t header_len,
+                       uint64_t len, const uint64_t *ranges, size_t ranges_len,
+                       const uint8_t *fetched, size_t fetched_len,
+                       uint64_t tuples, const uint64_t *numbers, size_t numbers_len,
+                       uint64_t *lacking, size_t lacking_len, size_t *needed);
 
 #ifdef __cplusplus
 }

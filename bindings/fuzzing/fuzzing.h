@@ -5,7 +5,7 @@
 #include "zarrs_codecs.h"
 
 enum { ROOM = 1 << 14, PAGE = 4096, AXES = 5, PATTERN = 0xA5 };
-enum { CHECK, REPRESENTATION, ENCODE, DECODE, READ, WRITE, REENCODE, PLAN, PIECES, NAME, MANY, EDIT, KINDS };
+enum { CHECK, REPRESENTATION, ENCODE, DECODE, READ, WRITE, REENCODE, PLAN, PIECES, NAME, MANY, EDIT, LACKING, KINDS };
 /* Memory that ends where none is. */
 typedef struct { uint8_t *begin; } room;
 
@@ -78,6 +78,11 @@ void write_value(fuzzer *f, const header *h, int kind, bool is_stored, lent old,
 void read_several(fuzzer *f, const header *h, const value *v, bool is_stored, uint32_t check);
 /* Makes several edits of a good header's chunk by one call, and each by a write. */
 void edit_several(fuzzer *f, const header *h, const value *v);
+bool same_elements(const elements *a, const elements *b);
+/* Reads a selection by pieces, and fetches what each read lacks; `code` and `read` are what a read of the value answers,
+ * and `plan` the ranges that it plans, where it does. */
+void read_in_rounds(fuzzer *f, const header *h, const value *v, const selection *s, uint32_t code, const elements *read,
+    const uint64_t *plan, size_t planned);
 void turn(fuzzer *f);
 
 #endif

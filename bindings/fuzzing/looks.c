@@ -4,7 +4,7 @@
 #include <stdlib.h>
 #include <string.h>
 
-static bool same_elements(const elements *a, const elements *b)
+bool same_elements(const elements *a, const elements *b)
 {
     return a->masks == b->masks && a->offsets == b->offsets && a->bytes == b->bytes && !memcmp(a->mask, b->mask, a->masks) &&
            !memcmp(a->offset, b->offset, a->offsets * 8) && !memcmp(a->byte, b->byte, a->bytes);
@@ -40,6 +40,32 @@ static void look_tight(fuzzer *f, const header *h, const elements *e, size_t cou
         EXPECT(e->offset[i] <= e->offset[i + 1], "offsets fall");
 }
 
+/* Whether a read is planned: the ranges, and how many numbers they are. */
+static bool plan_of(fuzzer *f, const header *h, const selection *s, uint64_t *ranges, size_t *needed)
+{
+    size_t room_of = some(f, 40);
+    for (int turn = 0; turn < 8; turn++) {
+        bool is_planned = false;
+        lent text = {put(f, f->header, h->text, h->len), h->len};
+        const uint64_t *numbers = put(f, f->numbers, s->number, s->count * 8);
+        uint64_t *to = blank(f, f->to_ranges, room_of * 8);
+        before(f);
+        uint32_t plan = zarrs_planned_ranges(LENT(text), s->tuples, numbers, s->count, to, room_of, &is_planned, needed);
+        if (after(f, h, PLAN, plan))
+            continue;
+        EXPECT(untouched(f->to_ranges, room_of * 8, plan == ZARRS_DONE ? *needed * 8 : 0), "written behind the plan");
+        if (plan == ZARRS_SHORT) {
+            EXPECT(room_of < *needed && *needed <= ROOM / 8, "a plan of another size than was told");
+            room_of = *needed;
+            continue;
+        }
+        if (plan == ZARRS_DONE && is_planned)
+            memcpy(ranges, f->to_ranges.begin + ROOM - room_of * 8, *needed * 8);
+        return plan == ZARRS_DONE && is_planned;
+    }
+    return false;
+}
+
 /* Reads a selection in all ways; `chunk` is the whole where it is known. */
 static void read_all_ways(fuzzer *f, const header *h, const value *v, const elements *chunk)
 {
@@ -49,7 +75,7 @@ static void read_all_ways(fuzzer *f, const header *h, const value *v, const elem
     static __thread uint64_t ranges[ROOM / 8];
     static __thread uint8_t fetched[ROOM];
     make_selection(f, h, &s);
-    size_t count = places(h, &s, place), needed = 0, room_of = some(f, 40), len = 0;
+    size_t count = places(h, &s, place), needed = 0, len = 0;
     uint32_t code = tell(f, h, READ, true, (lent){v->byte, v->size}, 0, (lent){0}, &s, &read);
     EXPECT(code != ZARRS_DONE || count != SIZE_MAX, "a selection outside the chunk was read");
     if (code == ZARRS_DONE) {
@@ -58,26 +84,11 @@ static void read_all_ways(fuzzer *f, const header *h, const value *v, const elem
             EXPECT(same_element(h, &read, i, count, chunk, place[i], h->count), "a read differs from the chunk");
     }
     EXPECT(!chunk || count == SIZE_MAX || code == ZARRS_DONE, "a good selection of a good value isn't read");
-    for (int turn = 0; turn < 8; turn++) {
-        bool is_planned = false;
-        lent text = {put(f, f->header, h->text, h->len), h->len};
-        const uint64_t *numbers = put(f, f->numbers, s.number, s.count * 8);
-        uint64_t *to = blank(f, f->to_ranges, room_of * 8);
-        before(f);
-        uint32_t plan = zarrs_planned_ranges(LENT(text), s.tuples, numbers, s.count, to, room_of, &is_planned, &needed);
-        if (after(f, h, PLAN, plan))
-            continue;
-        EXPECT(untouched(f->to_ranges, room_of * 8, plan == ZARRS_DONE ? needed * 8 : 0), "written behind the plan");
-        if (plan == ZARRS_SHORT) {
-            EXPECT(room_of < needed && needed <= ROOM / 8, "a plan of another size than was told");
-            room_of = needed;
-            continue;
-        }
-        if (plan != ZARRS_DONE || !is_planned)
-            return;
-        memcpy(ranges, f->to_ranges.begin + ROOM - room_of * 8, needed * 8);
-        break;
-    }
+    bool is_planned = plan_of(f, h, &s, ranges, &needed);
+    if (count != SIZE_MAX)
+        read_in_rounds(f, h, v, &s, code, &read, is_planned ? ranges : NULL, needed);
+    if (!is_planned)
+        return;
     size_t kept = 0;
     for (size_t i = 0; i + 1 < needed; i += 2) {
         EXPECT(ranges[i] < ranges[i + 1] && (i == 0 || ranges[i - 1] < ranges[i]), "ranges that touch or are empty");

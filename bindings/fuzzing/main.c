@@ -7,6 +7,7 @@
  * - that a header which zarrs_check refuses is refused by each call;
  * - that offsets begin at 0 and end at the bytes' end, and mask bytes are 0 or 1 (not looked at with `loose`);
  * - that decode, encode, read, write, reencode and reads by pieces agree with each other;
+ * - that a read of pieces says which bytes it lacks, and is answered in at most three rounds when these are fetched;
  * - that several selections are read, and several edits made, by one call as by one call each.
  * It prints how many calls there were of each kind, and ends the process at the first fault, whose seed it prints.
  */
@@ -19,7 +20,7 @@
 
 static const char *const KIND_NAMES[] = {"check", "representation", "encode", "decode", "read", "write",
                                          "reencode", "planned_ranges", "read_pieces", "error_name",
-                                         "read_many", "edit"};
+                                         "read_many", "edit", "lacking"};
 static double limit;
 
 static double now(void)

@@ -9,13 +9,17 @@
 __thread long allocations_left = -1;
 __thread bool was_refused;
 #if defined(__has_feature)
-#if __has_feature(address_sanitizer)
-#define __SANITIZE_ADDRESS__ 1
+#if __has_feature(address_sanitizer) || __has_feature(thread_sanitizer)
+#define HAS_ITS_OWN_MALLOC 1
 #endif
 #endif
 
-/* With the address sanitizer malloc is its own, and nothing is refused. */
-#ifndef __SANITIZE_ADDRESS__
+#if defined(__SANITIZE_ADDRESS__) || defined(__SANITIZE_THREAD__)
+#define HAS_ITS_OWN_MALLOC 1
+#endif
+
+/* With a sanitizer of addresses or threads malloc is its own, and nothing is refused. */
+#ifndef HAS_ITS_OWN_MALLOC
 extern void *__libc_malloc(size_t);
 extern void *__libc_realloc(void *, size_t);
 
@@ -75,11 +79,14 @@ void *blank(fuzzer *f, room to, size_t len)
     return len == 0 && some(f, 2) ? NULL : to.begin + ROOM - len;
 }
 
+/* Whether bytes have the pattern: each is as the one behind it. */
+static bool has_pattern(const uint8_t *at, size_t len)
+{
+    return len == 0 || (at[0] == PATTERN && memcmp(at, at + 1, len - 1) == 0);
+}
+
 /* Whether a room of `len` bytes to be written has the pattern, but for the first `kept` of them. */
 bool untouched(room it, size_t len, size_t kept)
 {
-    static uint8_t pattern[ROOM];
-    if (pattern[0] != PATTERN)
-        memset(pattern, PATTERN, ROOM);
-    return memcmp(it.begin, pattern, ROOM - len) == 0 && memcmp(it.begin + ROOM - len + kept, pattern, len - kept) == 0;
+    return has_pattern(it.begin, ROOM - len) && has_pattern(it.begin + ROOM - len + kept, len - kept);
 }

@@ -1,9 +1,8 @@
 -- What containers cross as, by what their calls lend of them.
-use Rattle.std.proofs.Common.{◌≡◌, ℕ, List, [], Result, Ok, Err, refl}
-use Rattle.zarrs_chunk.specs.Answer.{seen}
+use Rattle.std.proofs.Common.{◌≡◌, ℕ, List, [], Ok, Err, refl}
 use Rattle.zarrs_chunk.specs.declared.codec_error.CodecError.{CodecError}
 use Rattle.zarrs_array_bytes.specs.Held.{Held, flen, vlen, masked}
-use Rattle.zarrs_array_bytes.specs.Parts.{fixed_items, variable_part, optional_part}
+use Rattle.zarrs_array_bytes.specs.Parts.{fixed_items}
 use Rattle.zarrs_chain.proofs.FillTests.{optional_items, variable_items}
 use Rattle.zarrs_c_calls.specs.Buffers.{buffers, crossed, masked_buffers}
 

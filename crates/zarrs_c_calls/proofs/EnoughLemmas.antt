@@ -1,9 +1,8 @@
 -- Ranges that are returned for a plan have all bytes that are planned.
-use Rattle.std.proofs.Common.{◌≡◌, ℕ, ◌+◌, ◌-◌, ◌*◌, ◌<◌, ◌≤◌, ◌&&◌, ◌||◌, Bool, true, false, not, if◌then◌else◌, Option, Some, None, List, [], ◌∷◌, Result, Ok, Err, IsOkAnd, refl, ap, sym, ◌∙◌, subst, arith}
+use Rattle.std.proofs.Common.{◌≡◌, ℕ, ◌*◌, ◌<◌, ◌&&◌, ◌||◌, Bool, true, false, not, if◌then◌else◌, Option, Some, None, List, [], ◌∷◌, Result, Ok, Err, IsOkAnd, refl, ap, sym, ◌∙◌, subst}
 use Rattle.std.specs.Prelude.{is_some}
 use Rattle.std.specs.List.{All, list_all, list_any, range_with_len}
 use Rattle.std.specs.List.Sorted.{IsPermutation}
-use Rattle.std.proofs.lemmas.Bool.Decides.{nat_tests}
 use Rattle.std.proofs.lemmas.List.Folds.{list_all-append}
 use Rattle.std.proofs.lemmas.List.Sorted.{list_any-IsPermutation}
 use Rattle.zarrs_chunk.specs.Answer.{◌>>=◌, seen}
@@ -33,7 +32,6 @@ use Rattle.zarrs_codec_chain.proofs.LawfulPart.{part_laws}
 use Rattle.zarrs_codec_chain.proofs.PlaceWrites.{bytes_alone}
 use Rattle.zarrs_codec_chain.proofs.PlannedPlaces.{planned_are_meant, standing_is}
 use Rattle.zarrs_json.specs.Header.{Header, header_form}
-use Rattle.zarrs_lent_handles.specs.Joined.{has_number, have_number}
 use Rattle.zarrs_lent_handles.specs.Pieces.{is_at_hand}
 use Rattle.zarrs_codec_chain.specs.PlannedReads.{ArePlanned}
 use Rattle.zarrs_c_calls.specs.Codes.{codec_call_answer}
@@ -77,21 +75,20 @@ in_place (Some own) kept region e = (own, refl)
 
 -- ---- of an array-to-bytes codec
 
-module _ (made : List ByteSpan) (test : ℕ → Bool) (all : (n : ℕ) → have_number made n ≡ true → test n ≡ true) where
-  -- numbers that pass, which this answers
+module _ (made : List ByteSpan) (test : ℕ → Bool) where
+  -- the numbers that this answers all pass just where all bytes of the ranges do
   abbrev Passing : Result (List ℕ) CodecError → Type 0
-  Passing r = (numbers : List ℕ) × (r ≡ Ok numbers) × (list_all test numbers ≡ true)
+  Passing r = (numbers : List ℕ) × (r ≡ Ok numbers) × (list_all test numbers ≡ list_all test (range_indices made))
 
-  codec_passes : (codec : PlainCodec KnownBytesCodec) (sizes : List ℕ) (type : ElementType) (fill places : List ℕ) → IsCodecPlan codec sizes type fill places made → Passing (codec_rests_on codec sizes type fill None places)
+  codec_passes : (codec : PlainCodec KnownBytesCodec) (sizes : List ℕ) (type : ElementType) (fill places : List ℕ) → IsCodecPlan codec sizes type fill places made → Passing (codec_rests_on known_codecs codec sizes type fill None places)
   codec_passes codec sizes type fill places plan =
-      let b = (part_laws codec).planned_bytes sizes type fill places made plan in
-      (b.0, b.1, sym (b.2 test) ∙ each_passes test made all)
+      let b = (part_laws codec).planned_bytes known_codecs sizes type fill places made plan in
+      (b.0, b.1, sym (b.2 test))
 
   -- over `bytes` in whatever order the places are planned
   moved_passes : (type : ElementType) (places planned : List ℕ) → IsPermutation places planned → IsPlan (place_size type) planned made → Passing (ok (place_bytes (place_size type) places))
   moved_passes type places planned same plan =
-      let all_planned : list_all test (place_bytes (place_size type) planned) ≡ true = subst (λ (ns : List ℕ). list_all test ns ≡ true) plan.bytes (each_passes test made all) in
-      (place_bytes (place_size type) places, refl, same_bytes test (place_size type) places planned same ∙ all_planned)
+      (place_bytes (place_size type) places, refl, same_bytes test (place_size type) places planned same ∙ ap (list_all test) (sym plan.bytes))
 
   -- ---- through a chain
 
@@ -103,9 +100,9 @@ module _ (made : List ByteSpan) (test : ℕ → Bool) (all : (n : ℕ) → have_
   was_planned false found places e = absurd (cc)
 
   chain_passes : (b : Bool) (arrange : List ℕ → List ℕ) (codec : PlainCodec KnownBytesCodec) (type : ElementType) (fill : List ℕ) (p : Result (List ℕ) CodecError) (t : Result (List ℕ × BytesRepresentation) CodecError) (places : List ℕ)
-      → ((sizes meant : List ℕ) → p ≡ Ok meant → IsCodecPlan codec sizes type fill (arrange meant) made → Passing (codec_rests_on codec sizes type fill None meant))
+      → ((sizes meant : List ℕ) → p ≡ Ok meant → IsCodecPlan codec sizes type fill (arrange meant) made → Passing (codec_rests_on known_codecs codec sizes type fill None meant))
       → seen (some_if b) (seen arrange p) ≡ Ok (Some places) → IsOkAnd t (λ taken. IsCodecPlan codec taken.0 type fill places made)
-      → (numbers : List ℕ) × ((p >>= λ found. t >>= λ taken. codec_rests_on codec taken.0 type fill None found >>= λ bytes. ok (some_if b bytes)) ≡ Ok (Some numbers)) × (list_all test numbers ≡ true)
+      → (numbers : List ℕ) × ((p >>= λ found. t >>= λ taken. codec_rests_on known_codecs codec taken.0 type fill None found >>= λ bytes. ok (some_if b bytes)) ≡ Ok (Some numbers)) × (list_all test numbers ≡ list_all test (range_indices made))
   chain_passes b arrange codec type fill (Err e) t places passing is plan = absurd (cc)
   chain_passes b arrange codec type fill (Ok meant) (Err e) places passing is plan = absurd plan
   chain_passes b arrange codec type fill (Ok meant) (Ok taken) places passing is plan =
@@ -120,7 +117,7 @@ module _ (made : List ByteSpan) (test : ℕ → Bool) (all : (n : ℕ) → have_
   module _ (form : ChunkForm KnownBytesCodec) (selection : Selection) (are : All IsMapping form.chain.array_to_array) (positive : All (λ size. 0 < size) form.sizes) where
     -- the selected places, where these are planned in their order
     ordered_passes : (planned : Option Region) → planned_region form selection ≡ planned → (sizes meant : List ℕ) → encoded_places form.type form.chain.array_to_array form.sizes selection ≡ Ok meant
-        → IsCodecPlan form.chain.array_to_bytes sizes form.type form.fill (places_in_order form.chain.array_to_array form.sizes planned meant) made → Passing (codec_rests_on form.chain.array_to_bytes sizes form.type form.fill None meant)
+        → IsCodecPlan form.chain.array_to_bytes sizes form.type form.fill (places_in_order form.chain.array_to_array form.sizes planned meant) made → Passing (codec_rests_on known_codecs form.chain.array_to_bytes sizes form.type form.fill None meant)
     ordered_passes None p sizes meant e plan = codec_passes form.chain.array_to_bytes sizes form.type form.fill meant plan
     ordered_passes (Some region) p sizes meant e plan =
         let own = in_place (form_in_place form) _ region p in
@@ -128,11 +125,11 @@ module _ (made : List ByteSpan) (test : ℕ → Bool) (all : (n : ℕ) → have_
         let chain_is : IsChainOfMappings form.chain = record { mappings = are; inner_mappings = subst (λ (m : Meaning KnownBytesCodec). m.Mapped) (sym codec_is.means) tt } in
         let standing : List ℕ = standing_places form.chain.array_to_array form.sizes region in
         let order = planned_are_meant KnownBytesCodec form selection meant standing chain_is positive e (standing_is form selection region meant p e) in
-        subst (λ (p : Part KnownBytesCodec). Passing (p.rests_on sizes form.type form.fill None meant)) (sym codec_is.does)
+        subst (λ (p : Part KnownBytesCodec). Passing (p.rests_on known_codecs sizes form.type form.fill None meant)) (sym codec_is.does)
         (moved_passes form.type meant standing order.same (subst (λ (p : Part KnownBytesCodec). p.IsPlanned sizes form.type form.fill standing made) codec_is.does plan))
 
-    form_passes : (places : List ℕ) → planned_places form selection ≡ Ok (Some places) → IsReadPlan known_codecs form (Some made) (Some places)
-        → (numbers : List ℕ) × ArePlanned known_codecs form selection numbers × (list_all test numbers ≡ true)
+    pub form_passes : (places : List ℕ) → planned_places form selection ≡ Ok (Some places) → IsReadPlan known_codecs form (Some made) (Some places)
+        → (numbers : List ℕ) × ArePlanned known_codecs form selection numbers × (list_all test numbers ≡ list_all test (range_indices made))
     form_passes places is plan =
         chain_passes (reads_places form.chain.bytes_to_bytes form.chain.array_to_bytes) (places_in_order form.chain.array_to_array form.sizes (planned_region form selection)) form.chain.array_to_bytes form.type form.fill (encoded_places form.type form.chain.array_to_array form.sizes selection) (taken_form known_codecs form.chain form.sizes form.type form.fill) places
         (ordered_passes (planned_region form selection) refl) is plan
@@ -154,4 +151,5 @@ plan_is_enough text tuples numbers header selection plan ranges pieces reads mea
     let b = bind_ok (chain_representation known_codecs form.chain form.sizes form.type form.fill) (λ _. planned_places form selection) (Some places) (p.0 ∙ ap ok told.2) in
     let own : IsReadPlan known_codecs form (Some made) (Some places) = subst (λ (h : Header). IsReadPlan known_codecs (header_form h) (Some made) (Some places)) (sym p.1) told.3 in
     let sound = header_sound text header reads in
-    form_passes made (is_at_hand pieces) (λ n e. all n (told.4.same n ∙ e)) form selection sound.mappings sound.positive places b.2 own
+    let p = form_passes made (is_at_hand pieces) form selection sound.mappings sound.positive places b.2 own in
+    (p.0, p.1, p.2 ∙ each_passes (is_at_hand pieces) made (λ n e. all n (told.4.same n ∙ e)))

@@ -9,6 +9,7 @@ pub mod EditLemmas
 pub mod HeaderLemmas
 pub mod JoinedLemmas
 pub mod LackingLemmas
+pub mod RangesLacking
 pub mod ListLemmas
 pub mod ManyLemmas
 pub mod PlanLemmas

@@ -1,5 +1,5 @@
 -- Several containers as they cross to C: the parts of each behind those of the one before.
-use Rattle.std.specs.Prelude.{◌≡◌, ℕ, ◌+◌, ◌^◌, ◌-◌, min, if◌then◌else◌, List, [], ◌∷◌, ◌++◌, length}
+use Rattle.std.specs.Prelude.{◌≡◌, ℕ, ◌^◌, ◌-◌, min, if◌then◌else◌, List, [], ◌∷◌, ◌++◌, length}
 use Rattle.zarrs_array_bytes.specs.Held.{Held}
 use Rattle.zarrs_c_calls.specs.Buffers.{Buffers, buffers, crossed, have_room, with_fronts}
 use Rattle.zarrs_c_calls.specs.declared.sizes.Sizes.{Sizes}

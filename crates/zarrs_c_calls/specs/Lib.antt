@@ -19,3 +19,4 @@ pub mod PlanSeen
 pub mod LackingByte
 pub mod Fetched
 pub mod Enough
+pub mod LackingRanges

@@ -37,7 +37,7 @@ fn bytes_of<'a>(start: u64, end: u64, left: &'a [u8]) -> Result<&'a [u8], Cause>
 }
 
 /// The pieces of these ranges, whose bytes are joined in `fetched`.
-fn pieces_given<'a>(
+pub(crate) fn pieces_given<'a>(
     alloc: Global,
     ranges: &[u64],
     fetched: &'a [u8],
@@ -88,7 +88,7 @@ fn read_pieces_part(
 }
 
 /// The whole value, where the first of pieces that stand apart has all of its bytes.
-fn whole_value<'a>(len: u64, pieces: &[Piece<'a>]) -> Option<&'a [u8]>
+pub(crate) fn whole_value<'a>(len: u64, pieces: &[Piece<'a>]) -> Option<&'a [u8]>
     ensures value { option_map (λ value. value.now) result ≡ whole_of len (pieces_seen pieces.now) }
 {
     let Some(piece) = pieces.first() else {

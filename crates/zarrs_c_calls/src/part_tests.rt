@@ -16,7 +16,7 @@ struct Read {
     bytes: &'static [u8],
 }
 
-const BOX: u64 = 18446744073709551615;
+pub(crate) const BOX: u64 = 18446744073709551615;
 
 const READS: &'static [Read] = &[
     Read {
@@ -244,7 +244,7 @@ fn planned_ranges_are_joined(rt: HostRuntime) {
     is(&rt, "needed", &needed, &4);
 }
 
-const SUMMED: &'static str =
+pub(crate) const SUMMED: &'static str =
     r#"{"shape":[2,2],"data_type":"uint8","fill_value":"09","codecs":["bytes","crc32c"]}"#;
 
 #[test]

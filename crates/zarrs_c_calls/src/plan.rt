@@ -43,7 +43,7 @@ fn ranges_of(
 }
 
 /// Ranges as numbers, each a start and an end.
-fn numbers_of(alloc: Global, ranges: &[ByteRange]) -> Result<Vec<u64>, AllocError>
+pub(crate) fn numbers_of(alloc: Global, ranges: &[ByteRange]) -> Result<Vec<u64>, AllocError>
     ensures numbers { IfOk result (λ v. v.items ≡ range_numbers ranges.now) }
 {
     let mut numbers = Vec::new(alloc);
