@@ -1,26 +1,25 @@
 -- A region's other axes, and what is checked before a row is read.
-use Rattle.std.proofs.Common.{◌≡◌, ℕ, suc, ◌+◌, ◌-◌, ◌*◌, ◌<◌, ◌^◌, true, nat_lt, List, [], ◌∷◌, length, map, take, drop, Result, Ok, Err, arith, refl, ap, ◌∙◌}
+use Rattle.std.proofs.Common.{◌≡◌, ℕ, suc, ◌+◌, ◌-◌, ◌*◌, ◌<◌, ◌^◌, true, List, [], ◌∷◌, length, map, take, drop, Result, Ok, Err, arith, refl, ap, ◌∙◌}
 use Rattle.std.specs.Prelude.{slice_index, replicate}
 use Rattle.std.proofs.lemmas.Bool.{and_from}
+use Rattle.std.proofs.lemmas.Bool.Decides.{nat_tests}
 use Rattle.std.proofs.lemmas.List.{take_all}
-use Rattle.zarrs_chunk.specs.Answer.{◌>>=◌, Excused, checked_u64, demand, memory, fault, memory_or_fault}
-use Rattle.zarrs_chunk.specs.ArraySubset.{ends_fit}
-use Rattle.zarrs_chunk.specs.ChunkShape.{product}
-use Rattle.zarrs_chunk.specs.Region.{Region}
-use Rattle.zarrs_chunk.specs.Selection.{subset, len_of}
-use Rattle.zarrs_chunk.specs.Tuples.{box_tuples}
-use Rattle.zarrs_chunk.specs.declared.codec_error.CodecError.{CodecError}
-use Rattle.zarrs_chunk.specs.declared.codec_error.CodecError.TheVariants.{InvalidFillValue, Overflow}
-use Rattle.zarrs_chunk.proofs.Inside.{lt_test}
-use Rattle.zarrs_data_type.specs.Element.{Chunk, fill_element}
-use Rattle.zarrs_data_type.specs.ElementType.{ElementType, fixed, text, bytes, optional, element_size}
-use Rattle.zarrs_data_type.specs.FillValue.{fill_fits}
-use Rattle.zarrs_data_type.specs.Form.{Form}
-use Rattle.zarrs_array_bytes.specs.Chunks.{fill_chunk}
-use Rattle.zarrs_array_bytes.specs.Validity.{sizes_fit}
+use Rattle.zarrs_codec_chain.specs.Answer.{◌>>=◌, AnswersBy, Excused, checked_u64, demand, memory, memory_or_fault}
+use Rattle.zarrs_codec_chain.specs.ArraySubset.{ends_fit}
+use Rattle.zarrs_codec_chain.specs.ChunkShape.{product}
+use Rattle.zarrs_codec_chain.specs.Region.{Region}
+use Rattle.zarrs_codec_chain.specs.Selection.{subset, len_of}
+use Rattle.zarrs_codec_chain.specs.Tuples.{box_tuples}
+use Rattle.zarrs_codec_chain.specs.CodecError.{CodecError}
+use Rattle.zarrs_codec_chain.specs.CodecError.TheVariants.{InvalidFillValue}
+use Rattle.zarrs_codec_chain.specs.Element.{Chunk, fill_element}
+use Rattle.zarrs_codec_chain.specs.ElementType.{ElementType, fixed, text, bytes, optional, element_size}
+use Rattle.zarrs_codec_chain.specs.FillValue.{fill_fits}
+use Rattle.zarrs_codec_chain.specs.Form.{Form}
+use Rattle.zarrs_codec_chain.specs.Chunks.{fill_chunk}
+use Rattle.zarrs_codec_chain.specs.Validity.{Holds, sizes_fit}
 use Rattle.zarrs_uses.specs.ChunkedArray.{array_element, array_region}
-use Rattle.zarrs_chain_meaning.proofs.PartSteps.{none_fit}
-use Rattle.zarrs_array_to_array.proofs.Stages.{first_false}
+use Rattle.zarrs_codec_chain.specs.FewerExcused.{FewerAreExcused}
 
 -- ---- the axes behind the first
 
@@ -36,7 +35,8 @@ ends_all : (starts lengths : List ℕ) → ((axis : ℕ) → axis < length start
 ends_all [] lengths h = refl
 ends_all (start ∷ starts) [] h = refl
 ends_all (start ∷ starts) (len ∷ lengths) h =
-    and_from _ _ (lt_test (start + len) (2 ^ 64) (h 0 (omega arith))) (ends_all starts lengths (λ axis l. h (suc axis) (omega arith)))
+    let first = h 0 (omega arith) in
+    and_from _ _ (grind (arith, nat_tests)) (ends_all starts lengths (λ axis l. h (suc axis) (omega arith)))
 
 -- the ranges of a region's other axes end where 64 bits hold it
 pub rest_fits : (starts lengths : List ℕ) → length starts ≡ length lengths → ((axis : ℕ) → axis < length starts → slice_index starts axis + slice_index lengths axis < 2 ^ 64) → ends_fit (behind_first starts) (behind_first lengths) ≡ true
@@ -57,15 +57,25 @@ two_passed (Ok a) (Ok b) third whole one other e d = refl
 two_passed (Ok a) (Err x) third whole one other e d = absurd (cc)
 two_passed (Err x) second third whole one other e d = absurd (cc)
 
-refused_third : {V W : Type 0} (third later : Result (Unit {0}) CodecError) (filled : V) (whole : W) (error : CodecError) → later ≡ Ok tt → (third >>= λ _. later >>= λ _. (let made : Result V CodecError = Ok filled in made)) ≡ Err error → (third >>= λ _. (let made : Result W CodecError = Ok whole in made)) ≡ Err error
-refused_third (Ok a) (Ok b) filled whole error fits e = absurd (cc)
-refused_third (Ok a) (Err x) filled whole error fits e = absurd (cc)
-refused_third (Err x) later filled whole error fits e = cc
+refused_third : {V W : Type 0} (third later : Result (Unit {0}) CodecError) (filled : V) (whole : W) (error : CodecError) → ((cause : CodecError) → later ≡ Err cause → ⊥) → (third >>= λ _. later >>= λ _. (let made : Result V CodecError = Ok filled in made)) ≡ Err error → (third >>= λ _. (let made : Result W CodecError = Ok whole in made)) ≡ Err error
+refused_third (Ok a) (Ok b) filled whole error sound e = absurd (cc)
+refused_third (Ok a) (Err x) filled whole error sound e = absurd (sound x refl)
+refused_third (Err x) later filled whole error sound e = cc
+
+-- no elements take no bytes
+none_refused : (type : ElementType) (error : CodecError) → sizes_fit type 0 ≡ Err error → ⊥
+none_refused (fixed width components sign) error e =
+    let none : 0 * element_size width components ≡ 0 = omega arith in
+    let passed : (let it : Result (Unit {0}) CodecError = Ok tt in it) ≡ Err error = rw none at e in
+    cc
+none_refused text error e = cc
+none_refused bytes error e = cc
+none_refused (optional type) error e = none_refused type error e
 
 -- a fill value that doesn't fit is the first error of the region too
-pub fill_refused : (form : Form) (chunks : List Chunk) (region : Region) (one other : ℕ) (error : CodecError) → checked_u64 (product form.sizes) ≡ Ok one → len_of (subset region) ≡ Ok other
-    → Excused (memory error) (fill_chunk form.type 0 form.fill ≡ Err error) → Excused (memory_or_fault error) (array_region form chunks region ≡ Err error)
-fill_refused form chunks region one other error first second h = λ wants.
+pub fill_refused : FewerAreExcused → (form : Form) (chunks : List Chunk) (region : Region) (one other : ℕ) (error : CodecError) → checked_u64 (product form.sizes) ≡ Ok one → len_of (subset region) ≡ Ok other
+    → AnswersBy memory (Holds form.type) (Err error) (fill_chunk form.type 0 form.fill) → Excused (memory_or_fault error) (array_region form chunks region ≡ Err error)
+fill_refused fewer form chunks region one other error first second h = λ wants.
     let whole = map (array_element form.sizes chunks) (box_tuples region.starts region.lengths) in
     two_passed (checked_u64 (product form.sizes)) (len_of (subset region)) (demand (fill_fits form.type form.fill) InvalidFillValue) whole one other first second
-    ∙ refused_third (demand (fill_fits form.type form.fill) InvalidFillValue) (sizes_fit form.type 0) (replicate 0 (fill_element form.type form.fill)) whole error (none_fit form.type) (h (first_false (memory error) (fault error) wants))
+    ∙ refused_third (demand (fill_fits form.type form.fill) InvalidFillValue) (sizes_fit form.type 0) (replicate 0 (fill_element form.type form.fill)) whole error (none_refused form.type) (fewer form.type (Err error) (fill_chunk form.type 0 form.fill) h wants)

@@ -2,24 +2,24 @@
 use Rattle.std.proofs.Common.{◌≡◌, ℕ, true, Option, Some, List, length, Result, Ok, Err, ap, sym, ◌∙◌, refl, subst}
 use Rattle.std.specs.Prelude.{◌<◌, IsOk}
 use Rattle.std.specs.List.{All}
-use Rattle.zarrs_chunk.specs.Answer.{◌>>=◌, AnswersBy, Excused, memory, memory_or_fault, seen}
-use Rattle.zarrs_chunk.specs.ChunkShape.{product}
-use Rattle.zarrs_chunk.specs.Region.{Region}
-use Rattle.zarrs_chunk.specs.Selection.{Selection, places_of}
-use Rattle.zarrs_chunk.specs.declared.codec_error.CodecError.{CodecError}
-use Rattle.zarrs_data_type.specs.Element.{Chunk}
-use Rattle.zarrs_data_type.specs.ElementType.{ElementType}
-use Rattle.zarrs_array_bytes.specs.Chunks.{selected_chunk}
-use Rattle.zarrs_array_bytes.specs.Elements.{elements, select}
-use Rattle.zarrs_array_bytes.specs.Held.{Held}
-use Rattle.zarrs_array_bytes.specs.SameBytes.{is_same_held}
-use Rattle.zarrs_array_bytes.specs.Tight.{IsTight}
-use Rattle.zarrs_array_bytes.specs.Validity.{Holds, validity}
-use Rattle.zarrs_codec.specs.BytesToBytesCodec.{BytesCodecs}
-use Rattle.zarrs_codec.specs.declared.capabilities.PartialDecoderCapability.{PartialDecoderCapability}
-use Rattle.zarrs_chain_meaning.specs.ChunkForm.{ChunkForm}
-use Rattle.zarrs_chain_meaning.specs.CodecMeaning.{ChainStands}
-use Rattle.zarrs_chain_meaning.specs.Laws.{IsChainOfMappings}
+use Rattle.zarrs_codec_chain.specs.Answer.{◌>>=◌, AnswersBy, Excused, memory, memory_or_fault, seen}
+use Rattle.zarrs_codec_chain.specs.ChunkShape.{product}
+use Rattle.zarrs_codec_chain.specs.Region.{Region}
+use Rattle.zarrs_codec_chain.specs.Selection.{Selection, places_of}
+use Rattle.zarrs_codec_chain.specs.CodecError.{CodecError}
+use Rattle.zarrs_codec_chain.specs.Element.{Chunk}
+use Rattle.zarrs_codec_chain.specs.ElementType.{ElementType}
+use Rattle.zarrs_codec_chain.specs.Chunks.{selected_chunk}
+use Rattle.zarrs_codec_chain.specs.Elements.{elements, select}
+use Rattle.zarrs_codec_chain.specs.Held.{Held}
+use Rattle.zarrs_codec_chain.specs.SameBytes.{is_same_held}
+use Rattle.zarrs_codec_chain.specs.Tight.{IsTight}
+use Rattle.zarrs_codec_chain.specs.Validity.{Holds, validity}
+use Rattle.zarrs_codec_chain.specs.BytesToBytesCodec.{BytesCodecs}
+use Rattle.zarrs_codec_chain.specs.PartialDecoderCapability.{PartialDecoderCapability}
+use Rattle.zarrs_codec_chain.specs.ChunkForm.{ChunkForm}
+use Rattle.zarrs_codec_chain.specs.CodecMeaning.{ChainStands}
+use Rattle.zarrs_codec_chain.specs.Laws.{IsChainOfMappings}
 use Rattle.zarrs_codec_chain.specs.ChunkRead.{stored_read}
 use Rattle.zarrs_codec_chain.specs.ChunkSource.{Source, source_made}
 use Rattle.zarrs_codec_chain.specs.MadeCoder.{made_read}

@@ -1,12 +1,12 @@
 -- What a cache of decoded chunks promises.
 use Rattle.std.specs.Prelude.{◌≡◌, ℕ, List, Vec, Result}
 use Rattle.std.proofs.Common.{Global}
-use Rattle.zarrs_chunk.specs.Answer.{AnswersBy, memory}
-use Rattle.zarrs_chunk.specs.declared.codec_error.CodecError.{CodecError}
-use Rattle.zarrs_array_bytes.specs.Held.{Held}
-use Rattle.zarrs_array_bytes.specs.Validity.{Holds}
-use Rattle.zarrs_codec.specs.BytesToBytesCodec.{BytesCodecs}
-use Rattle.zarrs_chain_meaning.specs.ChunkForm.{ChunkForm}
+use Rattle.zarrs_codec_chain.specs.Answer.{AnswersBy, memory}
+use Rattle.zarrs_codec_chain.specs.CodecError.{CodecError}
+use Rattle.zarrs_codec_chain.specs.Held.{Held}
+use Rattle.zarrs_codec_chain.specs.Validity.{Holds}
+use Rattle.zarrs_codec_chain.specs.BytesToBytesCodec.{BytesCodecs}
+use Rattle.zarrs_codec_chain.specs.ChunkForm.{ChunkForm}
 use Rattle.zarrs_codec_chain.specs.ChunkRead.{chunk_of}
 use Rattle.zarrs_uses.specs.Decoded.{IsDecoded, decoded_under}
 use Rattle.zarrs_uses.specs.declared.cache.ChunkCache.{ChunkCache}

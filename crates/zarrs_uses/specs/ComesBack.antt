@@ -1,14 +1,18 @@
 -- A chunk that is encoded and decoded again.
-use Rattle.std.specs.Prelude.{ℕ, List, Result}
-use Rattle.zarrs_chunk.specs.Answer.{GivesBy}
-use Rattle.zarrs_chunk.specs.declared.codec_error.CodecError.{CodecError}
-use Rattle.zarrs_data_type.specs.Element.{Chunk}
-use Rattle.zarrs_data_type.specs.ElementType.{ElementType}
-use Rattle.zarrs_data_type.specs.Form.{Form}
-use Rattle.zarrs_array_bytes.specs.Held.{Held}
-use Rattle.zarrs_array_bytes.specs.Validity.{Holds}
+use Rattle.std.specs.Prelude.{Result}
+use Rattle.zarrs_codec_chain.specs.Answer.{GivesBy}
+use Rattle.zarrs_codec_chain.specs.BytesToBytesCodec.{BytesCodecs}
+use Rattle.zarrs_codec_chain.specs.Chain.{held_value}
+use Rattle.zarrs_codec_chain.specs.CodecError.{CodecError}
+use Rattle.zarrs_codec_chain.specs.CodecMeaning.{normal_form}
+use Rattle.zarrs_codec_chain.specs.Element.{Chunk}
+use Rattle.zarrs_codec_chain.specs.Form.{Form}
+use Rattle.zarrs_codec_chain.specs.Held.{Held}
+use Rattle.zarrs_codec_chain.specs.PlainChain.{PlainChain}
+use Rattle.zarrs_codec_chain.specs.Validity.{Holds}
 
--- Where a value is encoded of what was given, a container is returned of what is kept of the chunk; else the error of encoding. Only lack of memory may come in its place.
-abbrev pub ComesBack : (Form → Held → Result (List ℕ) CodecError) → (ElementType → Chunk → Chunk) → Form → Held → Result Held CodecError → Type 0
-ComesBack encoded kept form given result =
-    GivesBy (λ decoded _. (chunk : Chunk) × Holds form.type given chunk × Holds form.type decoded (kept form.type chunk)) result (encoded form given)
+-- Where the chain writes a value of what was given, a container is returned of what the chain keeps of the chunk, its normal form; else the error of encoding. Only lack of memory may come in its place.
+abbrev pub ComesBack : {B : Type 0} → BytesCodecs B → PlainChain B → Form → Held → Result Held CodecError → Type 0
+ComesBack f chain form given result =
+    GivesBy (λ decoded _. (chunk : Chunk) × Holds form.type given chunk × Holds form.type decoded (normal_form chain.array_to_bytes form.type chunk)) result
+    (held_value f chain form.sizes form.type form.fill given)

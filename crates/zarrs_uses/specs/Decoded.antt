@@ -2,14 +2,14 @@
 use Rattle.std.specs.Prelude.{ℕ, List, [], Vec, get_or, map, IsOkAnd, Result, Ok, Err}
 use Rattle.std.proofs.Common.{Global}
 use Rattle.std.proofs.Props.{props}
-use Rattle.zarrs_chunk.specs.declared.codec_error.CodecError.{CodecError}
-use Rattle.zarrs_data_type.specs.Element.{Chunk}
-use Rattle.zarrs_data_type.specs.ElementType.{ElementType}
-use Rattle.zarrs_array_bytes.specs.Held.{Held}
-use Rattle.zarrs_array_bytes.specs.Validity.{Holds}
-use Rattle.zarrs_codec.specs.BytesToBytesCodec.{BytesCodecs}
-use Rattle.zarrs_chain_meaning.specs.CodecMeaning.{chain_chunk}
-use Rattle.zarrs_chain_meaning.specs.ChunkForm.{ChunkForm}
+use Rattle.zarrs_codec_chain.specs.CodecError.{CodecError}
+use Rattle.zarrs_codec_chain.specs.Element.{Chunk}
+use Rattle.zarrs_codec_chain.specs.ElementType.{ElementType}
+use Rattle.zarrs_codec_chain.specs.Held.{Held}
+use Rattle.zarrs_codec_chain.specs.Validity.{Holds}
+use Rattle.zarrs_codec_chain.specs.BytesToBytesCodec.{BytesCodecs}
+use Rattle.zarrs_codec_chain.specs.CodecMeaning.{chain_chunk}
+use Rattle.zarrs_codec_chain.specs.ChunkForm.{ChunkForm}
 use Rattle.zarrs_codec_chain.specs.ElementCode.{Chunk-set}
 
 -- the value with this key; no bytes where there is none

@@ -6,5 +6,4 @@ pub mod Cache
 pub mod ChunkedArray
 pub mod ComesBack
 pub mod Decoded
-pub mod Reencoding
 pub mod Windows

@@ -1,20 +1,23 @@
 //! A region of an array whose chunks lie one behind another along the first axis.
 ghost use Rattle.std.specs.Prelude.{◌≡◌, ◌+◌, ◌-◌, ◌*◌, ◌<◌, ◌≤◌, ◌^◌, ◌++◌, ◌∷◌, Ok, IfOk, All, map, get_or, length, true};
-ghost use Rattle.zarrs_chunk.specs.Answer.{AnswersBy, GivesItems, GivesValue, memory_or_fault, seen};
-ghost use Rattle.zarrs_chunk.specs.ArraySubset.{ends_fit};
-ghost use Rattle.zarrs_chunk.specs.ChunkShape.{product};
-ghost use Rattle.zarrs_chunk.specs.Selection.{subset as subset_of};
-ghost use Rattle.zarrs_data_type.specs.Form.{form_of};
-ghost use Rattle.zarrs_array_bytes.specs.Elements.{elements};
-ghost use Rattle.zarrs_array_bytes.specs.Validity.{Holds, validity};
-ghost use Rattle.zarrs_codec.specs.ArrayReader.{ArrayReader};
+ghost use Rattle.zarrs_codec_chain.specs.Answer.{AnswersBy, GivesItems, GivesValue, memory_or_fault, seen};
+ghost use Rattle.zarrs_codec_chain.specs.ArraySubset.{ends_fit};
+ghost use Rattle.zarrs_codec_chain.specs.ChunkShape.{product};
+ghost use Rattle.zarrs_codec_chain.specs.Selection.{subset as subset_of};
+ghost use Rattle.zarrs_codec_chain.specs.Form.{form_of};
+ghost use Rattle.zarrs_codec_chain.specs.Elements.{elements};
+ghost use Rattle.zarrs_codec_chain.specs.Validity.{Holds, validity};
+ghost use Rattle.zarrs_codec_chain.specs.ArrayReader.{ArrayReader};
 ghost use Rattle.zarrs_uses.specs.ChunkedArray.{AppendsFrom, AppendsPart, ReadsRegion, ReadsRows};
 
 use std::alloc::Global;
-use zarrs_array_bytes::{ArrayBytes, append_elements};
-use zarrs_chunk::{ArraySubset, ChunkShape, CodecError, Indexer};
-use zarrs_codec::ArrayPartialDecoderTraits;
-use zarrs_data_type::{DataType, FillValue};
+use zarrs_codec_chain::laws::{
+    boxes_are_cut, fewer_are_excused, numbers_name_elements, rows_are_alike, tuples_go_by_axis,
+};
+use zarrs_codec_chain::{
+    ArrayBytes, ArrayPartialDecoderTraits, ArraySubset, ChunkShape, CodecError, DataType,
+    FillValue, Indexer, append_elements,
+};
 
 /// A number, and others behind it.
 fn with_first(alloc: Global, first: u64, rest: &[u64]) -> Result<Vec<u64>, CodecError>
@@ -55,7 +58,6 @@ fn append_part<D: ArrayPartialDecoderTraits>(
 ) -> Result<ArrayBytes<'static>, CodecError>
     requires reads { (D.reader decoder.old).type ≡ data_type.now }
     requires valid { validity data_type.now done joined ≡ Ok tt }
-    requires axes { length part.starts ≡ length part.lengths }
     requires few { done + product part.lengths < 2 ^ 64 }
     ensures exact { AppendsPart data_type.now done joined.entry
         ((D.reader decoder.old).answer (subset_of part)) result }
@@ -63,6 +65,7 @@ fn append_part<D: ArrayPartialDecoderTraits>(
         (λ it. validity data_type.now (done + product part.lengths) it ≡ Ok tt) }
     ensures kept { D.reader decoder.new ≡ D.reader decoder.old }
 {
+    fewer_are_excused();
     let count = part.num_elements()?;
     let more = decoder.partial_decode(alloc, &Indexer::Subset(part))?;
     append_elements(alloc, joined, done, &more, count, data_type)
@@ -81,7 +84,6 @@ fn append_from<D: ArrayPartialDecoderTraits>(
 ) -> Result<ArrayBytes<'static>, CodecError>
     requires reads { All (λ reader. reader.type ≡ data_type.now) (map D.reader decoders.old) }
     requires valid { validity data_type.now done joined ≡ Ok tt }
-    requires axes { length part.starts ≡ length part.lengths }
     requires few { done + product part.lengths < 2 ^ 64 }
     ensures exact { AppendsFrom (map D.reader decoders.old) number part
         data_type.now done joined.entry result }
@@ -119,6 +121,10 @@ fn join_rows<D: ArrayPartialDecoderTraits>(
         start end starts.now lengths.now result }
     ensures kept { map D.reader decoders.new ≡ map D.reader decoders.old }
 {
+    boxes_are_cut();
+    rows_are_alike();
+    numbers_name_elements();
+    tuples_go_by_axis();
     let mut joined = empty;
     let mut done = 0;
     let mut row = start;
@@ -152,6 +158,7 @@ pub fn read_region<D: ArrayPartialDecoderTraits>(
         (form_of shape.now data_type.now fill_value.now) region.now result }
     ensures kept { map D.reader decoders.new ≡ map D.reader decoders.old }
 {
+    fewer_are_excused();
     shape.num_elements()?;
     region.num_elements()?;
     let empty = ArrayBytes::new_fill_value(alloc, data_type, 0, fill_value)?;

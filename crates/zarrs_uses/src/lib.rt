@@ -1,13 +1,12 @@
 //! Programs of a caller who proves something of their own by the contracts of the library.
 //!
 //! Each module is one such program. What it rests on are public clauses, by their labels, and the laws
-//! of `zarrs_chain` and `zarrs_codec_chain`; `docs/CALLING.md` goes through them.
+//! of `zarrs_codec_chain`; `docs/CALLING.md` goes through them. Their tests are in
+//! `zarrs_codec_chain_tests`.
 #![tactic(auto)]
 
 pub mod array_region;
 pub mod cache;
 pub mod own_codec;
 pub mod reencoding;
-#[cfg(test)]
-mod tests;
 pub mod windows;

@@ -1,21 +1,20 @@
 //! A bytes-to-bytes codec of the caller's own, in a chain with `bytes`.
 ghost use Rattle.std.specs.Prelude.{◌≡◌, ◌∷◌, [], Ok, IfOk, false};
-ghost use Rattle.zarrs_chunk.specs.Answer.{GivesItems};
-ghost use Rattle.zarrs_data_type.specs.Element.{Chunk};
-ghost use Rattle.zarrs_data_type.specs.Form.{form_of};
-ghost use Rattle.zarrs_array_bytes.specs.Validity.{Holds};
-ghost use Rattle.zarrs_chain_meaning.specs.PlainChain.{bytes_codec};
-ghost use Rattle.zarrs_chain.specs.ChainView.{plain_chain};
+ghost use Rattle.zarrs_codec_chain.specs.Answer.{GivesItems};
+ghost use Rattle.zarrs_codec_chain.specs.Element.{Chunk};
+ghost use Rattle.zarrs_codec_chain.specs.Form.{form_of};
+ghost use Rattle.zarrs_codec_chain.specs.Validity.{Holds};
+ghost use Rattle.zarrs_codec_chain.specs.PlainChain.{bytes_codec};
+ghost use Rattle.zarrs_codec_chain.specs.ChainView.{plain_chain};
 ghost use Rattle.zarrs_uses.specs.ComesBack.{ComesBack};
 ghost use Rattle.zarrs_uses.specs.ByteDelta.{deltas, sums};
 
 use std::alloc::Global;
 use std::borrow::CowSlice;
 use zarrs_codec_chain::{
-    ArrayBytes, ArrayBytesRaw, ArrayToBytesCodec, ArrayToBytesCodecTraits, BytesCodec,
-    BytesRepresentation, BytesToBytesCodecTraits, ChunkShape, CodecChain, CodecError, DataType,
-    Endianness, FillValue, MetadataV3, PartialDecoderCapability, PartialEncoderCapability,
-    PluginCreateError,
+    ArrayBytes, ArrayBytesRaw, ArrayToBytesCodec, BytesCodec, BytesRepresentation,
+    BytesToBytesCodecTraits, ChunkShape, CodecChain, CodecError, DataType, Endianness, FillValue,
+    MetadataV3, PartialDecoderCapability, PartialEncoderCapability, PluginCreateError,
 };
 
 /// The codec `example.byte_delta`: each byte less the one before it, modulo 256. Where neighbours are
@@ -107,24 +106,24 @@ impl BytesToBytesCodecTraits for ByteDeltaCodec {
     }
 }
 
-/// Encodes a chunk and decodes it again: what comes back is what the codec keeps of the chunk. Errors:
+/// Encodes a chunk and decodes it again: what comes back is what the chain keeps of the chunk. Errors:
 /// those of encoding; `OutOfMemory`.
 ///
-/// It rests on `answer` and `decoded_again` of `ArrayToBytesCodecTraits::encode` and on `answer` of
-/// `decode`. A chain is such a codec.
-pub fn encode_and_decode<'a, C: ArrayToBytesCodecTraits>(
+/// It rests on `encodes` and `decoded_again` of `CodecChain::encode`, and on `decodes` of
+/// `CodecChain::decode`.
+pub fn encode_and_decode<'a, B: BytesToBytesCodecTraits>(
     alloc: Global,
-    codec: &C,
+    chain: &CodecChain<B>,
     elements: ArrayBytes<'a>,
     shape: &ChunkShape,
     data_type: &DataType,
     fill_value: &FillValue,
 ) -> Result<ArrayBytes<'a>, CodecError>
-    ensures back { ComesBack (C.encoded codec.now) (C.normal codec.now)
+    ensures back { ComesBack B.functions (plain_chain chain.now)
         (form_of shape.now data_type.now fill_value.now) elements.entry result }
 {
-    let value = codec.encode(alloc, elements, shape, data_type, fill_value)?;
-    codec.decode(alloc, value, shape, data_type, fill_value)
+    let value = chain.encode(alloc, elements, shape, data_type, fill_value)?;
+    chain.decode(alloc, value, shape, data_type, fill_value)
 }
 
 /// The chain of `bytes` in this byte order and `example.byte_delta`.

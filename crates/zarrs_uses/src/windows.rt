@@ -1,24 +1,21 @@
 //! A window of a stored chunk is that part of the decoded chunk.
 ghost use Rattle.std.specs.Prelude.{◌≡◌, IfOk, true};
-ghost use Rattle.zarrs_array_bytes.specs.Tight.{IsTight};
-ghost use Rattle.zarrs_array_bytes.specs.Validity.{Holds};
-ghost use Rattle.zarrs_chunk.specs.Answer.{AnswersBy, memory_or_fault};
-ghost use Rattle.zarrs_chunk.specs.Indexer.{selection_of};
-ghost use Rattle.zarrs_chunk.specs.Selection.{subset};
+ghost use Rattle.zarrs_codec_chain.specs.Tight.{IsTight};
+ghost use Rattle.zarrs_codec_chain.specs.Validity.{Holds};
+ghost use Rattle.zarrs_codec_chain.specs.Answer.{AnswersBy, memory_or_fault};
+ghost use Rattle.zarrs_codec_chain.specs.Indexer.{selection_of};
+ghost use Rattle.zarrs_codec_chain.specs.Selection.{subset};
 ghost use Rattle.zarrs_codec_chain.specs.ChunkRead.{chunk_of};
 ghost use Rattle.zarrs_codec_chain.specs.MadeCoder.{made_read};
 ghost use Rattle.zarrs_uses.specs.Windows.{ReadsWindow};
 
 use std::alloc::Global;
 use std::borrow::CowSlice;
-use zarrs_array_bytes::laws::tight_containers_are_same;
-use zarrs_chain::stages::chain_is_sound;
-use zarrs_codec_chain::laws::standing_is_opened;
+use zarrs_codec_chain::laws::{chain_is_sound, standing_is_opened, tight_containers_are_same};
 use zarrs_codec_chain::{
     ArrayBytes, ArraySubset, BytesPartialDecoderTraits, BytesToBytesCodecTraits, ChunkShape,
-    CodecChain, CodecChainPartialTraits, CodecError, DataType, FillValue, Indexer,
+    CodecChain, CodecChainPartialTraits, CodecError, DataType, FillValue, Indexer, LentHandle,
 };
-use zarrs_lent_handles::LentHandle;
 
 /// Reads what an indexer selects of a stored chunk, through a decoder that is made for this call.
 fn read_selected<H: BytesPartialDecoderTraits, B: BytesToBytesCodecTraits>(
@@ -53,7 +50,7 @@ fn read_selected<H: BytesPartialDecoderTraits, B: BytesToBytesCodecTraits>(
 /// first error is that of the decoder's construction, and then that of the read. A lack of memory or a
 /// failure of the handle may come in its place.
 ///
-/// It rests on `answer` and `form` of `CodecChain::partial_decoder`, on `reads` of
+/// It rests on `answer`, `form` and `over_state` of `CodecChain::partial_decoder`, on `reads` of
 /// `ArrayPartialDecoder::partial_decode`, its parts `selected` and `exact`, and on
 /// `zarrs_codec_chain::laws::standing_is_opened`.
 pub fn read_window<H: BytesPartialDecoderTraits, B: BytesToBytesCodecTraits>(
@@ -82,7 +79,7 @@ pub fn read_window<H: BytesPartialDecoderTraits, B: BytesToBytesCodecTraits>(
 /// are the same bytes: they always are.
 ///
 /// It rests on `read_window`, on `decodes` of `CodecChain::decode`, on `exact` of
-/// `ArrayBytes::extract_array_subset`, and on `zarrs_array_bytes::laws::tight_containers_are_same`.
+/// `ArrayBytes::extract_array_subset`, and on `zarrs_codec_chain::laws::tight_containers_are_same`.
 pub fn windows_agree<B: BytesToBytesCodecTraits>(
     alloc: Global,
     chain: &CodecChain<B>,

@@ -1,8 +1,7 @@
 use Rattle.std.proofs.Common.{ap}
-use Rattle.zarrs_data_type.specs.Form.{form_of}
-use Rattle.zarrs_chain.specs.ChainView.{plain_chain}
-use Rattle.zarrs_chain_meaning.specs.Chain.{held_value}
-use Rattle.zarrs_chain_meaning.specs.PlainChain.{PlainChain}
+use Rattle.zarrs_codec_chain.specs.ChainView.{plain_chain}
+use Rattle.zarrs_codec_chain.specs.Form.{form_of}
+use Rattle.zarrs_codec_chain.specs.PlainChain.{PlainChain}
 use Rattle.zarrs_uses.specs.ByteDelta.{byte_delta_codecs}
 use Rattle.zarrs_uses.specs.declared.own_codec.ByteDeltaCodec.{ByteDeltaCodec}
 use Rattle.zarrs_uses.proofs.BackAgain.{chunk_back}
@@ -10,8 +9,7 @@ use Rattle.zarrs_uses.proofs.own_codec.encode_by_deltas.Goals as goal
 
 pub returns : goal.returns
 returns c =
-    let chain = plain_chain c.in_ok-chain.chain in
     record {
-      same = chunk_back (λ form held. held_value byte_delta_codecs chain form.sizes form.type form.fill held) chain.array_to_bytes c.args.order (form_of c.args.shape.now c.args.data_type.now c.args.fill_value.now) c.args.elements c.encode_and_decode.result
+      same = chunk_back byte_delta_codecs (plain_chain c.in_ok-chain.chain) c.args.order (form_of c.args.shape.now c.args.data_type.now c.args.fill_value.now) c.args.elements c.encode_and_decode.result
           (ap (λ (p : PlainChain ByteDeltaCodec). p.array_to_bytes) (c.in_ok-chain.ensures {u = tt}).made) c.encode_and_decode.ensures.back;
     }

@@ -1,8 +1,8 @@
 use Rattle.std.proofs.Common.{◌<◌, IfOk, ap, subst}
 use Rattle.std.specs.List.{All}
-use Rattle.zarrs_chunk.specs.Indexer.{selection_of}
-use Rattle.zarrs_array_bytes.specs.Tight.{IsTight}
-use Rattle.zarrs_chain_meaning.specs.ChunkForm.{ChunkForm}
+use Rattle.zarrs_codec_chain.specs.Indexer.{selection_of}
+use Rattle.zarrs_codec_chain.specs.Tight.{IsTight}
+use Rattle.zarrs_codec_chain.specs.ChunkForm.{ChunkForm}
 use Rattle.zarrs_codec_chain.specs.ChunkRead.{chunk_of}
 use Rattle.zarrs_codec_chain.specs.PartialDecoder.{decoder_form, decoder_source, handle_of}
 use Rattle.zarrs_uses.proofs.WindowReads.{made_so, read_so, unmade, unopened}
