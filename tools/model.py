@@ -735,21 +735,57 @@ def encode_shard(codec, chunk, shape, of_type, fill):
     return stored + joined if place == "start" else joined + stored
 
 
-def decode_shard(codec, value, shape, of_type, fill):
-    _, inner_shape, inner, index, place = codec
+def index_numbers(codec, value, shape):
+    """Of each inner chunk where its value begins, and how many bytes it has."""
+    _, _, _, index, place = codec
     sizes = index_shape(codec, shape)
     size = len(encode_chain(index, [bytes(8)] * made(math.prod(sizes)), sizes, UINT64, bytes(8)))
     require(len(value) >= size, "InvalidBytesLength")
     stored = value[:size] if place == "start" else value[len(value) - size :]
     numbers = [int.from_bytes(it, "little") for it in decode_chain(index, stored, sizes, UINT64, bytes(8))]
+    return list(zip(numbers[::2], numbers[1::2]))
+
+
+def inner_stored(value, at, many):
+    """The value of an inner chunk; None where it isn't stored."""
+    if at == many == MOST:
+        return None
+    require(at + many <= len(value), "InvalidByteRange")
+    return value[at : at + many]
+
+
+def decode_shard(codec, value, shape, of_type, fill):
+    _, inner_shape, inner, _, _ = codec
+    spans = index_numbers(codec, value, shape)
     chunk = [element_of_fill(fill, of_type)] * made(count_of(shape))
-    for places, at, many in zip(inner_places(codec, shape), numbers[::2], numbers[1::2]):
-        if at == many == MOST:
+    for places, span in zip(inner_places(codec, shape), spans):
+        stored = inner_stored(value, *span)
+        if stored is None:
             continue
-        require(at + many <= len(value), "InvalidByteRange")
-        for it, element in zip(places, decode_chain(inner, value[at : at + many], inner_shape, of_type, fill)):
+        for it, element in zip(places, decode_chain(inner, stored, inner_shape, of_type, fill)):
             chunk[it] = element
     return chunk
+
+
+def inner_place(codec, place, shape):
+    """The number of the inner chunk that has a place, and the place in it."""
+    parts, counts = codec[1], index_shape(codec, shape)[:-1]
+    indices = indices_of(place, shape)
+    number = place_of([index // part for index, part in zip(indices, parts)], counts)
+    return number, place_of([index % part for index, part in zip(indices, parts)], parts)
+
+
+def shard_at(codec, value, places, shape, of_type, fill):
+    """The elements of places: of each inner chunk that has any, in the order of their numbers, what is read of its own value."""
+    _, inner_shape, inner, _, _ = codec
+    spans, found = index_numbers(codec, value, shape), {}
+    meant = [inner_place(codec, place, shape) for place in places]
+    for number in sorted({number for number, _ in meant}):
+        stored = inner_stored(value, *spans[number])
+        inside = [it for other, it in meant if other == number]
+        elements = read_chain(inner, stored, inside, inner_shape, of_type, fill)
+        found.update(zip([(number, it) for it in inside], elements))
+    return [found[it] for it in meant]
 
 
 # -- Chains ----------------------------------------------------------------------------------------------------------
@@ -836,6 +872,31 @@ def decode_chain(chain, value, shape, of_type, fill):
     require_fit(chain, shape, of_type, fill)
     chunk = decode_content(chain, undo_behind(chain, value), shape, of_type, fill)
     return moved_back(chain, chunk, shape, of_type)
+
+
+def read_content(chain, value, places, shape, of_type, fill):
+    """The elements of places of what the array-to-bytes codec got."""
+    codec, last = chain[1], shapes_of(chain, shape, of_type)[-1]
+    if is_read_whole(codec):
+        chunk = decode_content(chain, value, shape, of_type, fill)
+        return [chunk[place] for place in places]
+    if codec[0] == "sharding":
+        return shard_at(codec, value, places, last, of_type, fill)
+    if codec[0] == "vlen":
+        return texts_at(codec, value, places, count_of(last))
+    return [element_at(codec, value, place, of_type) for place in places]
+
+
+def is_read_whole(codec):
+    """Whether a read in part needs the whole value."""
+    return codec[0] in ("optional", *PREFIXED) or codec[0] == "vlen" and not is_plain(codec)
+
+
+def read_chain(chain, value, places, shape, of_type, fill):
+    """The elements of places, of a value or of none."""
+    if value is None:
+        return [element_of_fill(fill, of_type)] * len(places)
+    return read_content(chain, undo_behind(chain, value), last_places(chain, places, shape, of_type), shape, of_type, fill)
 
 
 # -- Selections ------------------------------------------------------------------------------------------------------
@@ -928,19 +989,13 @@ class Session:
 
     def elements_at(self, indexer):
         """What a decoder in part reads. What it keeps is decoded before the places are looked at."""
-        codec = self.chain[1]
-        is_kept = codec[0] in ("optional", "sharding", *PREFIXED) or codec[0] == "vlen" and not is_plain(codec)
         value = None if self.stored is None else undo_behind(self.chain, self.stored)
-        chunk = decode_content(self.chain, value, *self.form) if is_kept and value is not None else None
+        if value is not None and is_read_whole(self.chain[1]):
+            decode_content(self.chain, value, *self.form)
         places = places_in(indexer, self.shape)
         if value is None:
             return [element_of_fill(self.fill, self.type)] * len(places)
-        last = last_places(self.chain, places, self.shape, self.type)
-        if is_kept:
-            return [chunk[place] for place in last]
-        if codec[0] == "vlen":
-            return texts_at(codec, value, last, count_of(self.shape))
-        return [element_at(codec, value, place, self.type) for place in last]
+        return read_content(self.chain, value, last_places(self.chain, places, self.shape, self.type), *self.form)
 
     def write(self, tree):
         require(isinstance(tree, dict) and sorted(tree) == ["at", "data"], "Syntax")

@@ -23,8 +23,8 @@ pub(crate) struct Nested {
     pub(crate) into: Into,
 }
 
-/// Such a codec writes nothing in part, reads in part where it is a plain `vlen`, and makes no value
-/// shorter.
+/// Such a codec writes nothing in part, reads in part where it is a plain `vlen` or
+/// `sharding_indexed`, and makes no value shorter.
 fn answers<C: ArrayToBytesCodecTraits + ArrayCodecTraits>(
     rt: &impl Abort,
     alloc: Global,

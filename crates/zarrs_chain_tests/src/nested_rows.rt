@@ -330,7 +330,7 @@ pub(crate) const NESTED: &'static [Nested] = &[
                 masks: &[],
             }),
         },
-        reads: false,
+        reads: true,
         into: NOT_FOR_TEXTS,
     },
 ];

@@ -2,10 +2,7 @@
 //! nothing else.
 
 use crate::checks::{is, is_cause};
-use crate::chunks::{
-    A_AND_BC, BYTES, Chunk, FIRST_OF_TWO, Form, HALF_BYTES, Part, SHARD, TEXTS, TURNED_TWICE,
-    case_of,
-};
+use crate::chunks::{A_AND_BC, BYTES, Chunk, Form, HALF_BYTES, Part, TEXTS, TURNED_TWICE, case_of};
 use crate::coders::{Decoder, decoder};
 use crate::reads::is_read;
 use std::alloc::Global;
@@ -20,19 +17,19 @@ use zarrs_codec_chain::VlenCodecPartialTraits;
 use zarrs_json::Refusal;
 
 /// A chunk and its value, the part that is asked for, and the elements that are read there.
-struct Row {
-    name: &'static str,
-    chunk: &'static str,
-    value: &'static [u8],
+pub(crate) struct Row {
+    pub(crate) name: &'static str,
+    pub(crate) chunk: &'static str,
+    pub(crate) value: &'static [u8],
     /// Where the ranges of bytes start and end that can be read.
-    inside: &'static [(u64, u64)],
-    part: &'static str,
+    pub(crate) inside: &'static [(u64, u64)],
+    pub(crate) part: &'static str,
     /// Why the part isn't read, if it isn't.
-    refusal: Option<CodecError>,
+    pub(crate) refusal: Option<CodecError>,
 }
 
 /// A byte outside was asked for.
-const FENCED: Option<CodecError> = Some(CodecError::Storage(StorageError { code: 1 }));
+pub(crate) const FENCED: Option<CodecError> = Some(CodecError::Storage(StorageError { code: 1 }));
 
 /// Two texts, before their offsets of four bytes.
 const TEXTS_FIRST: &'static str =
@@ -181,14 +178,6 @@ const THROUGH_CHAINS: &'static [Row] = &[
         inside: &[(0, 15)],
         part: r#"{"at":{"ranges":[[1,2]]},"data":["6263"]}"#,
         refusal: None,
-    },
-    Row {
-        name: "a byte of an inner chunk that isn't stored, where a byte of the other is held back",
-        chunk: SHARD,
-        value: FIRST_OF_TWO,
-        inside: &[(1, 36)],
-        part: r#"{"at":{"ranges":[[0,1],[3,4]]},"data":[]}"#,
-        refusal: FENCED,
     },
     Row {
         name: "two words of turned axes",
@@ -343,7 +332,11 @@ fn reads_through_codec(rt: &impl Abort, alloc: Global, row: &Row) -> Result<(), 
     Ok(by_codec(rt, alloc, &case.chunk, &case.part, row)?)
 }
 
-fn all_through_chains(rt: &impl Abort, alloc: Global, rows: &[Row]) -> Result<(), Refusal> {
+pub(crate) fn all_through_chains(
+    rt: &impl Abort,
+    alloc: Global,
+    rows: &[Row],
+) -> Result<(), Refusal> {
     for row in rows.iter() {
         reads_through_chain(rt, alloc, row)?;
     }

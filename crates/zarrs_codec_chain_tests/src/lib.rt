@@ -30,6 +30,8 @@ mod rounds;
 #[cfg(test)]
 mod rows;
 #[cfg(test)]
+mod shards;
+#[cfg(test)]
 mod uses;
 #[cfg(test)]
 mod writes;

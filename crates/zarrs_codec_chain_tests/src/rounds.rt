@@ -80,11 +80,11 @@ const ROWS: &'static [Row] = &[
         rounds: &[&[(0, 21)]],
     },
     Row {
-        name: "a shard, which is read whole",
+        name: "a shard: its index, and then an inner chunk's byte",
         chunk: SHARD,
         value: FIRST_OF_TWO,
         part: r#"{"at":{"ranges":[[1,2],[1,3]]},"data":["04","00"]}"#,
-        rounds: &[&[(0, 36)]],
+        rounds: &[&[(4, 36)], &[(3, 4)]],
     },
     Row {
         name: "two of three bytes with their length",

@@ -367,9 +367,9 @@ pub(crate) const WITH_CACHE: &'static [Row] = &[
         fails_at: 0,
         part: r#"{"at":{"ranges":[[0,2],[1,3]]},"data":["02","00","04","00"]}"#,
         refusals: NONE,
-        in_part: false,
+        in_part: true,
         planned: None,
-        size_held: 8,
+        size_held: 36,
     },
     Row {
         name: "no turned texts",

@@ -1,14 +1,20 @@
-//! One happy call of the programs of `zarrs_uses` that read windows and that convert values.
+//! Happy calls of the programs of `zarrs_uses`.
+ghost use Rattle.std.specs.Prelude.{◌≡◌, ◌<◌, IfOk, length};
+ghost use Rattle.zarrs_uses.specs.Cache.{DecodesAlike, cached_values};
 
 use crate::checks::is;
-use crate::chunks::{Chunk, TWO_BYTES, TWO_BYTES_WITH_LENGTH, chunk_of};
+use crate::chunks::{BYTES, Chunk, TWO_BYTES, TWO_BYTES_WITH_LENGTH, chunk_of};
 use std::alloc::Global;
+use std::borrow::CowSlice;
 use std::process::Abort;
 use std::test::Fail;
 use zarrs_array_bytes::ArrayBytes;
 use zarrs_chunk::{ArraySubset, CodecError};
-use zarrs_codec::MemoryHandle;
-use zarrs_uses::reencoding::{convert, is_kept};
+use zarrs_codec::{MemoryHandle, SampleBytesCodec};
+use zarrs_codec_chain::CodecChain;
+use zarrs_uses::cache::ChunkCache;
+use zarrs_uses::own_codec::{ByteDeltaCodec, delta_chain, encode_by_deltas};
+use zarrs_uses::reencoding::is_kept;
 use zarrs_uses::windows::{read_window, windows_agree};
 
 /// Bytes of two rows and three columns, stored column by column.
@@ -63,22 +69,6 @@ fn agrees(rt: &impl Abort, alloc: Global, chunk: &Chunk) -> Result<(), CodecErro
     Ok(())
 }
 
-fn converts(rt: &impl Abort, alloc: Global, from: &Chunk, to: &Chunk) -> Result<(), CodecError> {
-    let Chunk { chain, form } = from;
-    let new = convert(
-        alloc,
-        chain,
-        &to.chain,
-        &[7, 8],
-        &form.shape,
-        &form.data_type,
-        &form.fill_value,
-    )?;
-    let wanted: &[u8] = &[2, 0, 0, 0, 0, 0, 0, 0, 7, 8];
-    is(rt, "uses", "converted", &new.as_slice(), &wanted);
-    Ok(())
-}
-
 fn keeps(rt: &impl Abort, alloc: Global, from: &Chunk, to: &Chunk) -> Result<(), CodecError> {
     let Chunk { chain, form } = from;
     let same = is_kept(
@@ -94,6 +84,91 @@ fn keeps(rt: &impl Abort, alloc: Global, from: &Chunk, to: &Chunk) -> Result<(),
     Ok(())
 }
 
+/// Two values of two bytes.
+fn two_values(alloc: Global) -> Result<Vec<Vec<u8>>, CodecError>
+    ensures two { IfOk result (λ values. length values.items ≡ 2) }
+{
+    let mut values = Vec::with_capacity(alloc, 2)?;
+    values.push(Vec::from_slice(alloc, &[7, 8])?)?;
+    values.push(Vec::from_slice(alloc, &[5, 6])?)?;
+    Ok(values)
+}
+
+/// The chunk of this key has these bytes.
+fn is_cached<'a>(
+    rt: &impl Abort,
+    alloc: Global,
+    cache: &mut ChunkCache<'a, SampleBytesCodec>,
+    key: usize,
+    wanted: &[u8],
+) -> Result<(), CodecError>
+    requires stored { key < length (cached_values cache.old) }
+    ensures kept { DecodesAlike cache.old cache.new }
+{
+    let chunk = cache.chunk(alloc, key)?;
+    is_read(rt, "cached", &chunk, wanted)
+}
+
+/// Two values through a cache with room for one, each of them twice.
+fn caches(
+    rt: &impl Abort,
+    alloc: Global,
+    chunk: &Chunk,
+    values: &[Vec<u8>],
+) -> Result<(), CodecError>
+    requires two { length values.now ≡ 2 }
+{
+    let Chunk { chain, form } = chunk;
+    let mut cache = ChunkCache::new(
+        alloc,
+        chain,
+        values,
+        &form.shape,
+        &form.data_type,
+        &form.fill_value,
+        1,
+    );
+    is_cached(rt, alloc, &mut cache, 1, &[5, 6])?;
+    is_cached(rt, alloc, &mut cache, 1, &[5, 6])?;
+    is_cached(rt, alloc, &mut cache, 0, &[7, 8])?;
+    is_cached(rt, alloc, &mut cache, 0, &[7, 8])
+}
+
+/// The bytes 7, 9, 9 and 4, each less the one before it.
+fn deltas(
+    rt: &impl Abort,
+    alloc: Global,
+    chain: &CodecChain<ByteDeltaCodec>,
+    chunk: &Chunk,
+) -> Result<(), CodecError> {
+    let form = &chunk.form;
+    let elements = ArrayBytes::new_flen(CowSlice::Borrowed(&[7, 9, 9, 4]));
+    let value = chain.encode(
+        alloc,
+        elements,
+        &form.shape,
+        &form.data_type,
+        &form.fill_value,
+    )?;
+    let wanted: &[u8] = &[7, 2, 0, 251];
+    is(rt, "uses", "deltas", &value.as_slice(), &wanted);
+    Ok(())
+}
+
+fn comes_back(rt: &impl Abort, alloc: Global, chunk: &Chunk) -> Result<(), CodecError> {
+    let form = &chunk.form;
+    let elements = ArrayBytes::new_flen(CowSlice::Borrowed(&[7, 9, 9, 4]));
+    let back = encode_by_deltas(
+        alloc,
+        None,
+        elements,
+        &form.shape,
+        &form.data_type,
+        &form.fill_value,
+    )?;
+    is_read(rt, "back", &back, &[7, 9, 9, 4])
+}
+
 #[test]
 fn windows_are_read(rt: HostRuntime) -> Result<(), Fail> {
     let alloc = rt.alloc();
@@ -104,11 +179,29 @@ fn windows_are_read(rt: HostRuntime) -> Result<(), Fail> {
 }
 
 #[test]
+fn chunks_are_cached(rt: HostRuntime) -> Result<(), Fail> {
+    let alloc = rt.alloc();
+    let chunk = chunk_of(alloc, TWO_BYTES)?;
+    let values = two_values(alloc)?;
+    caches(&rt, alloc, &chunk, &values)?;
+    Ok(())
+}
+
+#[test]
+fn bytes_are_encoded_as_deltas(rt: HostRuntime) -> Result<(), Fail> {
+    let alloc = rt.alloc();
+    let chunk = chunk_of(alloc, BYTES)?;
+    let chain = delta_chain(alloc, None)?;
+    deltas(&rt, alloc, &chain, &chunk)?;
+    comes_back(&rt, alloc, &chunk)?;
+    Ok(())
+}
+
+#[test]
 fn values_are_converted(rt: HostRuntime) -> Result<(), Fail> {
     let alloc = rt.alloc();
     let from = chunk_of(alloc, TWO_BYTES)?;
     let to = chunk_of(alloc, TWO_BYTES_WITH_LENGTH)?;
-    converts(&rt, alloc, &from, &to)?;
     keeps(&rt, alloc, &from, &to)?;
     Ok(())
 }
