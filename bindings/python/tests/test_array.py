@@ -1,9 +1,12 @@
 """Arrays in folders, beside numpy."""
 
 import json
+import math
 import os
 import pickle
+import shutil
 from functools import partial
+from pathlib import Path
 
 import numpy as np
 import pytest
@@ -25,7 +28,16 @@ from samples import (
 
 from test_refusals import spoilt
 
-from zarrs_codecs import Array, InvalidBytesLength, InvalidMetadata, Refused, UnknownName, _files
+from zarrs_codecs import (
+    Array,
+    InvalidBytesLength,
+    InvalidConfiguration,
+    InvalidFillValue,
+    InvalidMetadata,
+    Refused,
+    UnknownName,
+    _files,
+)
 
 GZIP = {"name": "gzip", "configuration": {"level": 1}}
 KEYS = {
@@ -111,7 +123,7 @@ class Counted:
 
     def __init__(self, monkeypatch):
         self.files, self.bytes = 0, 0
-        opened, some_of = _files.Source.__init__, _files.Source._some
+        opened, some_of = _files.File.__init__, _files.File._some
 
         def count_file(source, file):
             self.files += 1
@@ -122,8 +134,8 @@ class Counted:
             self.bytes += count
             return count
 
-        monkeypatch.setattr(_files.Source, "__init__", count_file)
-        monkeypatch.setattr(_files.Source, "_some", count_bytes)
+        monkeypatch.setattr(_files.File, "__init__", count_file)
+        monkeypatch.setattr(_files.File, "_some", count_bytes)
 
 
 @pytest.mark.parametrize(
@@ -226,6 +238,13 @@ def changed(tmp_path, **changes):
         {"data_type": "uint3"},
         {"fill_value": 256},
         {"storage_transformers": [{"name": "any"}]},
+        {"storage_transformers": {}},
+        {"storage_transformers": False},
+        {"shape": [4, 1 << 63]},
+        {"shape": [4, 10**400]},
+        {"chunk_grid": {"name": "regular", "configuration": {"chunk_shape": [2, 1 << 63]}}},
+        {"data_type": "float16", "codecs": [LITTLE], "fill_value": 1e9},
+        {"data_type": "r16", "fill_value": [2]},
         {"unknown": 5},
         {"unknown": {"must_understand": True}},
         {"codecs": ["sharding_indexed"]},
@@ -266,6 +285,39 @@ def test_keys_that_are_null(key, tmp_path):
     (folder / "zarr.json").write_text(json.dumps({**metadata, key: None}))
     with pytest.raises(ValueError):
         Array(folder)
+
+
+@pytest.mark.parametrize("name", ["int8", "float32", "bool", "r16", "string", "bytes"])
+def test_a_fill_value_of_null_is_absent_alone(name, tmp_path):
+    with pytest.raises(InvalidFillValue, match="null isn't of .*zarr.json$"):
+        make_array(tmp_path / "a", (4,), (2,), name, [VLEN if name in ("string", "bytes") else LITTLE], None)
+
+
+@pytest.mark.parametrize(
+    "sizes, says", [([2, 0], "the chunk shape"), ([2, "2"], "the chunk shape"), (None, "the chunk shape"), ([2], "chunks of 1 axes")]
+)
+def test_a_chunk_shape_that_is_none_is_named(sizes, says, tmp_path):
+    with pytest.raises(InvalidMetadata, match=says):
+        Array(changed(tmp_path, chunk_grid={"name": "regular", "configuration": {"chunk_shape": sizes}}))
+
+
+@pytest.mark.parametrize(
+    "key, name, says",
+    [("chunk_grid", "regular", "configuration 5 of 'regular'"), ("chunk_key_encoding", "default", "configuration 5 of 'default'")],
+)
+def test_a_configuration_that_is_none_is_named(key, name, says, tmp_path):
+    with pytest.raises(InvalidMetadata, match=says):
+        Array(changed(tmp_path, **{key: {"name": name, "configuration": 5}}))
+
+
+@pytest.mark.parametrize("codecs", ["bytes", {"name": "bytes"}])
+def test_no_array_of_codecs_that_are_no_list(codecs, tmp_path):
+    with pytest.raises(InvalidConfiguration, match="list"):
+        Array.create(tmp_path / "a", [4], [2], "uint8", codecs=codecs)
+    shards = {"chunk_shape": [2], "codecs": ["bytes", GZIP], "index_codecs": [LITTLE]}
+    array = Array.create(tmp_path / "a", [4], [4], "uint8", codecs=({"name": "sharding_indexed", "configuration": shards},))
+    array[...] = 1
+    assert Array(tmp_path / "a")[...].tolist() == [1] * 4
 
 
 @pytest.mark.parametrize(
@@ -326,6 +378,15 @@ def test_indices_outside(tmp_path):
     for index in ((0,), (0, 4), ([0, 1], [0, 1, 2]), (0, "a"), (0, slice(None))):
         with pytest.raises(IndexError):
             array.vindex[index]
+    for index in ([[0], [0, 1]], ([0, [1]], 0)):
+        for one in (array, array.oindex, array.vindex):
+            with pytest.raises(IndexError):
+                one[index]
+    with pytest.raises(IndexError, match=r"mask of shape \(2, 4\)"):
+        array[np.ones((2, 4), bool)]
+    with pytest.raises(IndexError, match="list of places, and not str"):
+        array["x"]
+    same(array[range(3, 0, -2), 1:], array[...][range(3, 0, -2), 1:])
 
 
 def test_numpys_functions_take_an_array(tmp_path):
@@ -346,6 +407,16 @@ def test_numpys_functions_take_an_array(tmp_path):
     masked = make_array(tmp_path / "masked", (2,), (1,), kind, [optional(LITTLE)], None)
     masked[0] = 7
     same(np.asarray(masked), np.array([7, 0], "<i4"))
+    for found in (np.ma.asarray(masked), np.asanyarray(masked), np.ma.array(masked, "f8")):
+        assert found.tolist() == [7, None]
+
+
+def test_an_array_is_gone_through_row_by_row(tmp_path):
+    array = make_array(tmp_path / "a", (3, 2), (2, 2), "int32", [LITTLE], 5)
+    array[1] = [6, 7]
+    assert [row.tolist() for row in array] == [[5, 5], [6, 7], [5, 5]] and 7 in np.array(list(array))
+    with pytest.raises(TypeError, match="without axes"):
+        iter(make_array(tmp_path / "point", (), (), "int16", [LITTLE], 3))
 
 
 @pytest.mark.parametrize("name, codec", [("int32", LITTLE), ("string", VLEN)])
@@ -377,6 +448,28 @@ def test_a_folder_that_is_gone(tmp_path):
     with pytest.raises(FileNotFoundError):
         array[...] = 1
     assert not (tmp_path / "a").exists()
+
+
+def test_a_folder_without_its_metadata(tmp_path):
+    """Whatever an index needs of it."""
+    array = make_array(tmp_path / "a", (4,), (2,), "uint8", ["bytes"], 9)
+    array[...] = 1
+    (tmp_path / "a" / "zarr.json").unlink()
+    indices = [..., 0, slice(0), [0], []]
+    for call in [*(lambda index=index: array[index] for index in indices), lambda: array.vindex[[0]], lambda: array.oindex[[]]]:
+        with pytest.raises(FileNotFoundError, match="zarr.json"):
+            call()
+    with pytest.raises(FileNotFoundError, match="zarr.json"):
+        array[0] = 2
+    assert (tmp_path / "a" / "c" / "0").read_bytes() == b"\1\1"
+
+
+def test_a_file_that_the_system_refuses_is_named(tmp_path):
+    array = make_array(tmp_path / "a", (4,), (2,), "uint8", ["bytes", GZIP], 9)
+    (tmp_path / "a" / "c" / "0").mkdir(parents=True)
+    for call in (lambda: array[0], lambda: array.__setitem__(0, 1)):
+        with pytest.raises(IsADirectoryError, match="a/c/0"):
+            call()
 
 
 def test_chunks_of_another_length(tmp_path):
@@ -452,52 +545,61 @@ def as_numpy_has_it(entries, shape):
     return np.ix_(*places), dropped
 
 
+def some_values(rng, shape):
+    """Elements that are broadcast to a shape: some axes are of one element, some leading ones aren't there, or one more is."""
+    sizes = [size if rng.integers(4) else 1 for size in shape]
+    return rng.integers(-99, 99, [1] * int(rng.integers(2)) + sizes[int(rng.integers(len(sizes) + 1)) if rng.integers(2) else 0 :])
+
+
+def compare(rng, array, expected):
+    """Reads an array by an index of any kind and writes it, beside numpy; what it did is yielded before."""
+    kind, new, shape = rng.integers(5), int(rng.integers(-99, 99)), expected.shape
+    outer = some_outer(rng, shape)
+    if kind == 3:
+        index = tuple(rng.integers(-size, size, (2, 3)) for size in shape)
+        yield "vindex", index
+        assert (array.vindex[index] == expected[index]).all()
+        values = rng.integers(-99, 99, (2, 3))
+        array.vindex[index] = values
+        # of points that come twice the last value stands
+        for place, value in zip(zip(*(one.ravel() for one in index)), values.ravel()):
+            expected[place] = value
+        return
+    if kind == 4:
+        yield "oindex", outer
+        index, dropped = as_numpy_has_it(outer, shape)
+        assert np.array_equal(array.oindex[outer], expected[index].squeeze(dropped))
+        array.oindex[outer] = expected[index] = new
+        return
+    index = [some_index(rng, shape), one_list(outer), rng.integers(0, 2, shape).astype(bool)][kind]
+    found = expected[index]
+    values = new if kind == 1 or rng.integers(3) == 0 else rng.integers(-99, 99, np.shape(found))
+    if kind == 0 and rng.integers(2):
+        values = some_values(rng, np.shape(found))
+    yield index, values
+    assert np.shape(array[index]) == np.shape(found) and np.array_equal(array[index], found)
+    array[index] = expected[index] = values
+
+
 def test_a_thousand_indices_beside_numpy(tmp_path):
     seed = int(np.random.SeedSequence().entropy % 2**32)
     rng = np.random.default_rng(seed)
     for number in range(20):
         shape = some_shape(rng, int(rng.integers(1, 4)))
         chunks = some_shape(rng, len(shape))
-        codecs = [transpose(rng.permutation(len(shape))), BIG]
+        shards = {"chunk_shape": [1] * len(shape), "codecs": [BIG, "crc32c"], "index_codecs": [LITTLE, "crc32c"]}
+        inside = [[BIG], [BIG, GZIP], [{"name": "sharding_indexed", "configuration": shards}]][number % 3]
+        codecs = inside if number % 6 == 2 else [transpose(rng.permutation(len(shape))), *inside]
         array = make_array(tmp_path / str(number), shape, chunks, "int16", codecs, 7)
         expected = np.full(shape, 7, "<i2")
         for _ in range(50):
-            kind, new = rng.integers(5), int(rng.integers(-99, 99))
-            outer = some_outer(rng, shape)
-            what = f"seed {seed}, array {number}, kind {kind}, {shape} by {chunks}, {outer}"
-            if kind == 0:
-                index = some_index(rng, shape)
-            elif kind == 1:
-                index = one_list(outer)
-            elif kind == 2:
-                index = rng.integers(0, 2, shape).astype(bool)
-            elif kind == 3:
-                index = tuple(rng.integers(-size, size, (2, 3)) for size in shape)
-                assert (array.vindex[index] == expected[index]).all(), what
-                values = rng.integers(-99, 99, (2, 3))
-                array.vindex[index] = expected[index] = values
-                # of points that come twice the last value stands
-                for place, value in zip(zip(*(one.ravel() for one in index)), values.ravel()):
-                    expected[place] = value
-                assert (array[...] == expected).all(), what
-                continue
-            else:
-                index, dropped = as_numpy_has_it(outer, shape)
-                found = array.oindex[outer]
-                assert np.array_equal(found, expected[index].squeeze(dropped)), what
-                array.oindex[outer] = expected[index] = new
-                assert (array[...] == expected).all(), what
-                continue
-            found = array[index]
-            assert np.shape(found) == np.shape(expected[index]), what
-            assert np.array_equal(found, expected[index]), what
-            values = rng.integers(-99, 99, np.shape(found)) if rng.integers(2) else new
-            if kind != 1:
-                array[index] = values
-                expected[index] = values
-            else:
-                array[index] = expected[index] = new
-            assert (array[...] == expected).all(), what
+            what = None
+            try:
+                for what in compare(rng, array, expected):
+                    pass
+                assert (array[...] == expected).all()
+            except Exception as error:
+                raise AssertionError(f"seed {seed}, array {number}, {shape} by {chunks}, {codecs}: {what}") from error
 
 
 class Calls:
@@ -514,11 +616,12 @@ class Calls:
 
 
 def test_what_a_chunk_asks_of_the_system(tmp_path, monkeypatch):
-    """One look at `zarr.json` for a chunk that isn't there, one wait for the disk for one that is written."""
+    """One look at `zarr.json` for a read, and one for a chunk that isn't there; one wait for the disk for one that is
+    written."""
     array = make_array(tmp_path / "a", (10,), (1,), "int32", [LITTLE], 0)
     calls = Calls(monkeypatch, "stat", "lstat", "fstat", "open", "fsync", "replace", "makedirs")
     assert not array[...].any()
-    assert calls.counts == dict.fromkeys(calls.counts, 0) | {"stat": 10, "open": 10}
+    assert calls.counts == dict.fromkeys(calls.counts, 0) | {"stat": 11, "open": 10}
     array[...] = 1
     calls = Calls(monkeypatch, *calls.counts)
     array[3:5] = 2
@@ -534,15 +637,45 @@ def test_any_spoilt_metadata_raises_a_refusal_or_opens(tmp_path):
     array = make_array(tmp_path / "a", (4, 4), (2, 2), "int16", [transpose([1, 0]), LITTLE], 0, **more)
     for _ in range(500):
         said = array.metadata
+        shutil.rmtree(tmp_path / "a" / "c", ignore_errors=True)
         for _ in range(rng.integers(1, 3)):
             said = spoilt(rng, said)
         (tmp_path / "a" / "zarr.json").write_text(json.dumps(said))
         try:
-            Array(tmp_path / "a")
+            opened = Array(tmp_path / "a")
         except Refused as error:
             assert error.path == tmp_path / "a" / "zarr.json", (seed, said)
+            continue
         except Exception as error:
             raise AssertionError(f"seed {seed}: {said!r:.1000}") from error
+        try:
+            use(rng, opened)
+        except Exception as error:
+            raise AssertionError(f"seed {seed}: {said!r:.1000}") from error
+
+
+def use(rng, array):
+    """Asks an array what it is, reads and writes some of it, and reads chunks that are spoilt."""
+    assert repr(array) and repr(array.info) and array.nbytes >= 0 and dict(array.attrs) is not None
+    if 0 in array.shape or math.prod(array.chunks) > 1 << 16 or array.ndim > 8:
+        return
+    first, some_of, lists = (0,) * array.ndim, (slice(2),) * array.ndim, tuple([0] for _ in array.shape)
+    for spoil in (False, True):
+        for path in filter(Path.is_file, array.folder.glob("[!z]*/**/*")) if spoil else ():
+            value = bytearray(path.read_bytes())
+            value[rng.integers(len(value))] = rng.integers(256)
+            path.write_bytes(value[: rng.integers(1, len(value) + 1)])
+        for call in (
+            lambda: array.__setitem__(first, array[first]),
+            lambda: array[some_of],
+            lambda: array[(-1,) * array.ndim],
+            lambda: array.vindex[lists],
+            lambda: array.oindex[lists],
+        ):
+            try:
+                call()
+            except Refused as error:
+                assert error.path is not None and str(error.path) in str(error)
 
 
 @pytest.mark.parametrize("text", [b"\xff", b"", b'{"shape": ' + b"1" * 5000 + b"}", b"[" * 5000])

@@ -76,11 +76,15 @@ def test_raw_and_variable_fill_values():
         ("bool", "false"),
         ("bool", 2),
         ("r24", [1, 2]),
+        ("r24", ""),
+        ("float16", 1e9),
+        ("float32", -1e39),
+        ("complex64", [0, 1e39]),
         ("float32", "0x3fc0"),
     ],
 )
 def test_fill_values_out_of_their_type(name, fill):
-    with pytest.raises(InvalidFillValue):
+    with pytest.raises(InvalidFillValue, match="isn't of"):
         filled(name, fill)
 
 

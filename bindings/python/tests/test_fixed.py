@@ -17,7 +17,7 @@ from samples import (
     transpose,
 )
 
-from zarrs_codecs import Chain
+from zarrs_codecs import Chain, InvalidElement
 
 
 def fitting(name, rng):
@@ -151,8 +151,36 @@ def test_numbers_that_a_type_cannot_hold(name, wrong):
     chain = Chain([LITTLE], (2,), name)
     value = chain.encode([0, 1])
     for call in (lambda: chain.encode([0, wrong]), lambda: chain.write(value, 1, wrong)):
-        with pytest.raises(ValueError, match="isn't of"):
+        with pytest.raises(InvalidElement, match="isn't of"):
             call()
+
+
+@pytest.mark.parametrize(
+    "name, wrong",
+    [
+        ("float16", 70000),
+        ("float16", 1e5),
+        ("float16", np.float32(1e5)),
+        ("float32", 1e39),
+        ("float32", np.array([1e39, 0])),
+        ("float32", np.array([10**50, 0], object)),
+        ("float64", 10**400),
+        ("complex64", 1e39j),
+        ("complex64", np.complex128(1e39)),
+    ],
+)
+def test_finite_numbers_do_not_become_infinite(name, wrong):
+    chain = Chain([LITTLE], (2,), name)
+    with pytest.raises(InvalidElement, match="isn't of"):
+        chain.write(None, ..., wrong)
+    assert np.isinf(chain.decode(chain.encode([np.inf, -np.inf]))).all()
+
+
+@pytest.mark.parametrize("length", [1, 3])
+def test_elements_of_bytes_are_neither_cut_nor_made_longer(length):
+    chain = Chain(["bytes"], (2,), "r16")
+    with pytest.raises(InvalidElement, match="isn't of|aren't of"):
+        chain.encode(np.zeros(2, f"V{length}"))
 
 
 @pytest.mark.parametrize("name", ["int2", "uint2", "int4", "uint4", "bool", "int8", "int64", "uint64"])

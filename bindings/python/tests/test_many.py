@@ -86,21 +86,28 @@ def test_elements_of_the_value_itself():
 
 
 @pytest.mark.parametrize(
-    "codecs, data_type", [(["packbits"], "bool"), ([LITTLE, GZIP], "int16"), ([optional("bytes")], {"optional": "uint8"})]
+    "codecs, data_type, codec",
+    [
+        (["packbits"], "bool", (0, "packbits")),
+        ([LITTLE, GZIP], "int16", (1, "gzip")),
+        ([LITTLE, "crc32c"], "int16", (1, "crc32c")),
+        ([optional("bytes")], {"optional": "uint8"}, (0, "optional")),
+    ],
 )
-def test_what_isnt_edited_in_place(codecs, data_type):
+def test_what_isnt_edited_in_place(codecs, data_type, codec):
     chain = Chain(codecs, (4,), data_type)
     value = chain.encode(np.ma.MaskedArray([1, 0, 1, 0], False))
     before = bytes(value)
-    with pytest.raises(z.NotInPlace):
+    with pytest.raises(z.NotInPlace) as told:
         chain.write(value, 0, 0, out=value)
+    assert told.value.codec == codec
     assert bytes(value) == before
 
 
 def test_a_short_value_isnt_edited():
     chain = Chain([LITTLE], (4,), "int16")
     value = chain.encode([1, 2, 3, 4])[:7].copy()
-    with pytest.raises(z.NotInPlace):
+    with pytest.raises(z.NotInPlace, match="^7 bytes, where 8 are due, by codec 0, 'bytes'$"):
         chain.write(value, 0, 9, out=value)
     assert value[0] == 1
 

@@ -1,6 +1,7 @@
 """The package as it is installed: a wheel with the library in it, its types, and the header for C."""
 
 import importlib.util
+import inspect
 import os
 import re
 import shutil
@@ -91,9 +92,10 @@ def test_types(tmp_path):
     """Those of the package, and of a program over it."""
     (tmp_path / "program.py").write_text(PROGRAM)
     environment = {**os.environ, "MYPYPATH": str(PACKAGE)}
-    words = [sys.executable, "-m", "mypy", "--strict", "--cache-dir", tmp_path / "cache", tmp_path / "program.py"]
-    run = subprocess.run(words, env=environment, cwd=PACKAGE, capture_output=True, text=True)
-    assert run.returncode == 0, run.stdout
+    for of in (["-p", "zarrs_codecs"], [tmp_path / "program.py"]):
+        words = [sys.executable, "-m", "mypy", "--strict", "--cache-dir", tmp_path / "cache", *of]
+        run = subprocess.run(words, env=environment, cwd=PACKAGE, capture_output=True, text=True)
+        assert run.returncode == 0, run.stdout
 
 
 def test_the_librarys_version():
@@ -102,14 +104,22 @@ def test_the_librarys_version():
     assert _library.version() in (None, due)
 
 
-def test_every_public_name_has_a_docstring():
+# Refusals that no call of Python's gives, or none in a few lines.
+WITHOUT_EXAMPLE = {
+    *("Argument", "ArrayBytesKind", "DataMismatch", "OffsetTooLarge", "OutOfMemory", "ReversedRange", "Storage"),
+    *("TargetMismatch", "UnsupportedTarget"),
+}
+
+
+def test_every_public_name_has_a_docstring_with_an_example():
     for name in zarrs_codecs.__all__:
         thing = getattr(zarrs_codecs, name)
         if isinstance(thing, type):
             assert thing.__doc__, name
-            for part, value in vars(thing).items():
-                if not part.startswith("_") and callable(value):
-                    assert value.__doc__, f"{name}.{part}"
+            assert ">>>" in thing.__doc__ or name in WITHOUT_EXAMPLE, name
+            for part, value in inspect.getmembers(thing):
+                if part in vars(thing) and not part.startswith("_") and callable(getattr(value, "fget", value)):
+                    assert value.__doc__ and ">>>" in value.__doc__, f"{name}.{part}"
 
 
 C_PROGRAM = """
@@ -167,4 +177,4 @@ def test_codes_of_the_header_are_the_librarys():
         assert not name or codes[number].replace("_", "") == name.upper()
     classes = {name.upper() for name in zarrs_codecs.refusals.__all__}
     theirs = {name.replace("_", "") for number, name in codes.items() if number > 1}
-    assert classes == theirs | {"REFUSED", "INVALIDMETADATA", "INVALIDTEXT"}
+    assert classes == theirs | {"REFUSED", "INVALIDELEMENT", "INVALIDMETADATA", "INVALIDTEXT"}

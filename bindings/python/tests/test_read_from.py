@@ -21,7 +21,7 @@ from samples import (
 )
 
 import zarrs_codecs
-from zarrs_codecs import Chain, _selections
+from zarrs_codecs import Chain, _rounds, _selections
 from zarrs_codecs import chain as chain_module
 
 
@@ -112,15 +112,155 @@ def test_out_takes_what_is_read(rng):
             same(np.ascontiguousarray(out), array[index])
 
 
-def test_values_that_are_read_whole(rng):
+def rounds_of(monkeypatch):
+    """The ranges of each round that goes on from here, in a list that grows."""
+    rounds, fetch = [], _rounds.Fetched.fetch
+
+    def fetched(self, lacking):
+        rounds.append(lacking.tolist())
+        fetch(self, lacking)
+
+    monkeypatch.setattr(_rounds.Fetched, "fetch", fetched)
+    return rounds
+
+
+def test_texts_in_rounds(rng, monkeypatch):
+    """The length of the offsets, the offsets, and the texts."""
+    rounds = rounds_of(monkeypatch)
     chain = Chain([VLEN], (5,), "string", "")
-    array = some_texts(rng, (5,))
+    array = np.array(["a", "bc", "", "def", "g"], object)
     file = RecordingFile(chain.encode(array))
+    size = len(file.getvalue())
+    begin = size - 7
     same(chain.read_from(file, np.s_[1:3]), array[1:3])
     assert chain.planned_ranges(np.s_[1:3]) is None
-    assert len(file.seen) == len(file.getvalue())
+    assert rounds == [[[0, 8]], [[8, begin]], [[begin + 1, begin + 3]]]
+    assert file.seen == {*range(begin), begin + 1, begin + 2}
     out = np.empty(2, object)
-    assert chain.read_from(file, np.s_[1:3], out) is out and out.tolist() == array[1:3].tolist()
+    assert chain.read_from(file, np.s_[::4], out) is out and out.tolist() == ["a", "g"]
+    assert rounds[-1] == [[begin, size]]
+    same(chain.read_from(file, [[4], [0]]), array[[4, 0]])
+    assert rounds[-1] == [[begin, begin + 1], [size - 1, size]]
+
+
+def test_rounds_of_other_chains(rng, monkeypatch):
+    """What has no plan is fetched whole, by one round."""
+    rounds = rounds_of(monkeypatch)
+    optional = {
+        "name": "zarrs.optional",
+        "configuration": {"mask_codecs": ["packbits"], "data_codecs": [LITTLE]},
+    }
+    absent = np.ma.masked_array([1, 2, 3, 4], [0, 1, 0, 0], "<i2")
+    numbers = np.arange(4, dtype="<i2")
+    for codecs, kind, fill, array in (
+        ([optional], {"optional": "int16"}, None, absent),
+        ([LITTLE, "crc32c"], "int16", 7, numbers),
+    ):
+        chain = Chain(codecs, (4,), kind, fill)
+        file = RecordingFile(chain.encode(array))
+        found = chain.read_from(file, np.s_[1:3])
+        assert found.tolist() == array[1:3].tolist()
+        assert rounds.pop() == [[0, len(file.getvalue())]] and not rounds
+
+
+def test_rounds_of_shards(monkeypatch):
+    """The index, then one inner chunk after the other; behind eight rounds all that isn't there."""
+    rounds = rounds_of(monkeypatch)
+    shards = {
+        "name": "sharding_indexed",
+        "configuration": {"chunk_shape": [2], "codecs": [LITTLE], "index_codecs": [LITTLE]},
+    }
+    numbers = np.arange(1, 33, dtype="<i2")
+    chain = Chain([shards], (32,), "int16", 0)
+    file = RecordingFile(chain.encode(numbers))
+    size = len(file.getvalue())
+    same(chain.read_from(file, np.s_[1:3]), numbers[1:3])
+    assert rounds == [[[64, size]], [[2, 4]], [[4, 6]]] and file.seen == {*range(2, 6), *range(64, size)}
+    rounds.clear()
+    same(chain.read_from(file, np.s_[:]), numbers)
+    assert rounds == [[[64, size]], *([[at, at + 4]] for at in range(0, 28, 4)), [[28, 64]]]
+
+
+def test_texts_in_rounds_answer_as_reads_do(rng):
+    chain = Chain([VLEN], (3, 5), "string", "")
+    for _ in range(40):
+        array = some_texts(rng, (3, 5))
+        value = chain.encode(array)
+        for selection in (some_region(rng, (3, 5)), some_index(rng, (3, 5)), some_rows(rng, (3, 5), 6)):
+            file = RecordingFile(value)
+            same(chain.read_from(file, selection), chain.read(value, selection))
+            assert len(file.seen) <= value.size
+
+
+def test_texts_that_are_damaged_in_rounds(rng):
+    chain = Chain([VLEN], (4,), "string", "")
+    value = chain.encode(some_texts(rng, (4,)))
+    for length in range(value.size):
+        refusal = None
+        try:
+            chain.read(value[:length], np.s_[1:3])
+        except zarrs_codecs.Refused as error:
+            refusal = type(error)
+        if refusal is None:
+            chain.read_from(io.BytesIO(value[:length]), np.s_[1:3])
+        else:
+            with pytest.raises(refusal):
+                chain.read_from(io.BytesIO(value[:length]), np.s_[1:3])
+
+
+class ReadingFile:
+    """A file that has `seek` and `read` alone, and reads a few bytes at a time."""
+
+    def __init__(self, value):
+        self._file = io.BytesIO(value)
+
+    def seek(self, place, whence=0):
+        self._file.seek(place, whence)
+
+    def tell(self):
+        return self._file.tell()
+
+    def read(self, count):
+        return self._file.read(min(count, 3))
+
+
+def test_files_that_are_read_by_copies(rng):
+    for codec, array in ((LITTLE, some(rng, "int16", np.dtype("<i2"), (3, 5))), (VLEN, some_texts(rng, (3, 5)))):
+        kind, fill = ("string", "") if array.dtype == object else ("int16", 0)
+        chain = Chain([codec], (3, 5), kind, fill)
+        same(chain.read_from(ReadingFile(chain.encode(array)), np.s_[1:, ::2]), array[1:, ::2])
+    with pytest.raises(TypeError):
+        chain.read_from(object(), 0)
+    with pytest.raises(EOFError):
+        Chain(["bytes"], (4,), "uint8").read_from(Ending(b"abcd"), np.s_[1:3])
+
+
+class Ending(ReadingFile):
+    """One that has fewer bytes than its end says."""
+
+    def read(self, count):
+        return b""
+
+
+def test_what_a_read_takes_of_a_file():
+    """The whole value, where the first round asks for it."""
+    inner = {"mask_codecs": ["packbits"], "data_codecs": [VLEN]}
+    text = {"name": "zarrs.optional", "configuration": {"name": "string"}}
+    shards = {"chunk_shape": [2, 3], "codecs": [LITTLE], "index_codecs": [LITTLE]}
+    for codecs, kind, is_planned, is_whole in (
+        ([transpose([1, 0]), BIG], "int32", True, False),
+        (["packbits"], "int4", True, False),
+        ([LITTLE, "crc32c"], "int32", False, True),
+        ([LITTLE, {"name": "gzip", "configuration": {"level": 1}}], "int32", False, True),
+        ([VLEN], "string", False, False),
+        ([transpose([1, 0]), VLEN], "bytes", False, False),
+        (["vlen-utf8"], "string", False, True),
+        ([{"name": "optional", "configuration": inner}], text, False, True),
+    ):
+        chain = Chain(codecs, (4, 6), kind)
+        assert (chain._is_planned, chain._is_read_whole) == (is_planned, is_whole)
+    sharded = Chain([{"name": "sharding_indexed", "configuration": shards}], (4, 6), "int32")
+    assert not sharded._is_planned
 
 
 def test_values_that_are_too_short(rng):

@@ -34,7 +34,7 @@ def test_every_class_is_a_refusal_of_the_library():
         for name, value in vars(z).items()
         if isinstance(value, type) and issubclass(value, z.Refused)
     }
-    pythons = {"Refused", "InvalidMetadata", "InvalidText"}
+    pythons = {"Refused", "InvalidElement", "InvalidMetadata", "InvalidText"}
     later = {"ElementCount", "IndivisibleShape", "IndexNotFixed"}
     assert classes | later == {*pythons, *NAMES, *later}
 
@@ -350,6 +350,85 @@ for _ in range(5000):
 def test_bad_metadata_raises_refusals_alone(codecs, data_type, fill):
     with pytest.raises(z.Refused):
         Chain(codecs, (4,), data_type, fill)
+
+
+SHORT = [
+    ([LITTLE], INT, 15, "InvalidBytesLength", 0, "15 bytes, where 16 are due"),
+    ([transpose([0]), LITTLE], INT, 17, "InvalidBytesLength", 1, "17 bytes, where 16 are due"),
+    (["packbits"], "bool", 0, "InvalidBytesLength", 0, "0 bytes, where 1 are due"),
+    ([VLEN], TEXT, 7, "InvalidBytesLength", 0, None),
+    (["vlen-utf8"], TEXT, 3, "InvalidBytesLength", 0, None),
+    ([masks(["packbits"])], MASKED, 15, "InvalidBytesLength", 0, None),
+    ([transpose([0]), shards()], INT, 3, "InvalidBytesLength", 1, None),
+    ([transpose([0]), LITTLE, "crc32c"], INT, 3, "BytesCodec", 2, "3 bytes, where 20 are due"),
+    (["vlen-utf8", "crc32c"], TEXT, 3, "BytesCodec", 1, None),
+]
+
+
+@pytest.mark.parametrize("codecs, data_type, length, name, place, says", SHORT)
+def test_a_refusal_of_a_value_says_which_codec(codecs, data_type, length, name, place, says):
+    chain = Chain(codecs, (4,), data_type)
+    calls = [chain.decode, lambda value: chain.reencode(value, codecs)]
+    if says is None or "crc32c" in codecs:
+        calls += [lambda value: chain.read(value, 0), lambda value: chain.read_many(value, [0])]
+        calls.append(lambda value: chain.write(value, 0, chain.read(None, 0)))
+    for call in calls:
+        with pytest.raises(getattr(z, name)) as told:
+            call(bytes(length))
+        codec = codecs[place]
+        assert told.value.codec == (place, codec if isinstance(codec, str) else codec["name"])
+        assert says is None or str(told.value).startswith(says)
+
+
+EMPTY = Chain([VLEN], (4,), TEXT, "")
+CHECKED = Chain(["bytes", "crc32c"], (20,), "uint8")
+
+
+def test_a_part_that_a_value_lacks_says_which_codec():
+    with pytest.raises(z.InvalidByteRange, match="^15 bytes, where 16 are due, by codec 1, 'bytes'$"):
+        Chain([transpose([0]), LITTLE], (4,), INT).read(bytes(15), slice(None))
+
+
+@pytest.mark.parametrize(
+    "codecs, data_type, value, name, place",
+    [
+        ([VLEN], TEXT, (8).to_bytes(8, "little") + bytes(4), "IndexLength", 0),
+        ([transpose([0]), VLEN], TEXT, changed(EMPTY.encode([""] * 4), 16, 9), "InvalidOffsets", 1),
+        (["vlen-utf8"], TEXT, b"\1\0\0\0", "ElementCount", 0),
+        ([masks(["bytes"])], MASKED, b"\xff" * 16, "HeaderOverflow", 0),
+        ([masks(["bytes"])], MASKED, (4).to_bytes(8, "little") + bytes(8) + b"\2" * 4, "MaskValue", 0),
+        ([packed(padding_encoding="first_byte")], "bool", b"\1\0", "PaddingByte", 0),
+        ([LITTLE, "crc32c"], INT, bytes(20), "BytesCodec", 1),
+        ([LITTLE, "crc32c", "crc32c"], INT, b"", "BytesCodec", 2),
+        ([LITTLE, "crc32c", "crc32c"], INT, CHECKED.encode([0] * 20), "BytesCodec", 1),
+        (["vlen-utf8", "crc32c"], TEXT, bytes(4), "InvalidBytesLength", 0),
+    ],
+)
+def test_refusals_of_values_that_are_damaged(codecs, data_type, value, name, place):
+    chain = Chain(codecs, (4,), data_type)
+    with pytest.raises(getattr(z, name)) as told:
+        chain.decode(value)
+    codec = codecs[place]
+    assert told.value.codec == (place, codec if isinstance(codec, str) else codec["name"])
+
+
+def test_a_refusal_of_elements_says_which_codec():
+    chain = Chain([texts(index_codecs=[packed(first_bit=0, last_bit=0)])], (1,), TEXT, "")
+    for call in (lambda: chain.encode(["ab"]), lambda: chain.write(None, 0, "ab")):
+        with pytest.raises(z.OffsetNotKept) as told:
+            call()
+        assert told.value.codec == (0, "zarrs.vlen")
+
+
+def test_what_the_library_cannot_read_is_named():
+    with pytest.raises(z.Syntax, match="shape"):
+        Chain([LITTLE], (3, 0), "int32")
+    with pytest.raises(z.Syntax, match="shape"):
+        Chain([shards()], (-1,), "int32")
+    for wrong in ({"name": 2**64}, {"name": "bytes", "configuration": {"endian": "\ud800"}}):
+        with pytest.raises(z.Syntax) as told:
+            Chain([transpose([0]), wrong], (4,), "int32")
+        assert told.value.codec[0] == 1
 
 
 def test_bytes_that_are_no_text():

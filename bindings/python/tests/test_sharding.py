@@ -81,11 +81,7 @@ def test_a_value_with_its_index_before(make):
     damaged[24] = 9
     with pytest.raises(z.InvalidByteRange, match=None if make is Chain else "inner chunk 1"):
         chain.decode(damaged)
-    if make is Chain:
-        with pytest.raises(z.InvalidByteRange):
-            chain.read(damaged, [[0, 0]])
-    else:
-        same(chain.read(damaged, [[0, 0]]), np.array([255], "u1"))
+    same(chain.read(damaged, [[0, 0]]), np.array([255], "u1"))
     with pytest.raises(z.InvalidBytesLength):
         chain.decode(b"\0")
 

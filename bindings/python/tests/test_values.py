@@ -113,6 +113,16 @@ def test_a_list_of_codecs_is_the_callers_own():
     same(pickle.loads(pickle.dumps(chain)).encode(ARRAY), chain.encode(ARRAY))
 
 
+def test_a_type_and_a_fill_value_are_the_callers_own():
+    codec = {"name": "optional", "configuration": {"mask_codecs": ["packbits"], "data_codecs": ["bytes"]}}
+    kind, fill = {"optional": "r16"}, [[1, 2]]
+    chain = Chain([codec], (2,), kind, fill)
+    kind["optional"], fill[0][0] = "r24", 9
+    chain.data_type["optional"], chain.fill_value[0][1] = "r24", 9
+    assert chain.data_type == {"optional": "r16"} and chain.fill_value == [[1, 2]]
+    assert pickle.loads(pickle.dumps(chain)).read(None, 0) == np.void(b"\1\2")
+
+
 @pytest.mark.parametrize("codecs", ["bytes", b"bytes", {"bytes": 1}])
 def test_codecs_that_are_no_list(codecs):
     with pytest.raises(ValueError, match="list"):

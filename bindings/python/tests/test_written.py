@@ -135,8 +135,16 @@ def test_types_of_one_length_and_moments(tmp_path):
     assert array.chunk_path((0,)).read_bytes() == days[:2].astype("<M8[s]").astype("<i8").tobytes()
     words = Chain([LITTLE], (2,), sized("fixed_length_utf32", 8), "")
     assert words.decode(words.encode(["ab", "c"])).tolist() == ["ab", "c"]
-    with pytest.raises(ValueError, match="length 3"):
+    with pytest.raises(z.InvalidElement, match="length 3"):
         words.encode(["abc", "c"])
+    near = Chain([LITTLE], (2,), moments("datetime64", "ns"), np.datetime64("2020-01-01", "D"))
+    assert near.read(None, 0) == np.datetime64("2020-01-01")
+    same(near.decode(near.encode(days[:2])), days[:2].astype("<M8[ns]"))
+    far = np.array(["3000-01-01", "NaT"], "M8[D]")
+    with pytest.raises(z.InvalidElement, match="3000-01-01 isn't of"):
+        near.encode(far)
+    with pytest.raises(z.InvalidFillValue):
+        Chain([LITTLE], (2,), moments("datetime64", "ns"), far[0])
     big = Chain([{"name": "bytes", "configuration": {"endian": "big"}}], (1,), sized("fixed_length_utf32", 4))
     assert big.encode(["ä"]).tobytes() == "ä".encode("utf-32-be")
 

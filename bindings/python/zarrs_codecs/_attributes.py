@@ -3,13 +3,12 @@
 import copy
 import json
 from collections.abc import Iterator, MutableMapping
-from pathlib import Path
 from typing import Any
 
 import numpy as np
 
-from ._files import replace
 from ._metadata import metadata_of
+from ._stores import Folder
 from .refusals import InvalidMetadata
 
 
@@ -30,8 +29,8 @@ class Attributes(MutableMapping[str, Any]):
     as copies. Raises `InvalidMetadata` where a value has no JSON.
     """
 
-    def __init__(self, path: Path, metadata: dict[str, Any]) -> None:
-        self._path = path
+    def __init__(self, files: Folder, root: str, metadata: dict[str, Any]) -> None:
+        self._files, self._root = files, root
         self._metadata = metadata
 
     @property
@@ -64,12 +63,13 @@ class Attributes(MutableMapping[str, Any]):
         self._replace(without=name)
 
     def _replace(self, set_all: dict[str, Any] | None = None, without: str | None = None) -> None:
-        metadata = metadata_of(self._path).said
+        self._files.check_written()
+        metadata = metadata_of(self._files, self._root).said
         attributes = {**metadata.get("attributes", {}), **(set_all or {})}
         attributes.pop(without, None)
         for name in attributes:
             if not isinstance(name, str):
                 raise InvalidMetadata(f"an attribute is named by {name!r}, which is no text")
         whole = bytes_of({**metadata, "attributes": attributes})
-        replace(str(self._path), whole)
+        self._files.replace(f"{self._root}zarr.json", whole)
         self._metadata["attributes"] = json.loads(whole.tobytes())["attributes"]

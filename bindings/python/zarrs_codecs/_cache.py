@@ -1,16 +1,15 @@
-"""Opened values that are kept, up to so many bytes."""
+"""What is kept of values that were read, up to so many bytes."""
 
 import os
 import threading
 import time
 from collections import OrderedDict
-
-from ._types import AnyArray
+from typing import Any
 
 # A file that was changed a shorter time ago may be changed again and look the same.
 _SETTLED_NANOSECONDS = 100_000_000
 # What a file was when its value was read.
-State = tuple[int, int, int, int]
+State = tuple[Any, ...]
 
 
 def state_of(found: os.stat_result) -> State | None:
@@ -22,21 +21,22 @@ def state_of(found: os.stat_result) -> State | None:
 
 
 class Cache:
-    """The values of files, of which those that were used last are kept; threads may use it together."""
+    """What is kept of files' values, a thing with `nbytes` of each: those that were used last. Threads may use it
+    together."""
 
     def __init__(self, limit: int) -> None:
         self._limit = limit
         self._bytes = 0
-        self._values: OrderedDict[str, tuple[State, AnyArray]] = OrderedDict()
+        self._values: OrderedDict[str, tuple[State, Any]] = OrderedDict()
         self._lock = threading.Lock()
 
     @property
     def nbytes(self) -> int:
-        """How many bytes the values have that are kept."""
+        """How many bytes it has that are kept."""
         return self._bytes
 
-    def get(self, path: str, state: State | None) -> AnyArray | None:
-        """The value of a file, where it was kept of the file as it is."""
+    def get(self, path: str, state: State | None) -> Any:
+        """What was kept of a file as it is; None where nothing was."""
         with self._lock:
             found = self._values.get(path)
             if found is None or found[0] != state:
@@ -44,8 +44,8 @@ class Cache:
             self._values.move_to_end(path)
             return found[1]
 
-    def put(self, path: str, state: State | None, value: AnyArray) -> None:
-        """Keeps a value, where it isn't larger than all that is kept; the oldest ones go."""
+    def put(self, path: str, state: State | None, value: Any) -> None:
+        """Keeps this of a file, where it isn't larger than all that may be kept; the oldest goes."""
         with self._lock:
             self._drop(path)
             if state is None or value.nbytes > self._limit:
@@ -56,7 +56,7 @@ class Cache:
                 self._drop(next(iter(self._values)))
 
     def drop(self, path: str) -> None:
-        """Keeps a file's value no longer."""
+        """Keeps nothing of a file any longer."""
         with self._lock:
             self._drop(path)
 

@@ -15,6 +15,7 @@ from ._data_types import DataType
 from ._library import SHORT, Sizes, checked
 from ._texts import joined, parted
 from ._types import AnyArray
+from .refusals import InvalidElement
 
 _ma: Any = np.ma  # numpy says no types of it
 _NONE: tuple[Any, int] = (None, 0)
@@ -37,7 +38,7 @@ def mask_of(array: AnyArray) -> AnyArray:
 def _all_there(array: Any) -> Any:
     """The same, where no element is absent."""
     if _ma.is_masked(array):
-        raise ValueError("an element is absent, and the data type isn't an optional one")
+        raise InvalidElement("an element is absent, and the data type isn't an optional one")
     return array
 
 
@@ -49,14 +50,43 @@ def _blank(kind: DataType, dtype: np.dtype[Any]) -> Any:
 
 
 def _whole_numbers(kind: DataType, array: AnyArray) -> AnyArray:
-    """Whole numbers as the type holds them. Raises `ValueError` where it can't hold one."""
+    """Whole numbers as the type holds them. Raises `InvalidElement` where it can't hold one."""
     low, high = kind.limits
     if array.size:
         least, most = int(array.min()), int(array.max())
         if least < low or most > high:
             wrong = least if least < low else most
-            raise ValueError(f"{reprlib.repr(wrong)} isn't of {kind.name}, which has {low} to {high}")
+            raise InvalidElement(f"{reprlib.repr(wrong)} isn't of {kind.name}, which has {low} to {high}")
     return array.astype(kind.dtype)
+
+
+def _check_size(kind: DataType, array: AnyArray) -> None:
+    """Raises `InvalidElement` where numpy would cut elements of a fixed length, or make them longer by zeros."""
+    itemsize = kind.dtype.itemsize
+    if kind.dtype.kind == "V" and array.dtype.kind == "V" and array.dtype.itemsize != itemsize:
+        raise InvalidElement(f"elements of {array.dtype.itemsize} bytes aren't of {kind.name}")
+    if kind.dtype.kind in "US" and array.dtype.itemsize > itemsize:
+        longest = int(np.char.str_len(array).max()) if array.dtype.kind in "US" else 0
+        if longest > itemsize // (4 if kind.dtype.kind == "U" else 1):
+            raise InvalidElement(f"an element of length {longest} isn't of {kind.name}")
+
+
+def _cast(kind: DataType, array: AnyArray) -> AnyArray:
+    """Elements in numpy's type, by its casting within a kind; `InvalidElement` is raised where one isn't there as it was,
+    but for what is rounded off."""
+    numbers_of = _NUMBERS.get(kind.dtype.kind)
+    is_numbers = array.dtype == object and numbers_of and all(isinstance(one, numbers_of) for one in array.flat)
+    try:
+        with np.errstate(over="raise"):
+            made = array.astype(kind.dtype, casting="unsafe" if is_numbers else "same_kind")
+    except (OverflowError, FloatingPointError) as error:
+        raise InvalidElement(f"an element isn't of {kind.name}: {error}") from error
+    # of moments that are too far away numpy says nothing
+    if kind.dtype.kind in "mM" and np.can_cast(array.dtype, kind.dtype, "safe"):
+        differs = ~np.isnat(array) & (made.astype(array.dtype) != array)
+        if differs.any():
+            raise InvalidElement(f"{array[differs][0]} isn't of {kind.name}")
+    return made
 
 
 def _held(kind: DataType, array: AnyArray) -> AnyArray:
@@ -74,16 +104,8 @@ def _held(kind: DataType, array: AnyArray) -> AnyArray:
             if kind.has_all and np.can_cast(array.dtype, kind.dtype):
                 return array.astype(kind.dtype)
             return _whole_numbers(kind, array)
-    if kind.dtype.kind in "US" and array.dtype.itemsize > kind.dtype.itemsize:
-        longest = int(np.char.str_len(array).max()) if array.dtype.kind in "US" else 0
-        if longest > kind.dtype.itemsize // (4 if kind.dtype.kind == "U" else 1):
-            raise ValueError(f"an element of length {longest} isn't of {kind.name}")
-    numbers_of = _NUMBERS.get(kind.dtype.kind)
-    is_numbers = array.dtype == object and numbers_of and all(isinstance(one, numbers_of) for one in array.flat)
-    try:
-        return array.astype(kind.dtype, casting="unsafe" if is_numbers else "same_kind")
-    except OverflowError as error:
-        raise ValueError(f"an element isn't of {kind.name}: {error}") from error
+    _check_size(kind, array)
+    return _cast(kind, array)
 
 
 def _as_array(kind: DataType, array: Any) -> AnyArray:
@@ -97,9 +119,9 @@ def _as_array(kind: DataType, array: Any) -> AnyArray:
 def held(kind: DataType, array: Any) -> AnyArray:
     """Elements as the type holds them; whatever stands under absent ones, it is of the type.
 
-    Whole numbers are of the type where it can hold them; else numpy's casting within a kind is allowed. Raises
-    `ValueError` where the type can't hold a number or an element is absent, and `TypeError` where the kinds
-    differ.
+    Whole numbers are of the type where it can hold them; else numpy's casting within a kind is allowed, which may
+    round. Raises `InvalidElement` where the type can't hold an element or one is absent, and `TypeError` where the
+    kinds differ.
     """
     if not kind.is_optional:
         return _held(kind, _as_array(kind, _all_there(array)))

@@ -1,15 +1,20 @@
-"""Reading pieces of a file, and replacing files."""
+"""Where a value's bytes are: reading pieces of it, and replacing files."""
 
 import contextlib
 import io
 import os
 import secrets
 import stat
+from collections.abc import Iterator
 from typing import Any
 
 import numpy as np
 
+from ._cache import State, state_of
 from ._types import AnyArray
+
+# How many bytes of a file are fetched at a time, where a read needs more.
+PART_BYTES = 1 << 20
 
 
 def _descriptor(file: Any) -> int | None:
@@ -21,25 +26,94 @@ def _descriptor(file: Any) -> int | None:
 
 
 class Source:
-    """A file, its number, or an object with `seek` and `readinto`."""
+    """Where a value's bytes are."""
+
+    @property
+    def part_bytes(self) -> int | None:
+        """How many bytes are fetched at a time, where a read needs more; None where all are."""
+        return PART_BYTES
+
+    def length(self) -> int:
+        """How many bytes it has."""
+        raise NotImplementedError
+
+    def pieces(self, ranges: AnyArray) -> AnyArray:
+        """The bytes of ranges, each a start and an end, joined."""
+        raise NotImplementedError
+
+    def state(self) -> State | None:
+        """What it is, by which a later change is seen; None where one might not be."""
+        return None
+
+    def close(self) -> None:
+        """Ends what was begun to read it."""
+
+    def each(self, ranges: list[tuple[int, int]]) -> Iterator[Any]:
+        """The bytes of each range; as many are fetched together as may be."""
+        at = 0
+        while at < len(ranges):
+            group, count = [ranges[at]], ranges[at][1] - ranges[at][0]
+            for begin, end in ranges[at + 1 :]:
+                count += end - begin
+                if self.part_bytes is not None and count > self.part_bytes:
+                    break
+                group.append((begin, end))
+            fetched, place = self.pieces(np.array(group, np.uint64)), 0
+            for begin, end in group:
+                yield fetched[place : place + end - begin]
+                place += end - begin
+            at += len(group)
+
+    def whole(self) -> AnyArray:
+        """All bytes."""
+        return self.pieces(np.array([[0, self.length()]], np.uint64))
+
+
+class Held(Source):
+    """A value that is in memory."""
+
+    def __init__(self, value: Any) -> None:
+        self._view = memoryview(value).cast("B")
+
+    def length(self) -> int:
+        return len(self._view)
+
+    def pieces(self, ranges: AnyArray) -> AnyArray:
+        return np.concatenate([np.frombuffer(part, np.uint8) for part in self.each(ranges.tolist())])
+
+    def each(self, ranges: list[tuple[int, int]]) -> Iterator[Any]:
+        for begin, end in ranges:
+            yield self._view[begin:end]
+
+
+class File(Source):
+    """A file, its number, or an object with `seek`, and `readinto` or `read`."""
 
     def __init__(self, file: Any) -> None:
         self._file = file
         self._number = _descriptor(file)
-        if self._number is None and not (hasattr(file, "seek") and hasattr(file, "readinto")):
-            raise TypeError(f"a {type(file).__name__} is no file that seeks and reads into a buffer")
+        self._fills = hasattr(file, "readinto")
+        if self._number is None and not (hasattr(file, "seek") and (self._fills or hasattr(file, "read"))):
+            raise TypeError(f"a {type(file).__name__} is no file that seeks and reads")
 
     def length(self) -> int:
-        """How many bytes it has."""
-        if self._number is None:
-            return int(self._file.seek(0, os.SEEK_END))
-        return os.fstat(self._number).st_size
+        if self._number is not None:
+            return os.fstat(self._number).st_size
+        end = self._file.seek(0, os.SEEK_END)
+        return int(self._file.tell() if end is None else end)
+
+    def state(self) -> State | None:
+        return None if self._number is None else state_of(os.fstat(self._number))
 
     def _some(self, view: memoryview, place: int) -> int:
         if self._number is not None:
             return os.preadv(self._number, [view], place)
         self._file.seek(place)
-        return self._file.readinto(view) or 0
+        if self._fills:
+            return self._file.readinto(view) or 0
+        found = self._file.read(len(view))
+        view[: len(found)] = found
+        return len(found)
 
     def _read(self, view: memoryview, place: int) -> None:
         while len(view):
@@ -49,17 +123,12 @@ class Source:
             view, place = view[count:], place + count
 
     def pieces(self, ranges: AnyArray) -> AnyArray:
-        """The bytes of ranges, each a start and an end, joined."""
         fetched = np.empty(int((ranges[:, 1] - ranges[:, 0]).sum()), np.uint8)
         view, at = fetched.data, 0
         for begin, end in ranges.tolist():
             self._read(view[at : at + end - begin], begin)
             at += end - begin
         return fetched
-
-    def whole(self) -> AnyArray:
-        """All bytes."""
-        return self.pieces(np.array([[0, self.length()]], np.uint64))
 
 
 def _created(path: str) -> int:

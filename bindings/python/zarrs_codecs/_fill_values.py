@@ -9,6 +9,7 @@ from typing import Any
 import numpy as np
 
 from ._data_types import DataType
+from ._elements import held
 from .refusals import InvalidFillValue
 
 _ABSENT = "00"
@@ -34,8 +35,9 @@ def _float_bytes(size: int, fill: Any) -> bytes:
     if isinstance(fill, str) and fill not in _FLOATS:
         raise InvalidFillValue(f"{reprlib.repr(fill)} isn't of float{8 * size}")
     try:
-        return np.array(float(fill), f"<f{size}").tobytes()
-    except OverflowError as error:
+        with np.errstate(over="raise"):
+            return np.array(float(fill), f"<f{size}").tobytes()
+    except (OverflowError, FloatingPointError) as error:
         raise InvalidFillValue(f"{reprlib.repr(fill)} isn't of float{8 * size}") from error
 
 
@@ -64,13 +66,22 @@ def _fixed_bytes(kind: DataType, fill: Any) -> bytes:
                 raise InvalidFillValue(f"{reprlib.repr(fill)} isn't of complex{8 * size}")
             return b"".join(_float_bytes(size // 2, part) for part in fill)
         case "V":
-            return _raw_bytes(fill)
+            whole = _raw_bytes(fill)
+            if len(whole) != size:
+                raise InvalidFillValue(f"{reprlib.repr(fill)} isn't of {kind.name}")
+            return whole
         case "m" | "M":
-            value = _NOT_A_TIME if fill == "NaT" else operator.index(fill)
-            return value.to_bytes(8, "little", signed=True)
+            return _moment(kind, fill).to_bytes(8, "little", signed=True)
         case "U" | "S":
             return _sized_bytes(kind, fill)
     return _integer_bytes(kind, fill)
+
+
+def _moment(kind: DataType, fill: Any) -> int:
+    """The number of a moment or of a length of time."""
+    if isinstance(fill, (np.datetime64, np.timedelta64)):
+        return int(held(kind, fill).astype(np.int64))
+    return _NOT_A_TIME if fill == "NaT" else operator.index(fill)
 
 
 def _sized_bytes(kind: DataType, fill: Any) -> bytes:

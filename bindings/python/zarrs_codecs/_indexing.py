@@ -7,7 +7,7 @@ from typing import Any, NamedTuple
 
 import numpy as np
 
-from ._selections import entries_of
+from ._selections import as_places, entries_of
 from ._types import AnyArray, Shape
 
 
@@ -21,12 +21,12 @@ class Step(NamedTuple):
 
 def is_list(entry: Any) -> bool:
     """Whether an entry of an index is a list of places or a mask."""
-    return isinstance(entry, list) or (isinstance(entry, np.ndarray) and entry.ndim > 0)
+    return isinstance(entry, (list, range)) or (isinstance(entry, np.ndarray) and entry.ndim > 0)
 
 
 def counted(said: Any, axis: int, size: int) -> AnyArray:
     """Places on an axis, counted from its begin. Raises `IndexError` where they are none."""
-    places = np.asarray(said)
+    places = as_places(said)
     if places.size == 0:
         return places.astype(np.int64)
     if places.dtype.kind not in "iu":
@@ -42,7 +42,9 @@ def counted(said: Any, axis: int, size: int) -> AnyArray:
 
 def _places(entry: Any, axis: int, size: int) -> AnyArray:
     """The places on an axis that a list or a mask selects."""
-    places = np.asarray(entry)
+    places = as_places(entry)
+    if places.ndim != 1 and places.dtype == bool:
+        raise IndexError(f"a mask of shape {places.shape}: one is of one axis, or of all with the array's shape")
     if places.ndim != 1:
         raise IndexError(f"a list of places has one axis, and not {places.ndim}; vindex takes points")
     if places.dtype != bool:
@@ -136,7 +138,7 @@ class Points:
 
     def __init__(self, selection: Any, shape: Shape) -> None:
         entries = selection if isinstance(selection, tuple) else (selection,)
-        masks = [np.asarray(entry) for entry in entries]
+        masks = [as_places(entry) for entry in entries]
         if len(masks) == 1 and masks[0].dtype == bool and masks[0].shape == shape and shape:
             entries = np.nonzero(masks[0])
         if len(entries) != len(shape):

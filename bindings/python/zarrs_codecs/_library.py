@@ -25,6 +25,7 @@ _CALLS = {
     "zarrs_write": [*_BUFFER, *_STORED, *_SELECTION, *_ELEMENTS, *_BUFFER, _AT],
     "zarrs_planned_ranges": [*_BUFFER, *_SELECTION, *_BUFFER, _AT, _AT],
     "zarrs_read_pieces": [*_BUFFER, _NUMBER, *_BUFFER, *_BUFFER, *_SELECTION, *_ELEMENTS, _AT],
+    "zarrs_lacking": [*_BUFFER, _NUMBER, *_BUFFER, *_BUFFER, *_SELECTION, *_BUFFER, _AT],
     "zarrs_reencode": [*_BUFFER, *_BUFFER, *_BUFFER, *_BUFFER, _AT],
     "zarrs_error_name": [ctypes.c_uint32, *_BUFFER, _AT],
 }

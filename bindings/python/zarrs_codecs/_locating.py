@@ -11,6 +11,7 @@ from .refusals import Refused
 Ask = Callable[[Any], str]
 # The refusals that rest on codecs and on what they are given, and not on what is stored.
 OF_CODECS = {
+    "Syntax",
     "UnknownName",
     "InvalidConfiguration",
     "MissingArrayToBytes",
@@ -32,8 +33,29 @@ OF_CODECS = {
     "IndexNotFixed",
 }
 
+# The refusals that rest on what is stored, or on what elements make of it.
+OF_VALUES = {
+    "InvalidBytesLength",
+    "InvalidByteRange",
+    "PaddingByte",
+    "IndexLength",
+    "InvalidOffsets",
+    "OffsetTooLarge",
+    "OffsetNotKept",
+    "MaskValue",
+    "HeaderOverflow",
+    "BytesCodec",
+    "ElementCount",
+    "NotInPlace",
+}
+
+# Those that rest on no value.
+_OF_ELEMENTS = ("OffsetTooLarge", "OffsetNotKept", "NotInPlace")
 # Those of a codec as such.
 _OF_NO_KEY = ("UnknownName", "IndexNotFixed")
+
+# How many bytes longer the library's bytes-to-bytes codecs make a value.
+_LONGER = {"crc32c": 4}
 
 _LITTLE = {"name": "bytes", "configuration": {"endian": "little"}}
 _VLEN = {
@@ -202,3 +224,34 @@ def locate(error: Refused, ask: Ask, codecs: list[Any]) -> None:
             break
         key, codecs, ask = found
     error.inner, error.key = tuple(inner), key
+
+
+def _is_refused_by(codec: Any, value: Any) -> tuple[bool, Any]:
+    """Whether a bytes-to-bytes codec of the library refuses a value, and what it makes of it else."""
+    size = memoryview(value).nbytes - _LONGER[name_of(codec)]
+    if size <= 0:
+        return size < 0 or any(memoryview(value).cast("B")), b""
+    from .chain import Chain
+
+    try:
+        return False, Chain(["bytes", codec], (size,), "uint8").decode(value)
+    except Refused:
+        return True, None
+
+
+def locate_stored(error: Refused, ask: Ask, codecs: list[Any], value: Any) -> None:
+    """Puts into a refusal of a value which of these codecs it is of, where that is found: bytes-to-bytes codecs are
+    asked from the last one on, and where they take the value it is of the array-to-bytes codec. That a value isn't
+    edited in place is of the codec behind this one, where there is one."""
+    place = next(at for at in range(len(codecs)) if ask(codecs[: at + 1]) != "MissingArrayToBytes")
+    if type(error).__name__ == "NotInPlace":
+        place = min(place + 1, len(codecs) - 1)
+    behind = () if type(error).__name__ in _OF_ELEMENTS else range(len(codecs) - 1, place, -1)
+    for at in behind:
+        if value is None or name_of(codecs[at]) not in _LONGER:
+            return
+        is_refused, value = _is_refused_by(codecs[at], value)
+        if is_refused:
+            place = at
+            break
+    error.codec = place, name_of(codecs[place])

@@ -3,10 +3,10 @@
 import json
 import reprlib
 from dataclasses import dataclass
-from pathlib import Path
 from typing import Any
 
 from ._data_types import DataType
+from ._stores import Folder
 from ._types import Shape
 from .refusals import InvalidMetadata
 
@@ -32,13 +32,14 @@ def _named(said: Any) -> tuple[str, dict[str, Any]]:
                 return name, {}
             if isinstance(configuration, dict):
                 return name, configuration
+            raise InvalidMetadata(f"zarr.json has the configuration {reprlib.repr(configuration)} of {name!r}")
     raise InvalidMetadata(f"zarr.json has no name in {reprlib.repr(said)}")
 
 
-def _sizes(said: Any) -> tuple[int, ...]:
-    """The sizes of a shape."""
-    if not isinstance(said, list) or any(type(size) is not int or size < 0 for size in said):
-        raise InvalidMetadata(f"zarr.json has the shape {reprlib.repr(said)}")
+def _sizes(said: Any, key: str, least: int) -> tuple[int, ...]:
+    """The sizes that a key has: those that numpy can count, from the least one on."""
+    if not isinstance(said, list) or any(type(size) is not int or not least <= size < 1 << 63 for size in said):
+        raise InvalidMetadata(f"zarr.json has the {key} {reprlib.repr(said)}")
     return tuple(said)
 
 
@@ -58,7 +59,7 @@ def _checked(metadata: Any) -> dict[str, Any]:
             raise InvalidMetadata(f"zarr.json has the unknown key {reprlib.repr(key)}")
     for key in sorted(_NEEDED - metadata.keys()):
         raise InvalidMetadata(f"zarr.json has no key {reprlib.repr(key)}")
-    if metadata.get("storage_transformers"):
+    if metadata.get("storage_transformers") not in (None, []):
         raise InvalidMetadata("storage transformers aren't read")
     if not isinstance(metadata.get("attributes", {}), dict):
         raise InvalidMetadata(f"zarr.json has the attributes {reprlib.repr(metadata['attributes'])}")
@@ -92,7 +93,7 @@ def _chunks(said: Any, axes: int) -> tuple[int, ...]:
     name, configuration = _named(said)
     if name != "regular":
         raise InvalidMetadata(f"a chunk grid that is {reprlib.repr(name)}, where regular ones are read")
-    chunks = _sizes(configuration.get("chunk_shape"))
+    chunks = _sizes(configuration.get("chunk_shape"), "chunk shape", 1)
     if len(chunks) != axes:
         raise InvalidMetadata(f"chunks of {len(chunks)} axes, where the array has {axes}")
     return chunks
@@ -125,7 +126,7 @@ class ArrayMetadata:
 def parsed(said: Any) -> ArrayMetadata:
     """What a `zarr.json` says. Raises `InvalidMetadata` where it isn't one of an array that is read here."""
     said = _checked(said)
-    shape = _sizes(said["shape"])
+    shape = _sizes(said["shape"], "shape", 0)
     return ArrayMetadata(
         said,
         shape,
@@ -135,12 +136,21 @@ def parsed(said: Any) -> ArrayMetadata:
     )
 
 
-def metadata_of(path: Path) -> ArrayMetadata:
-    """What a file `zarr.json` says. Raises `InvalidMetadata` where it isn't one of an array that is read here."""
+def _is_there(files: Folder, path: str) -> bool:
     try:
-        whole = path.read_bytes()
+        files.check(path)
     except FileNotFoundError:
-        if (path.parent / ".zarray").exists():
+        return False
+    return True
+
+
+def metadata_of(files: Folder, root: str) -> ArrayMetadata:
+    """What the file `zarr.json` says behind this beginning of paths. Raises `InvalidMetadata` where it isn't one of an
+    array that is read here."""
+    try:
+        whole = files.read(f"{root}zarr.json")
+    except FileNotFoundError:
+        if _is_there(files, f"{root}.zarray"):
             raise InvalidMetadata("the folder has an array of Zarr v2, where v3 is read") from None
         raise
     try:

@@ -161,7 +161,7 @@ def _place(index: Any, axis: int, size: int) -> int:
         place = operator.index(index)
     except TypeError as error:
         raise IndexError(
-            f"an index is an integer, a slice, `...` or None here, and not {type(index).__name__}"
+            f"an index is an integer, a slice, `...` or None, or of an array a list of places, and not {type(index).__name__}"
         ) from error
     if not -size <= place < size:
         raise IndexError(f"index {place} is out of bounds for axis {axis} with size {size}")
@@ -202,8 +202,16 @@ def box(selection: Any, shape: Shape) -> Box:
     return Box(on_axes, (*after, ...) if has_ellipsis else tuple(after))
 
 
+def as_places(said: Any) -> AnyArray:
+    """Places, or a mask, as an array. Raises `IndexError` where lists of several lengths are none."""
+    try:
+        return np.asarray(said)
+    except ValueError as error:
+        raise IndexError(f"lists of places of several lengths: {error}") from error
+
+
 def _rows(selection: Any, shape: Shape) -> Rows:
-    rows = np.asarray(selection)
+    rows = as_places(selection)
     if rows.size == 0:
         rows = rows.reshape(len(rows), len(shape)).astype(np.int64)
     if rows.ndim == 1 and len(shape) == 1:

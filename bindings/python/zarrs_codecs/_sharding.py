@@ -2,20 +2,17 @@
 
 import itertools
 import math
-import operator
 from collections.abc import Callable, Iterable, Iterator, Sequence
-from functools import cached_property
+from functools import cached_property, partial
 from typing import Any, NamedTuple, TypeVar
 
 import numpy as np
-from numpy.typing import ArrayLike
 
 from ._bytes_codecs import split, wrong
-from ._data_types import DataType
-from ._data_types import data_type as data_type_of
-from ._elements import empty, held, mask_of, put, spread
-from ._files import Source
+from ._elements import empty, mask_of, put, spread
+from ._files import Held
 from ._header import json_of
+from ._rounds import Fetched
 from ._selections import Rows, Selection, select
 from ._types import AnyArray, Bytes, Shape
 from .chain import Chain, Representation
@@ -63,7 +60,7 @@ def is_sharded(codecs: Sequence[Any]) -> bool:
 
 def has_pythons(codecs: Any) -> bool:
     """Whether these codecs are `sharding_indexed` alone, and its inner chunks have codecs that Python runs."""
-    if not isinstance(codecs, list) or not is_sharded(codecs):
+    if not isinstance(codecs, (list, tuple)) or not is_sharded(codecs):
         return False
     said = codecs[0].get("configuration")
     inner = said.get("codecs") if isinstance(said, dict) else None
@@ -76,7 +73,7 @@ def has_pythons(codecs: Any) -> bool:
 
 def chain_of(codecs: Sequence[Any], shape: Sequence[int], data_type: Any, fill_value: Any = None) -> Chain:
     """The chain of these codecs: the library's, or the one that reads parts where they are `sharding_indexed`."""
-    if isinstance(codecs, list) and is_sharded(codecs):
+    if isinstance(codecs, (list, tuple)) and is_sharded(codecs):
         return ShardedChain(codecs, shape, data_type, fill_value)
     return Chain(codecs, shape, data_type, fill_value)
 
@@ -135,22 +132,19 @@ class ShardedChain(Chain):
         self, codecs: Sequence[Any], shape: Sequence[int], data_type: Any, fill_value: Any = None
     ) -> None:
         self._text = json_of(list(codecs))
-        self.shape = tuple(map(operator.index, shape))
-        self.data_type = data_type
-        self.fill_value = fill_value
-        self._type: DataType = data_type_of(data_type)
-        self.dtype = self._type.dtype
+        self._set_elements(shape, data_type)
         self._outer = []
         try:
             said = _configuration(self.codecs[0])
             self._chunk_shape, self._is_last = said.chunk_shape, said.index_is_last
             self._grid = self._grid_of(said.chunk_shape)
-            self._made_chains(said)
+            self._made_chains(said, data_type, fill_value)
             # the library's, where it runs all codecs
             self._whole = None if has_pythons(self.codecs) else Chain(self.codecs, self.shape, data_type, fill_value)
         except Refused as error:
             self._locate(error)
             raise
+        self._set_named(data_type, fill_value)
         self._fill: Any = self._chunk.read(None, (0,) * len(self.shape))
 
     def _grid_of(self, sizes: Shape) -> Shape:
@@ -161,9 +155,9 @@ class ShardedChain(Chain):
             raise IndivisibleShape("IndivisibleShape")
         return tuple(whole // size for whole, size in zip(self.shape, sizes, strict=True))
 
-    def _made_chains(self, said: _Configuration) -> None:
+    def _made_chains(self, said: _Configuration, data_type: Any, fill_value: Any) -> None:
         """Makes the chain of each inner chunk, and that of the index."""
-        self._chunk = self._inside("codecs", said.codecs, said.chunk_shape, self.data_type, self.fill_value)
+        self._chunk = self._inside("codecs", said.codecs, said.chunk_shape, data_type, fill_value)
         # a codec that keeps some bits alone has a normal form
         self._keeps_all = "packbits" not in json_of(said.codecs)
         if not self._keeps_all:
@@ -215,6 +209,10 @@ class ShardedChain(Chain):
         if size is None or self._chunk.unproved:
             return Representation("unbounded", None)
         return Representation("bounded", size * math.prod(self._grid) + self._index_size)
+
+    @cached_property
+    def _is_planned(self) -> bool:
+        return False
 
     @cached_property
     def _is_read_whole(self) -> bool:
@@ -278,7 +276,7 @@ class ShardedChain(Chain):
         absent = mask_of(one)
         if (absent != mask_of(other)).any():
             return False
-        one, other = (np.asarray(np.ma.getdata(each)) for each in (one, other))
+        one, other = (np.asarray(each) for each in (one, other))
         if self.dtype == object:
             return bool((absent | (one == other)).all())
         bits = [np.ascontiguousarray(each).view(f"V{self.dtype.itemsize}") for each in (one, other)]
@@ -308,13 +306,14 @@ class ShardedChain(Chain):
         """The value of elements that the type holds, of this shape."""
         if self._whole is not None:
             return self._whole._encode(elements)
-        return self._joined([self._part(elements[(*place, ...)]) for place in self._places()])
+        parts: Iterator[Any] = ((*place, ...) for place in self._places())
+        return self._joined([self._part(elements[part]) for part in parts])
 
     def decode(self, value: Any, out: AnyArray | None = None) -> AnyArray:
         """The chunk that a value stands for, an array of this shape; in `out` where it is given."""
         whole = self._whole
         if whole is not None:
-            return self._told_by(lambda: whole.decode(value, out), value)
+            return self._told_by(partial(whole.decode, value, out), value)
         return put(self._decoded(value), out)
 
     def _told_by(self, call: Callable[[], _R], value: Any) -> _R:
@@ -373,22 +372,32 @@ class ShardedChain(Chain):
             found.append(Piece(number, (*inside_box, ...), (*(there for _, _, there in each), ...)))
         return found
 
-    def _read_pieces(self, selection: Any, source: "_Value", out: AnyArray | None) -> AnyArray:
-        """The elements of a selection, in numpy's shape of it."""
+    def _read_fetched(self, fetched: Fetched, selection: Any, out: AnyArray | None) -> AnyArray:
+        """The elements of a selection, in numpy's shape of it: by the index, and then the inner chunks."""
         chosen = select(selection, self.shape)
         self._check_rows(chosen)
-        pieces, length, whole = self._pieces(chosen), source.length(), self._whole
+        pieces, length, whole = self._pieces(chosen), fetched.length, self._whole
         if whole is not None and len(pieces) == math.prod(self._grid):
-            value = source.piece(0, length)
-            return self._told_by(lambda: whole._read_inner(value, selection, out), value)
+            value = next(fetched.source.each([(0, length)]))
+            return self._told_by(partial(whole._read_inner, value, selection, out), value)
         elements = empty(self._type, chosen.shape)
-        entries = self._entries(source.piece(*self._index_range(length)))
-        for number, inside, there in pieces:
-            where = self._range(entries, number, length)
+        entries = self._entries(fetched.index(*self._index_range(length)))
+        stored, failure = [], None
+        for piece in pieces:
+            try:
+                where = self._range(entries, piece.number, length)
+            except InvalidByteRange as error:
+                failure = error
+                break
             if where is None:
-                elements[there] = self._fill
+                elements[piece.there] = self._fill
             else:
-                elements[there] = self._opened(number, source.piece(*where), inside)
+                stored.append((piece, where))
+        parts = fetched.source.each([where for _, where in stored])
+        for (piece, _), part in zip(stored, parts, strict=True):
+            elements[piece.there] = self._opened(piece.number, part, piece.inside)
+        if failure is not None:
+            raise failure
         return put(elements if chosen.after is None else elements[chosen.after], out)
 
     def _check_rows(self, chosen: Selection) -> None:
@@ -411,7 +420,7 @@ class ShardedChain(Chain):
     def _read_inner(self, inner: Any, selection: Any, out: AnyArray | None = None) -> AnyArray:
         if inner is None:
             return self._filled(select(selection, self.shape), out)
-        return self._read_pieces(selection, _Held(inner), out)
+        return self._read_fetched(Fetched(Held(inner)), selection, out)
 
     def read_many(self, value: Any, selections: Iterable[Any]) -> list[AnyArray]:
         """The elements of each of several selections, a list of what `read` answers one after another."""
@@ -419,8 +428,8 @@ class ShardedChain(Chain):
 
     def read_from(self, file: Any, selection: Any, out: AnyArray | None = None) -> AnyArray:
         """The elements that a selection means of the value that a file has, as `read` answers them: it asks for the
-        index, and then for each inner chunk with some of them."""
-        return self._read_pieces(selection, _Opened(Source(file)), out)
+        index, and then for the inner chunks with some of them."""
+        return super().read_from(file, selection, out)
 
     def planned_ranges(self, selection: Any) -> None:
         """None: which bytes a read needs is known once it has the index."""
@@ -443,41 +452,3 @@ class ShardedChain(Chain):
             old[tuple(inside.T) if isinstance(meant, Rows) else inside] = new[there]
             stored[number] = self._part(old)
         return self._joined(stored)
-
-
-class _Value:
-    """Where a value's bytes are."""
-
-    def length(self) -> int:
-        """How many bytes it has."""
-        raise NotImplementedError
-
-    def piece(self, begin: int, end: int) -> Any:
-        """The bytes of a range."""
-        raise NotImplementedError
-
-
-class _Held(_Value):
-    """A value that is in memory."""
-
-    def __init__(self, value: Any) -> None:
-        self._view = memoryview(value).cast("B")
-
-    def length(self) -> int:
-        return len(self._view)
-
-    def piece(self, begin: int, end: int) -> Any:
-        return self._view[begin:end]
-
-
-class _Opened(_Value):
-    """A value that a file has."""
-
-    def __init__(self, source: Source) -> None:
-        self._source = source
-
-    def length(self) -> int:
-        return self._source.length()
-
-    def piece(self, begin: int, end: int) -> Any:
-        return self._source.pieces(np.array([[begin, end]], np.uint64))

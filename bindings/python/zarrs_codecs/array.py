@@ -1,4 +1,4 @@
-"""A Zarr v3 array in a folder."""
+"""A Zarr v3 array in a folder, or in a store."""
 
 import itertools
 import math
@@ -21,8 +21,10 @@ from ._indexing import Outer, Points, is_list
 from ._metadata import made, metadata_of, parsed, usual_codecs
 from ._selections import box
 from ._sharding import chain_of
+from ._stores import Folder, Store
 from ._types import AnyArray, Shape
-from .refusals import Refused
+from .chain import codec_list
+from .refusals import InvalidFillValue, Refused
 
 # A chunk's numbers, the places in it, and those in the answer.
 Part = tuple[tuple[int, ...], tuple[slice, ...], tuple[slice, ...]]
@@ -52,7 +54,7 @@ class Info(dict[str, Any]):
 
 
 class Array:
-    """A Zarr v3 array in a folder: `zarr.json`, a regular grid, and a file for each chunk.
+    """A Zarr v3 array in a folder or in a store: `zarr.json`, a regular grid, and a file for each chunk.
 
     Basic indices of numpy read and write, and so do lists of places and masks, as numpy's do, for one axis or
     as a mask of all; `oindex` takes several, each with each, `vindex` points. An answer has numpy's shape of the
@@ -62,7 +64,8 @@ class Array:
     Reading touches the chunks that have elements of the answer, and of each, where its chain plans its reads,
     the bytes that these elements need; of a shard (`sharding_indexed`, whose chain is a `ShardedChain`) the index
     and the inner chunks with such elements; a chunk that isn't there has fill values. Values that are needed whole
-    are kept, `cache` bytes at most, behind the codecs that Python runs, for as long as the file is the same.
+    are kept, `cache` bytes at most, behind the codecs that Python runs, for as long as the file is the same; of
+    others an index, or the offsets of texts.
     Writing replaces whole files, each by a rename of one that is on the disk as a whole, with the mode that the
     file had, so a reader sees a chunk as it was or as it is; two writers of one chunk must take turns. `threads`
     chunks are read or written at a time.
@@ -72,6 +75,13 @@ class Array:
     where its `zarr.json` is of no such array, the refusals of `Chain`, `InvalidBytesLength` for a chunk of
     another length than its codecs always write, `IndexError` for an index that is none, `ValueError` for
     elements that don't broadcast or aren't of the type, and `TypeError` for those of another kind.
+
+    `store` is an object that opens files by `store.open(path)`, whose paths begin with `folder`: each file has
+    `seek`, and `readinto` or `read`, and one that isn't there is a `FileNotFoundError` or a `KeyError`, as
+    `zipfile.ZipFile` has it. Where it has `info` and `cat_ranges`, as fsspec's file systems have, all ranges of a
+    chunk that a read needs are fetched by one call: at most three of a chunk, and what `info` tells must differ
+    where a file was changed, else nothing of it is kept. Such an array isn't written: `io.UnsupportedOperation` is
+    raised.
 
     >>> import tempfile
     >>> folder = tempfile.TemporaryDirectory()
@@ -86,26 +96,33 @@ class Array:
     ((4, 6), (2, 3), 2, 24, 96)
     """
 
-    def __init__(self, folder: str | os.PathLike[str], *, cache: int = 1 << 25, threads: int = 1) -> None:
-        self.folder = Path(os.path.abspath(folder))
-        self._settings = {"cache": operator.index(cache), "threads": operator.index(threads)}
+    def __init__(
+        self, folder: str | os.PathLike[str], *, cache: int = 1 << 25, threads: int = 1, store: Any = None
+    ) -> None:
+        self._store, self._settings = store, {"cache": operator.index(cache), "threads": operator.index(threads)}
+        self._folder = os.path.abspath(folder) if store is None else os.fspath(folder).rstrip("/")
+        self.folder = Path(self._folder)
         path = self.folder / "zarr.json"
+        files = Folder() if store is None else Store(store)
+        root = f"{self._folder}/" if self._folder else ""
         try:
-            found = metadata_of(path)
+            found = metadata_of(files, root)
             said, self.shape, self.chunks = found.said, found.shape, found.chunks
+            self._type = data_type_of(said["data_type"])
+            if said["fill_value"] is None and not self._type.is_optional:
+                raise InvalidFillValue(f"null isn't of {self._type.name}")
             self.chain = chain_of(said["codecs"], self.chunks, said["data_type"], said["fill_value"])
         except Refused as error:
             error.path = path
             raise
         self.metadata: dict[str, Any] = said
         self.dimension_names = found.names
-        self._attributes = Attributes(path, said)
-        self._type = data_type_of(said["data_type"])
+        self._attributes = Attributes(files, root, said)
         self.dtype = self._type.dtype
         self.ndim = len(self.shape)
         self.size = math.prod(self.shape)
         self._fill: Any = self.chain.read(None, (0,) * self.ndim)
-        self._chunks = Chunks(str(self.folder), found.keys, self.chain, self._type, **self._settings)
+        self._chunks = Chunks(files, root, found.keys, self.chain, self._type, **self._settings)
 
     @classmethod
     def create(
@@ -138,7 +155,7 @@ class Array:
         """
         shape, chunks = tuple(map(operator.index, shape)), tuple(map(operator.index, chunks))
         kind = data_type_of(data_type)
-        codecs = usual_codecs(kind) if codecs is None else list(codecs)
+        codecs = usual_codecs(kind) if codecs is None else codec_list(codecs)
         first: Any = chain_of(codecs, chunks, data_type, fill_value).read(None, (0,) * len(chunks))
         metadata = made(shape, chunks, data_type, fill_json(kind, first), codecs)
         if attributes is not None:
@@ -207,7 +224,7 @@ class Array:
         names = [codec if isinstance(codec, str) else codec["name"] for codec in self.chain.codecs]
         return Info(
             {
-                "folder": os.fspath(self.folder),
+                "folder": self._folder,
                 "shape": self.shape,
                 "chunks": self.chunks,
                 "data type": self.metadata["data_type"],
@@ -219,22 +236,28 @@ class Array:
         )
 
     def __repr__(self) -> str:
-        return f"Array({os.fspath(self.folder)!r})"
+        return f"Array({self._folder!r})"
 
     def __reduce__(self) -> tuple[Any, ...]:
-        return _opened, (self.folder, self._settings)
+        return _opened, (self._folder, self._store, self._settings)
 
     def __len__(self) -> int:
         if not self.shape:
             raise TypeError("len() of an array without axes")
         return self.shape[0]
 
+    def __iter__(self) -> Iterator[Any]:
+        if not self.shape:
+            raise TypeError("iteration over an array without axes")
+        return (self[place] for place in range(len(self)))
+
     def __array__(self, dtype: DTypeLike = None, copy: bool | None = None) -> AnyArray:
-        """All elements, as numpy's functions ask for them; absent ones, which numpy's own arrays don't have,
-        come out blank. A read makes a new array, so `copy=False` raises `ValueError`."""
+        """All elements, as numpy's functions ask for them, in a masked array where some may be absent; `np.asarray`,
+        whose arrays have none, makes blanks of these. A read makes a new array, so `copy=False` raises
+        `ValueError`."""
         if copy is False:
             raise ValueError("an array is read from its files, and so always copied")
-        return np.asarray(self[...], dtype)
+        return np.asanyarray(self[...], dtype)
 
     def chunk_path(self, chunk: Shape) -> Path:
         """The file of the chunk of these numbers, which may not be there.
@@ -287,6 +310,7 @@ class Array:
         if _has_list(selection):
             return self._read_outer(*self._numpys(selection))
         chosen = box(selection, self.shape)
+        self._chunks.check_folder()
         answer = empty(self._type, chosen.shape)
         parts = self._parts(chosen.on_axes)
         fill = self._fill
@@ -304,6 +328,7 @@ class Array:
         return chosen, chosen.front
 
     def _read_outer(self, chosen: Outer, front: int | None = None) -> AnyArray:
+        self._chunks.check_folder()
         answer = empty(self._type, chosen.shape)
         for step in chosen.steps(self.chunks):
             answer[step.there] = self[(*step.place, ...)][step.inside]
@@ -322,6 +347,7 @@ class Array:
             self[(*step.place, ...)] = elements
 
     def _read_points(self, points: Points) -> Any:
+        self._chunks.check_folder()
         answer = empty(self._type, points.shape)
         each = answer.reshape(-1)
         parts = points.by_chunk(self.chunks)
@@ -390,6 +416,6 @@ def _is_mask(selection: Any, shape: tuple[int, ...]) -> bool:
     return mask and selection.ndim > 1 and selection.shape == shape
 
 
-def _opened(folder: Path, settings: dict[str, int]) -> Array:
+def _opened(folder: str, store: Any, settings: dict[str, int]) -> Array:
     """An array that was pickled."""
-    return Array(folder, **settings)
+    return Array(folder, store=store, **settings)

@@ -1,5 +1,6 @@
 """A chunk's codecs, as the library runs them."""
 
+import copy
 import ctypes
 import math
 import operator
@@ -14,25 +15,34 @@ from numpy.typing import ArrayLike
 
 from ._buffers import counted, lent, overlaps, start
 from ._bytes_codecs import hint, split
+from ._data_types import DataType
 from ._data_types import data_type as data_type_of
 from ._elements import given, held, put, spread, takes, told, told_into, told_many
-from ._files import Source
+from ._files import PART_BYTES, File, Source
 from ._header import Header, copied, json_of
 from ._library import SHORT, EditSize, checked, library
-from ._locating import OF_CODECS, locate
+from ._locating import OF_CODECS, OF_VALUES, locate, locate_stored
+from ._rounds import Fetched
 from ._selections import Selection, select
 from ._types import AnyArray, Bytes, Shape
-from .refusals import InvalidConfiguration, NotInPlace, Refused, UnknownName
+from .refusals import InvalidConfiguration, NotInPlace, Refused, Storage, Syntax, UnknownName
 
 # How many bytes of an answer are read from a file at a time: a quarter of it, between these. Some three
 # times as many are held beside it.
 _LEAST_PART_BYTES = 1 << 14
-_PART_BYTES = 1 << 20
+_PART_BYTES = PART_BYTES
 # How many bytes there are between two elements where these aren't read as well.
 _GAP_BYTES = 1 << 14
 # The numbers that a first try at a plan has room for.
 _PLAN_NUMBERS = 1 << 17
+# So many rounds fetch what they lack alone, and one more all that isn't there: each round reads again what those before
+# it have read.
+_MOST_ROUNDS = 8
+# How many bytes a value has of which is asked what a read takes of it.
+_LONG = 1 << 40
 _REPRESENTATIONS = ("fixed", "bounded", "unbounded")
+# The refusals that a value of another length may give.
+_OF_LENGTHS = ("InvalidBytesLength", "InvalidByteRange", "BytesCodec", "NotInPlace")
 
 
 class Representation(NamedTuple):
@@ -45,6 +55,17 @@ class Representation(NamedTuple):
 
     kind: str
     size: int | None
+
+
+def _told_ranges(call: Callable[..., Any], guess: int) -> npt.NDArray[np.uint64]:
+    """The ranges that a call tells, rows of a start and an end; `guess` is how many numbers there may be."""
+    numbers, needed = np.empty(guess, np.uint64), ctypes.c_size_t()
+    code = call(start(numbers), numbers.size, ctypes.byref(needed))
+    if code == SHORT:
+        numbers = np.empty(needed.value, np.uint64)
+        code = call(start(numbers), numbers.size, ctypes.byref(needed))
+    checked(code)
+    return numbers[: needed.value].reshape(-1, 2)
 
 
 _P = ParamSpec("_P")
@@ -63,6 +84,13 @@ def _naming(method: Callable[Concatenate["Chain", _P], _R]) -> Callable[Concaten
             raise
 
     return named
+
+
+def codec_list(codecs: Any) -> list[Any]:
+    """A list of codecs; `InvalidConfiguration` is raised of a name or a codec alone."""
+    if isinstance(codecs, (str, bytes, dict)):
+        raise InvalidConfiguration(f"codecs are a list, and not {reprlib.repr(codecs)}")
+    return list(codecs)
 
 
 class Chain:
@@ -96,31 +124,72 @@ class Chain:
             return object.__new__(cls)
         from ._sharding import ShardedChain, has_pythons
 
-        return object.__new__(ShardedChain if has_pythons(codecs) else cls)
+        made: Any = ShardedChain if has_pythons(codecs) else cls
+        chain: Chain = object.__new__(made)
+        return chain
 
     def __init__(
         self, codecs: Sequence[Any], shape: Sequence[int], data_type: Any, fill_value: Any = None
     ) -> None:
-        if isinstance(codecs, (str, bytes, dict)):
-            raise InvalidConfiguration(f"codecs are a list, and not {reprlib.repr(codecs)}")
-        self._text = json_of(list(codecs))
-        self.shape = tuple(map(operator.index, shape))
-        self.data_type = data_type
-        self.fill_value = fill_value
-        self._type = data_type_of(data_type)
-        self.dtype = self._type.dtype
+        self._text = json_of(codec_list(codecs))
+        self._set_elements(shape, data_type)
         self._inner_list, self._outer = split(self.codecs)
         self._said = Header(self.shape, self._type, fill_value)
+        self._set_named(data_type, fill_value)
         inner = json_of(self._inner_list)
         self._inner_codecs = inner.encode()
         self._header = self._said.text(inner)
         self._length = len(self._header)
         self.check()
 
+    def _set_elements(self, shape: Sequence[int], data_type: Any) -> None:
+        """Keeps what the elements of a chunk are. Raises `Syntax` of sizes that no chunk has."""
+        self.shape = tuple(map(operator.index, shape))
+        if any(not 0 < size < 1 << 64 for size in self.shape):
+            raise Syntax(f"a chunk of shape {reprlib.repr(self.shape)}, where each size is from 1 to 2^64 - 1")
+        self._type: DataType = data_type_of(data_type)
+        self.dtype = self._type.dtype
+
+    def _set_named(self, data_type: Any, fill_value: Any) -> None:
+        """Keeps the type and the fill value, as they were given."""
+        self._named = copy.deepcopy((data_type, fill_value))
+
     @property
     def codecs(self) -> list[Any]:
-        """The codecs, as `zarr.json` has them, in a list of its own: what is made of it changes nothing here."""
+        """The codecs, as `zarr.json` has them, in a list of its own: what is made of it changes nothing here.
+
+        >>> Chain(["bytes"], (2,), "uint8").codecs
+        ['bytes']
+        """
         return copied(self._text)
+
+    @property
+    def data_type(self) -> Any:
+        """The data type, as it was given, and as one's own: what is made of it changes nothing here.
+
+        >>> Chain(["bytes"], (2,), "uint8").data_type
+        'uint8'
+        """
+        return copy.deepcopy(self._named[0])
+
+    @property
+    def fill_value(self) -> Any:
+        """The fill value, as it was given, in the same way.
+
+        >>> Chain(["bytes"], (2,), "uint8", 7).fill_value
+        7
+        """
+        return copy.deepcopy(self._named[1])
+
+    def _locate_stored(self, error: Refused, value: Any) -> None:
+        """Puts into a refusal of the library's value which codec it is of; of one of another length, which is due."""
+        if error.codec is not None or type(error).__name__ not in OF_VALUES:
+            return
+        locate_stored(error, self._said.checked, self._inner_list, value)
+        kind, size = self.representation
+        length = None if value is None else memoryview(value).nbytes
+        if kind == "fixed" and length not in (None, size) and type(error).__name__ in _OF_LENGTHS:
+            error.args = (f"{length} bytes, where {size} are due",)
 
     def _locate(self, error: Refused) -> None:
         """Puts into a refusal which codec it is of, and which key, where that can be found."""
@@ -161,9 +230,18 @@ class Chain:
         return Representation(_REPRESENTATIONS[kind.value], None if kind.value == 2 else size.value)
 
     @cached_property
+    def _is_planned(self) -> bool:
+        """Whether the library plans its reads, and the elements are of one size."""
+        return self._type.is_plain and self.planned_ranges((0,) * len(self.shape)) is not None
+
+    @cached_property
     def _is_read_whole(self) -> bool:
-        """Whether a read of a file takes all of it."""
-        return not self._type.is_plain or self.planned_ranges((0,) * len(self.shape)) is None
+        """Whether a read of a file takes all of it, as its first round tells of a long one."""
+        if self._outer:
+            return True
+        first = select((0,) * len(self.shape), self.shape)
+        nothing_of = (_LONG, None, 0, None, 0)
+        return bool(self._lacking(nothing_of, first.arguments()).tolist() == [[0, _LONG]])
 
     @property
     def unproved(self) -> tuple[str, ...]:
@@ -227,7 +305,11 @@ class Chain:
         """The same of elements that the type holds, of this shape."""
         parts = given(self._type, elements)
         call = partial(library.zarrs_encode, self._header, self._length, *parts)
-        return self._told_value(call, 2 * parts[-1] + 16 * parts[3] + parts[1] + 64)
+        try:
+            return self._told_value(call, 2 * parts[-1] + 16 * parts[3] + parts[1] + 64)
+        except Refused as error:
+            self._locate_stored(error, None)
+            raise
 
     @_naming
     def decode(self, value: Any, out: AnyArray | None = None) -> AnyArray:
@@ -247,10 +329,16 @@ class Chain:
         self, call: Callable[..., Any], shape: Shape, value: Any, length: int, out: AnyArray | None
     ) -> AnyArray:
         """The elements that a call tells, which reads a value of this length; in `out` where it is given."""
-        if out is not None and takes(self._type, out, shape) and not overlaps(out, value):
-            told_into(out, call)
-            return out
-        return put(told(self._type, call, shape, length + 64), out)
+        is_into = out is not None and takes(self._type, out, shape) and not overlaps(out, value)
+        try:
+            if out is not None and is_into:
+                told_into(out, call)
+                return out
+            elements = told(self._type, call, shape, length + 64)
+        except Refused as error:
+            self._locate_stored(error, value)
+            raise
+        return put(elements, out)
 
     def reencode(self, value: Any, codecs: Sequence[Any]) -> Bytes:
         """The value, an array of bytes, that other codecs write for the chunk that a value stands for. Raises a
@@ -262,8 +350,9 @@ class Chain:
         other = Chain(codecs, self.shape, self.data_type, self.fill_value)
         if other._is_composed:
             return other._encode(self.decode(value))
+        own = self._inner(value)
         try:
-            at, length = lent(self._inner(value))
+            at, length = lent(own)
             inner = other._inner_codecs
             call = partial(
                 library.zarrs_reencode, self._header, self._length, at, length, inner, len(inner)
@@ -272,6 +361,7 @@ class Chain:
         except Refused as error:
             self._locate(error)
             other._locate(error)
+            self._locate_stored(error, own)
             raise
 
     # -- parts of chunks
@@ -326,7 +416,11 @@ class Chain:
         at, length = lent(b"" if inner is None else inner)
         arguments = (inner is not None, at, length, *counted(sizes, len(sizes)), *counted(numbers, numbers.size))
         call = partial(library.zarrs_read_many, self._header, self._length, *arguments)
-        answers = told_many(self._type, call, [one.shape for one in chosen], length + 64)
+        try:
+            answers = told_many(self._type, call, [one.shape for one in chosen], length + 64)
+        except Refused as error:
+            self._locate_stored(error, inner)
+            raise
         return [
             told_one if one.after is None else told_one[one.after]
             for one, told_one in zip(chosen, answers, strict=True)
@@ -363,7 +457,9 @@ class Chain:
     def _edit(self, value: Any, meant: Selection, elements: AnyArray) -> None:
         """Writes elements that the type holds into the value itself."""
         if self._outer:
-            raise NotInPlace("NotInPlace")
+            refused = NotInPlace("NotInPlace")
+            refused.codec = len(self._inner_list), self._outer[0].name
+            raise refused
         view = memoryview(value)
         if view.readonly or not view.c_contiguous:
             raise ValueError("out is a buffer in one piece that may be written")
@@ -376,7 +472,11 @@ class Chain:
         tuples, numbers, many = chosen.arguments()
         size, done = EditSize(tuples, many, count), ctypes.c_size_t()
         edit = (ctypes.byref(size), 1, numbers, many, bytes_at, count, ctypes.byref(done))
-        checked(library.zarrs_edit(self._header, self._length, *lent(value), *edit))
+        try:
+            checked(library.zarrs_edit(self._header, self._length, *lent(value), *edit))
+        except Refused as error:
+            self._locate_stored(error, value)
+            raise
 
     @_naming
     def _write(self, inner: Any, meant: Selection, elements: AnyArray) -> Bytes:
@@ -387,21 +487,22 @@ class Chain:
         at, length = lent(b"" if inner is None else inner)
         arguments = (inner is not None, at, length, *chosen.arguments(), *parts)
         call = partial(library.zarrs_write, self._header, self._length, *arguments)
-        return self._told_value(call, length + 2 * parts[-1] + 64)
+        try:
+            return self._told_value(call, length + 2 * parts[-1] + 64)
+        except Refused as error:
+            self._locate_stored(error, inner)
+            raise
 
     def _planned(self, chosen: Selection) -> npt.NDArray[np.uint64] | None:
-        ranges = np.empty(min(2 * math.prod(chosen.shape), _PLAN_NUMBERS), np.uint64)
-        is_planned, needed = ctypes.c_bool(), ctypes.c_size_t()
+        is_planned = ctypes.c_bool()
         call = partial(
             library.zarrs_planned_ranges, self._header, self._length, *chosen.arguments()
         )
-        told_at = (ctypes.byref(is_planned), ctypes.byref(needed))
-        code = call(start(ranges), ranges.size, *told_at)
-        if code == SHORT:
-            ranges = np.empty(needed.value, np.uint64)
-            code = call(start(ranges), ranges.size, *told_at)
-        checked(code)
-        return ranges[: needed.value].reshape(-1, 2) if is_planned.value else None
+        ranges = _told_ranges(
+            lambda at, count, needed: call(at, count, ctypes.byref(is_planned), needed),
+            min(2 * math.prod(chosen.shape), _PLAN_NUMBERS),
+        )
+        return ranges if is_planned.value else None
 
     @_naming
     def planned_ranges(self, selection: Any) -> npt.NDArray[np.uint64] | None:
@@ -419,38 +520,78 @@ class Chain:
     @_naming
     def read_from(self, file: Any, selection: Any, out: AnyArray | None = None) -> AnyArray:
         """The elements that a selection means of the value that a file has: an open one, its number, or an
-        object with `seek` and `readinto`.
+        object with `seek`, and `readinto` or `read`.
 
         It asks for no byte but those of `planned_ranges`, part by part, so that fewer bytes than the answer
-        has are held beside it, and at most some 3 MiB; where the plan is None, for the whole value. Of a
-        slice with a step it leaves out what is between two places where that's 16 KiB or more. Raises
-        `EOFError` where the file is cut meanwhile.
+        has are held beside it, and at most some 3 MiB. Where the plan is None it goes in rounds, of which
+        each fetches what the one before it lacked: over texts of `zarrs.vlen` first how long the offsets
+        are, then the offsets, then the texts that are selected; over `sharding_indexed` the index, then one
+        inner chunk after the other, and behind eight rounds the rest at once; over other codecs the whole
+        value. Of a slice with a step it leaves out what is between two places where that's 16 KiB or more.
+        Raises `EOFError` where the file is cut meanwhile.
 
         >>> import io
         >>> Chain(["bytes"], (4,), "uint8").read_from(io.BytesIO(b"abcd"), slice(1, 3))
         array([98, 99], dtype=uint8)
         """
-        source = Source(file)
+        return self._read_fetched(Fetched(File(file)), selection, out)
+
+    @_naming
+    def _read_fetched(self, fetched: Fetched, selection: Any, out: AnyArray | None) -> AnyArray:
+        """The same of a value of which something may be there."""
+        source = fetched.source
+        if self._outer:
+            return self.read(source.whole(), selection, out)
+        if not self._is_planned:
+            return self._read_in_rounds(fetched, selection, out)
         chosen = select(selection, self.shape).closed(self.dtype.itemsize, _GAP_BYTES)
-        if self._outer or not self._type.is_plain:
-            return self.read(source.whole(), selection, out)
         if out is not None and chosen.after is None and takes(self._type, out, chosen.shape):
-            if self._read_parts(source, chosen, out.reshape(-1)):
-                return out
-            return self.read(source.whole(), selection, out)
+            self._read_parts(source, chosen, out.reshape(-1))
+            return out
         elements: AnyArray = np.empty(chosen.shape, self.dtype)
-        if not self._read_parts(source, chosen, elements.reshape(-1)):
-            return self.read(source.whole(), selection, out)
+        self._read_parts(source, chosen, elements.reshape(-1))
         return put(elements if chosen.after is None else elements[chosen.after], out)
 
-    def _read_parts(self, source: Source, chosen: Selection, elements: AnyArray) -> bool:
-        """Reads a selection part by part; false where it needs the whole value, and nothing is read then."""
+    def _read_in_rounds(self, fetched: Fetched, selection: Any, out: AnyArray | None) -> AnyArray:
+        """The elements of a selection, by as many rounds as it takes, up to a number."""
+        chosen = select(selection, self.shape).closed()
+        numbers = chosen.arguments()
+        rounds = 0
+        while True:
+            lacking = self._lacking(fetched.arguments(), numbers)
+            if lacking.size:
+                if rounds == _MOST_ROUNDS:
+                    lacking = fetched.missing()
+                fetched.fetch(lacking)
+            call = partial(
+                library.zarrs_read_pieces, self._header, self._length, *fetched.arguments(), *numbers
+            )
+            try:
+                elements = told(self._type, call, chosen.shape, fetched.size + 64)
+            except Storage:
+                if not lacking.size:
+                    raise
+                rounds += 1
+                continue
+            return put(elements if chosen.after is None else elements[chosen.after], out)
+
+    def _lacking(
+        self, given_pieces: tuple[Any, ...], numbers: tuple[Any, ...]
+    ) -> npt.NDArray[np.uint64]:
+        """The ranges that a read of these pieces lacks."""
+        call = partial(
+            library.zarrs_lacking, self._header, self._length, *given_pieces, *numbers
+        )
+        return _told_ranges(call, 64)
+
+    def _read_parts(self, source: Source, chosen: Selection, elements: AnyArray) -> None:
+        """Reads a selection that is planned, part by part; at once where the source has no parts."""
         length, at = source.length(), 0
-        part_bytes = min(max(elements.nbytes // 4, _LEAST_PART_BYTES), _PART_BYTES)
+        part_bytes = elements.nbytes
+        if source.part_bytes is not None:
+            part_bytes = min(max(part_bytes // 4, _LEAST_PART_BYTES), _PART_BYTES)
         for part in chosen.parts(max(part_bytes // self.dtype.itemsize, 1)):
-            ranges = self._planned(part)
-            if ranges is None:
-                return False
+            ranges: Any = self._planned(part)
             # that the others end behind the value, the library says
             ranges = ranges[ranges[:, 1] <= length]
             fetched = source.pieces(ranges)
@@ -461,4 +602,3 @@ class Chain:
             count = math.prod(part.shape)
             told_into(elements[at : at + count], call)
             at += count
-        return True
