@@ -8,6 +8,9 @@ const OF_SHARDED_BYTES: &'static [&'static str] = &[
     "error InvalidByteRange",
 ];
 
+/// Of inner chunks whose bytes are more or fewer than their elements: a read looks at the elements' alone.
+const OF_LENGTH_INSIDE: &'static [&'static str] = &["error InvalidBytesLength"];
+
 /// Of inner chunks and an index that have checksums.
 const OF_CHECKED_SHARDS: &'static [&'static str] = &[
     "error InvalidBytesLength",
@@ -29,7 +32,7 @@ pub(crate) const SHARDS: &'static [Row] = &[
         value: "30000000000000000200000000000000ffffffffffffffffffffffffffffffff3200000000000000020000000000000001020304",
         whole: r#"{"ranges":[[0,6]]}"#,
         refusals: OF_SHARDED_BYTES,
-        of_whole: &[],
+        of_whole: OF_LENGTH_INSIDE,
         places: &[],
         head: 0,
         front: "",
