@@ -550,6 +550,27 @@ static void shard_texts(const char *name, enum call call) {
     measure(plain_shard_texts);
 }
 
+static bool plain_shard_window(void) {
+    return shard_window(job.in.bytes, job.in.len.bytes, job.rows, 256, job.at, job.plain.bytes);
+}
+
+static void shard_read(const char *name, size_t side, struct window at) {
+    char shape[32];
+    snprintf(shape, sizeof shape, "[%zu,%zu]", side, side);
+    if (!begin(name, READ, shape, "\"uint32\"", "00000000",
+               "{\"name\":\"sharding_indexed\",\"configuration\":{\"chunk_shape\":[256,256],\"codecs\":[" TURNED "],"
+               "\"index_codecs\":[" LITTLE "]}}"))
+        return;
+    size_t len = 4 * side * side, value = len + 16 * (side / 256) * (side / 256);
+    const uint8_t *elements = noise(len);
+    job.rows = side;
+    job.in = (struct buffers){NULL, NULL, room(value), {0, 0, value}};
+    shard_turned(elements, side, 256, job.in.bytes);
+    select_window(at);
+    answers(0, 0, 4 * at.height * at.width);
+    measure(plain_shard_window);
+}
+
 static void shards(void) {
     shard("shard encode 1024x1024, inner chunks of 64x64", ENCODE, 0);
     shard("shard decode 1024x1024, inner chunks of 64x64", DECODE, 0);
@@ -557,6 +578,12 @@ static void shards(void) {
     shard("shard decode 1024x1024, half of them left out", DECODE, 2);
     shard_texts("shard encode 200,000 short texts, 2,000 in each", ENCODE);
     shard_texts("shard decode 200,000 short texts, 2,000 in each", DECODE);
+    struct window inside = {264, 269, 64, 64}, over = {224, 224, 64, 64}, wide = {100, 100, 512, 512};
+    shard_read("shard read 64x64 of 1024x1024, of one inner chunk", 1024, inside);
+    shard_read("shard read 64x64 of 4096x4096, of one inner chunk", 4096, inside);
+    shard_read("shard read 64x64 of 1024x1024, of four", 1024, over);
+    shard_read("shard read 64x64 of 4096x4096, of four", 4096, over);
+    shard_read("shard read 512x512 of 4096x4096, of nine", 4096, wide);
 }
 
 /* ---- a square chunk of u32 by transpose and bytes, the highest byte first ("chain"), or by bytes ("bytes") ---- */

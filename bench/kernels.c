@@ -390,14 +390,56 @@ void write_rows(uint8_t *value, size_t columns, struct window at, const uint8_t 
     for (size_t y = 0; y < at.height; y++) memcpy(value + 4 * ((at.y + y) * columns + at.x), new + y * row, row);
 }
 
-void window_turned(const uint8_t *in8, size_t rows, struct window at, uint8_t *out8) {
+/* Into rows that stand so many elements apart. */
+static void turn_window(const uint8_t *in8, size_t rows, struct window at, uint8_t *out8, size_t stride) {
     const uint32_t *in = (const void *)in8;
     uint32_t *out = (void *)out8;
     for (size_t top = 0; top < at.height; top += TILE)
         for (size_t left = 0; left < at.width; left += TILE)
             for (size_t y = top; y < top + TILE && y < at.height; y++)
                 for (size_t x = left; x < left + TILE && x < at.width; x++)
-                    out[y * at.width + x] = __builtin_bswap32(in[(at.x + x) * rows + at.y + y]);
+                    out[y * stride + x] = __builtin_bswap32(in[(at.x + x) * rows + at.y + y]);
+}
+
+void window_turned(const uint8_t *in, size_t rows, struct window at, uint8_t *out) {
+    turn_window(in, rows, at, out, at.width);
+}
+
+void shard_turned(const uint8_t *in, size_t side, size_t part, uint8_t *value) {
+    size_t grid = side / part, len = 4 * part * part;
+    uint64_t *index = (void *)(value + 4 * side * side);
+    for (size_t i = 0; i < grid * grid; i++) {
+        struct window at = {i / grid * part, i % grid * part, part, part};
+        for (size_t x = 0; x < part; x++)
+            for (size_t y = 0; y < part; y++) {
+                uint32_t element;
+                memcpy(&element, in + 4 * ((at.y + y) * side + at.x + x), 4);
+                element = __builtin_bswap32(element);
+                memcpy(value + i * len + 4 * (x * part + y), &element, 4);
+            }
+        index[2 * i] = i * len;
+        index[2 * i + 1] = len;
+    }
+}
+
+bool shard_window(const uint8_t *value, size_t len, size_t side, size_t part, struct window at, uint8_t *out) {
+    size_t grid = side / part, count = grid * grid, bottom = at.y + at.height, right = at.x + at.width;
+    if (len < 16 * count) return false;
+    const uint8_t *index = value + len - 16 * count;
+    for (size_t top = at.y / part * part; top < bottom; top += part)
+        for (size_t left = at.x / part * part; left < right; left += part) {
+            size_t i = top / part * grid + left / part, y = top < at.y ? at.y : top, x = left < at.x ? at.x : left;
+            size_t height = (top + part < bottom ? top + part : bottom) - y;
+            size_t width = (left + part < right ? left + part : right) - x;
+            uint64_t from = number_at(index, 2 * i), size = number_at(index, 2 * i + 1);
+            uint8_t *to = out + 4 * ((y - at.y) * at.width + x - at.x);
+            bool is_missing = from == UINT64_MAX && size == UINT64_MAX;
+            if (!is_missing && (size > len || from > len - size || size != 4 * part * part)) return false;
+            if (is_missing)
+                for (size_t row = 0; row < height; row++) memset(to + 4 * row * at.width, 0, 4 * width);
+            else turn_window(value + from, part, (struct window){y - top, x - left, height, width}, to, at.width);
+        }
+    return true;
 }
 
 void write_turned(uint8_t *value8, size_t rows, struct window at, const uint8_t *new8) {

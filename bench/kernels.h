@@ -58,6 +58,10 @@ void window_rows(const uint8_t *in, size_t columns, struct window at, uint8_t *o
 void write_rows(uint8_t *value, size_t columns, struct window at, const uint8_t *new);
 /* The same of a chunk that is stored by columns, each of so many rows, the highest byte of an element first. */
 void window_turned(const uint8_t *in, size_t rows, struct window at, uint8_t *out);
+/* A shard of such inner squares, all of them there, behind which the index stands; and a window of it, by the index and by
+ * the inner squares that it meets. */
+void shard_turned(const uint8_t *in, size_t side, size_t part, uint8_t *value);
+bool shard_window(const uint8_t *value, size_t len, size_t side, size_t part, struct window at, uint8_t *out);
 void write_turned(uint8_t *value, size_t rows, struct window at, const uint8_t *new);
 void plan_turned(size_t rows, struct window at, uint64_t *ranges);
 
