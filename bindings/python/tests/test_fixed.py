@@ -196,9 +196,9 @@ def test_the_least_and_the_greatest_number(name):
 )
 def test_elements_of_another_kind(name, wrong):
     chain = Chain([LITTLE], (2,), name)
-    with pytest.raises(TypeError):
+    with pytest.raises(TypeError, match=name):
         chain.encode(np.array([wrong, wrong]))
-    with pytest.raises(TypeError):
+    with pytest.raises(TypeError, match=name):
         chain.write(None, 0, wrong)
 
 

@@ -89,6 +89,14 @@ def _cast(kind: DataType, array: AnyArray) -> AnyArray:
     return made
 
 
+def _whole_objects(kind: DataType, array: AnyArray) -> AnyArray:
+    """Python's objects as whole numbers; `TypeError` names the type where one isn't a whole number."""
+    try:
+        return np.asarray(np.frompyfunc(operator.index, 1, 1)(array), object)
+    except TypeError as error:
+        raise TypeError(f"an element isn't of {kind.name}: {error}") from error
+
+
 def _held(kind: DataType, array: AnyArray) -> AnyArray:
     """Elements as the type holds them, where none is absent."""
     if kind.is_variable:
@@ -99,7 +107,7 @@ def _held(kind: DataType, array: AnyArray) -> AnyArray:
         return np.empty(array.shape, kind.dtype)
     if kind.bounds is not None:
         if array.dtype == object:
-            array = np.asarray(np.frompyfunc(operator.index, 1, 1)(array), object)
+            array = _whole_objects(kind, array)
         if array.dtype.kind in "biuO":
             if kind.has_all and np.can_cast(array.dtype, kind.dtype):
                 return array.astype(kind.dtype)
