@@ -15,7 +15,7 @@ use Rattle.zarrs_codec.specs.ByteRanges.{range_indices, SameByte}
 use Rattle.zarrs_codec.specs.ByteSpan.{ByteSpan}
 use Rattle.zarrs_codec.specs.BytesToBytesCodec.{BytesCodecs}
 use Rattle.zarrs_codec.specs.CoordinateMap.{CoordinateMap, IsCoordinateMap, inverse_map, moved_chunk}
-use Rattle.zarrs_codec.specs.StorageState.{are_sure}
+use Rattle.zarrs_codec.specs.StorageState.{are_sure, value_indices}
 use Rattle.zarrs_codec.specs.declared.bytes_representation.BytesRepresentation.{BytesRepresentation}
 use Rattle.zarrs_codec.specs.declared.capabilities.PartialDecoderCapability.{PartialDecoderCapability}
 use Rattle.zarrs_array_regions.specs.PlaceReaders.{ReadsInAnyOrder, brought_back}
@@ -66,7 +66,7 @@ pub record IsBytes {B : Type 0} (m : Meaning B) (p : Part B) (order : Option End
   pub means : m ≡ bytes_meaning order
   pub does : p ≡ bytes_part order
 
--- What is read of places, and what that rests on, keeps what is asked of it. Where it is planned, what places rest on doesn't go by what is stored, values that agree there are read alike, and the ranges have these bytes. What is planned is read in part; a codec reads all in part, or nothing and then by the whole chunk; where it has a plain form, by that. Only `bytes` replaces its places' bytes alone.
+-- What is read of places, and what that rests on, keeps what is asked of it. Where it is planned, what places rest on doesn't go by what is stored, values that agree there are read alike, and the ranges have these bytes. What is planned is read in part; a codec reads all in part, or nothing and then by the whole chunk, of all bytes; where it has a plain form, by that. Only `bytes` replaces its places' bytes alone.
 pub record IsLawfulPart {B : Type 0} (m : Meaning B) (x : Facts) (p : Part B) : Type 1 where
   pub places : (f : BytesCodecs B) → IsLawfulReader f m (p.read f) (p.rests_on f)
   pub rests_alike : (f : BytesCodecs B) (sizes : List ℕ) (type : ElementType) (fill : List ℕ) (stored : Option (List ℕ)) (places : List ℕ) → p.plans ≡ true → p.rests_on f sizes type fill None places ≡ p.rests_on f sizes type fill stored places
@@ -75,6 +75,7 @@ pub record IsLawfulPart {B : Type 0} (m : Meaning B) (x : Facts) (p : Part B) : 
   pub plans_ask : p.plans ≡ true → x.reads.partial_decode ≡ true
   pub reads_all : x.reads ≡ reads_all_if x.reads.partial_decode
   pub wholly : (f : BytesCodecs B) (sizes : List ℕ) (type : ElementType) (fill : List ℕ) (stored : Option (List ℕ)) (places : List ℕ) → x.reads.partial_decode ≡ false → p.read f sizes type fill stored places ≡ whole_read (m.chunk f) sizes type fill stored places
+  pub rests_wholly : (f : BytesCodecs B) (sizes : List ℕ) (type : ElementType) (fill : List ℕ) (stored : Option (List ℕ)) (places : List ℕ) → x.reads.partial_decode ≡ false → p.rests_on f sizes type fill stored places ≡ Ok (value_indices stored)
   pub plainly : (f : BytesCodecs B) (form : PlainForm) (sizes : List ℕ) (type : ElementType) (fill : List ℕ) (stored : Option (List ℕ)) (places : List ℕ) → x.plain ≡ Some form → p.read f sizes type fill stored places ≡ plain_read form (product sizes) type fill stored places
   pub rests_plainly : (f : BytesCodecs B) (form : PlainForm) (sizes : List ℕ) (type : ElementType) (fill : List ℕ) (stored : Option (List ℕ)) (places : List ℕ) → x.plain ≡ Some form → p.rests_on f sizes type fill stored places ≡ Ok (stored_rests_on form (product sizes) stored places)
   pub in_place : (order : Option Endianness) → p.in_place ≡ Some order → IsBytes m p order
@@ -91,6 +92,7 @@ whole_part_laws m = record {
   plans_ask = λ plans. absurd cc;
   reads_all = refl;
   wholly = λ f sizes type fill stored places e. refl;
+  rests_wholly = λ f sizes type fill stored places e. refl;
   plainly = λ f form sizes type fill stored places e. absurd cc;
   rests_plainly = λ f form sizes type fill stored places e. absurd cc;
   in_place = λ order e. absurd cc;
@@ -115,6 +117,7 @@ bytes_part_laws order = record {
   plans_ask = λ plans. refl;
   reads_all = refl;
   wholly = λ f sizes type fill stored places e. absurd cc;
+  rests_wholly = λ f sizes type fill stored places e. absurd cc;
   plainly = λ f form sizes type fill stored places e. absurd cc;
   rests_plainly = λ f form sizes type fill stored places e. absurd cc;
   in_place = λ other e. record { means = ap bytes_meaning (order_is order other e); does = ap bytes_part (order_is order other e) };
@@ -142,6 +145,7 @@ packbits_part_laws settings = record {
   plans_ask = λ plans. refl;
   reads_all = refl;
   wholly = λ f sizes type fill stored places e. absurd cc;
+  rests_wholly = λ f sizes type fill stored places e. absurd cc;
   plainly = λ f form sizes type fill stored places e. absurd cc;
   rests_plainly = λ f form sizes type fill stored places e. absurd cc;
   in_place = λ order e. absurd cc;
@@ -165,6 +169,10 @@ form_wholly : (form : Option PlainForm) (decode : Decoder) (sizes : List ℕ) (t
 form_wholly None decode sizes type fill stored places e = refl
 form_wholly (Some form) decode sizes type fill stored places e = absurd cc
 
+rests_all : (form : Option PlainForm) (count : ℕ) (stored : Option (List ℕ)) (places : List ℕ) → is_some form ≡ false → form_rests_on form count stored places ≡ value_indices stored
+rests_all None count stored places e = refl
+rests_all (Some form) count stored places e = absurd cc
+
 reads_if : (reads : PartialDecoderCapability) (test : Bool) → reads ≡ reads_all_if test → reads.partial_decode ≡ test
 reads_if reads test e = ap (λ (r : PartialDecoderCapability). r.partial_decode) e
 
@@ -178,6 +186,7 @@ vlen_part_laws codec reads = record {
   plans_ask = λ plans. absurd cc;
   reads_all = reads ∙ ap reads_all_if (sym (reads_if (codec_reads codec) (is_plain codec) reads));
   wholly = λ f sizes type fill stored places e. form_wholly (plain_form_of codec) (codec_chunk f codec) sizes type fill stored places (sym (reads_if (codec_reads codec) (is_plain codec) reads) ∙ e);
+  rests_wholly = λ f sizes type fill stored places e. ap ok (rests_all (plain_form_of codec) (product sizes) stored places (sym (reads_if (codec_reads codec) (is_plain codec) reads) ∙ e));
   plainly = λ f form sizes type fill stored places e. by_form (plain_form_of codec) form (codec_chunk f codec) sizes type fill stored places e;
   rests_plainly = λ f form sizes type fill stored places e. ap ok (rests_by_form (plain_form_of codec) form (product sizes) stored places e);
   in_place = λ order e. absurd cc;
@@ -196,6 +205,7 @@ shard_part_laws arrays m p outer index shape at_end laws = record {
   plans_ask = λ plans. absurd cc;
   reads_all = refl;
   wholly = λ f sizes type fill stored places e. absurd cc;
+  rests_wholly = λ f sizes type fill stored places e. absurd cc;
   plainly = λ f form sizes type fill stored places e. absurd cc;
   rests_plainly = λ f form sizes type fill stored places e. absurd cc;
   in_place = λ order e. absurd cc;

@@ -1,5 +1,5 @@
 -- What each array-to-bytes codec does in part, as one record: what a read of places answers and rests on, what is planned, and whether a write replaces its places' bytes alone.
-use Rattle.std.specs.Prelude.{ℕ, Bool, true, false, Option, Some, None, IsOkAnd, List, [], ◌∷◌, Ok}
+use Rattle.std.specs.Prelude.{ℕ, suc, Bool, true, false, Option, Some, None, IsOkAnd, List, [], ◌∷◌, Ok}
 use Rattle.zarrs_bytes.specs.CountLaws.{read_count}
 use Rattle.zarrs_bytes.specs.PartialRead.{place_bytes, place_size, read_places}
 use Rattle.zarrs_bytes.specs.PlannedRanges.{IsPlan as IsElementPlan}
@@ -25,7 +25,7 @@ use Rattle.zarrs_packbits.specs.PartialRead.{bytes_of_places, read_places_of}
 use Rattle.zarrs_packbits.specs.ReadPlan.{IsPackBitsPlan}
 use Rattle.zarrs_plain_vlen.specs.VlenRead.{stored_rests_on}
 
--- The bytes that are there may be none: nothing is stored. A read answers an element for each place. What is asked of a plan, and of what a read rests on, is asked of places of the chunk that the codec gets.
+-- The bytes that are there may be none: nothing is stored. A read answers an element for each place. What is asked of a plan, and of what a read rests on, is asked of places of the chunk that the codec gets. The depth is how many shards stand in one another.
 pub record Part (B : Type 0) : Type 1 where
   pub read : BytesCodecs B → PlaceReader
   pub counted : (f : BytesCodecs B) → AnswersEach (read f)
@@ -33,6 +33,7 @@ pub record Part (B : Type 0) : Type 1 where
   pub plans : Bool
   pub IsPlanned : List ℕ → ElementType → List ℕ → List ℕ → List ByteSpan → Type 0
   pub in_place : Option (Option Endianness)
+  pub depth : ℕ
 
 -- ---- read and written whole
 
@@ -45,6 +46,7 @@ whole_part m = record {
   plans = false;
   IsPlanned = λ sizes type fill places ranges. ⊥;
   in_place = None;
+  depth = 0;
 }
 
 -- ---- bytes, packbits
@@ -58,6 +60,7 @@ bytes_part order = record {
   plans = true;
   IsPlanned = λ sizes type fill places ranges. IsElementPlan (place_size type) places ranges;
   in_place = Some order;
+  depth = 0;
 }
 
 -- The bytes that have bits of the places, whatever is stored; the ranges likewise.
@@ -69,6 +72,7 @@ packbits_part settings = record {
   plans = true;
   IsPlanned = λ sizes type fill places ranges. IsOkAnd (packed_layout settings (form_of sizes type fill)) (λ layout. IsPackBitsPlan layout places ranges);
   in_place = None;
+  depth = 0;
 }
 
 -- ---- vlen
@@ -87,6 +91,7 @@ vlen_part form m = record {
   plans = false;
   IsPlanned = λ sizes type fill places ranges. ⊥;
   in_place = None;
+  depth = 0;
 }
 
 -- ---- shards
@@ -100,6 +105,7 @@ shard_part arrays m p outer index shape at_end = record {
   plans = false;
   IsPlanned = λ sizes type fill places ranges. ⊥;
   in_place = None;
+  depth = suc p.depth;
 }
 
 -- ---- all of them
@@ -128,6 +134,10 @@ codec_plans codec = (part_of codec).plans
 -- the ranges are a plan of a read of these places
 abbrev pub IsCodecPlan : {B : Type 0} → PlainCodec B → List ℕ → ElementType → List ℕ → List ℕ → List ByteSpan → Type 0
 IsCodecPlan codec = (part_of codec).IsPlanned
+
+-- how many shards stand in one another: none, but where the codec is `sharding_indexed`
+abbrev pub shard_depth : {B : Type 0} → PlainCodec B → ℕ
+shard_depth codec = (part_of codec).depth
 
 -- the byte order of `bytes` without bytes-to-bytes codecs: there the bytes of places are those of their elements, and a write over a stored value replaces them alone
 abbrev pub order_in_place : {B : Type 0} → List B → PlainCodec B → Option (Option Endianness)
