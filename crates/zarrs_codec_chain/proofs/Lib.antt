@@ -36,3 +36,4 @@ pub mod SpanChains
 pub mod LeafReads
 pub mod WholeSpans
 pub mod ShardParts
+pub mod GroupedShards

@@ -9,7 +9,7 @@ use Rattle.zarrs_bytes.proofs.Coding.{ok}
 use Rattle.zarrs_chain.specs.ChainView.{plain_chain, plain_codec, plain_sharding}
 use Rattle.zarrs_chain_meaning.proofs.ArraySteps.{ok_is, ok_no_err}
 use Rattle.zarrs_chain_meaning.specs.ChunkForm.{ChunkForm}
-use Rattle.zarrs_chunk.specs.Answer.{AnswersBy, memory, memory_or_fault}
+use Rattle.zarrs_chunk.specs.Answer.{AnswersBy, memory, memory_or_fault, is_fault}
 use Rattle.zarrs_chunk.specs.ChunkShape.{product}
 use Rattle.zarrs_chunk.specs.Indexer.{selection_of}
 use Rattle.zarrs_chunk.specs.Runs.{AreFilled, EndWithin, joined_runs}
@@ -19,28 +19,24 @@ use Rattle.zarrs_codec_chain.proofs.PartialReads.{is_readable}
 use Rattle.zarrs_codec_chain.proofs.PlaceWrites.{memory_too}
 use Rattle.zarrs_codec_chain.proofs.RegionReads.{runs_at, takes_region, takes_type}
 use Rattle.zarrs_codec_chain.proofs.SpanChains.{chain_moved, chain_rests_moved, held_sure, places_stay, selected_go, window_answered, window_refused, window_sure, window_valid}
-use Rattle.zarrs_chain_meaning.proofs.InnerChunks.{is_cut}
 use Rattle.zarrs_chain_meaning.specs.sharding.Sharding.{is_stored, spans_of}
-use Rattle.zarrs_chunk.specs.Answer.{is_fault}
-use Rattle.zarrs_codec.specs.StorageState.{are_sure}
-use Rattle.std.proofs.Common.{IfOk}
 use Rattle.std.specs.Prelude.{IsOkAnd, ◌^◌}
 use Rattle.zarrs_chain_meaning.proofs.OptionalSteps.{counted_small}
 use Rattle.zarrs_chain_meaning.specs.CodecMeaning.{codec_representation}
-use Rattle.zarrs_codec_chain.proofs.GroupWalks.{WalkedTo, count_is, grouped_count, more_valid, next_at, next_is, places_of_groups, span_at, walk_counted, walk_ends, walk_goes_on, walk_refused, walk_valid}
+use Rattle.zarrs_codec_chain.proofs.GroupWalks.{WalkedTo, count_is, more_valid, next_at, next_is, span_at, walk_counted, walk_ends, walk_goes_on, walk_refused, walk_valid}
 use Rattle.zarrs_codec_chain.proofs.GroupedReads.{first_sure}
 use Rattle.zarrs_codec_chain.specs.ShardRead.{groups_read, groups_rest, span_read}
-use Rattle.zarrs_shard_runs.specs.GroupedRuns.{AreGroups, IsReadingOrder, group, order_places}
-use Rattle.zarrs_codec_chain.proofs.ShardParts.{chain_count, grid_known, groups_long, index_measured, inner_taken, is_ok_so}
-use Rattle.zarrs_codec_chain.proofs.ShardSpans.{counted, groups_answered, groups_error, groups_found, groups_sure, inner_runs, index_sure, inside_is, inside_sure, is_shard, shard_takes}
+use Rattle.zarrs_shard_runs.specs.GroupedRuns.{group, order_places}
+use Rattle.zarrs_codec_chain.proofs.ShardParts.{chain_count, grid_known, index_measured, inner_taken, stored_shard}
+use Rattle.zarrs_codec_chain.proofs.ShardSpans.{inside_is, inside_sure, with_index_sure}
 use Rattle.zarrs_codec_chain.proofs.SpanSeen.{stands_value}
 use Rattle.zarrs_codec_chain.specs.ChunkRead.{are_given_sure}
-use Rattle.zarrs_codec_chain.specs.SpanReads.{AnswersRuns, StandsIn, TakesForm, chain_read, chain_rests, stored_groups_read, stored_groups_rest, stored_span_read, stored_span_rests, stored_spans, moved_read, moved_rests, seen_state, stored_index_bytes}
+use Rattle.zarrs_codec_chain.specs.SpanReads.{AnswersRuns, StandsIn, TakesForm, chain_read, chain_rests, stored_groups_read, stored_groups_rest, stored_span_read, stored_span_rests, moved_read, moved_rests, seen_state}
 use Rattle.zarrs_data_type.specs.Element.{Chunk}
 use Rattle.std.proofs.lemmas.Bool.Decides.{nat_tests}
 use Rattle.zarrs_codec_chain.proofs.sharding.+read.Goals as goal
-use Rattle.zarrs_array_bytes.proofs.RunLemmas.{places_below}
 use Rattle.std.proofs.lemmas.List.{nil_from_length}
+use Rattle.zarrs_codec_chain.proofs.GroupedShards.{counted, groups_answered, groups_error, groups_sure, inner_runs, grouped_shard}
 
 some_is : (x y : List ℕ) → Some x ≡ Some y → x ≡ y
 some_is x y e = cc
@@ -279,83 +275,38 @@ pub shard_runs::shard_in_span-shard_form-requires : goal.shard_runs::shard_in_sp
 shard_runs::shard_in_span-shard_form-requires g t c =
     let f = g.B.BytesToBytesCodecTraits.functions in
     let P = c.sharding_parts-at_end.result in
-    let chain = P.codecs.now in
-    let index = P.index_codecs.now in
-    let shape = P.chunk_shape.now in
-    let sizes = c.args.shape.now in
-    let type = c.args.kind.now in
-    let fill = c.args.fill.now in
-    let codec = plain_sharding c.args.codec.now in
-    let is = c.sharding_parts-at_end.ensures.parts in
-    let takes = shard_takes f codec chain index shape P.is_index_at_end sizes type fill is (is_ok_so _ c.requires.taken) in
-    record { taken = takes }
+    let shard = stored_shard f (plain_sharding c.args.codec.now) P.codecs.now P.index_codecs.now P.chunk_shape.now P.is_index_at_end c.args.shape.now c.args.kind.now c.args.fill.now c.args.span.now (g.H.BytesPartialDecoderTraits.state c.args.handle.now) c.sharding_parts-at_end.ensures.parts c.requires.taken c.requires.stands in
+    record { taken = shard.taken }
 
 pub shard_runs::shard_in_span-index_numbers-requires-clause-grid : goal.shard_runs::shard_in_span-index_numbers-requires-clause-grid
 shard_runs::shard_in_span-index_numbers-requires-clause-grid g t c =
     let f = g.B.BytesToBytesCodecTraits.functions in
     let P = c.sharding_parts-at_end.result in
-    let chain = P.codecs.now in
-    let index = P.index_codecs.now in
-    let shape = P.chunk_shape.now in
-    let sizes = c.args.shape.now in
-    let type = c.args.kind.now in
-    let fill = c.args.fill.now in
-    let codec = plain_sharding c.args.codec.now in
-    let is = c.sharding_parts-at_end.ensures.parts in
-    let takes = shard_takes f codec chain index shape P.is_index_at_end sizes type fill is (is_ok_so _ c.requires.taken) in
-    grid_known f chain index shape sizes type fill takes
+    let shard = stored_shard f (plain_sharding c.args.codec.now) P.codecs.now P.index_codecs.now P.chunk_shape.now P.is_index_at_end c.args.shape.now c.args.kind.now c.args.fill.now c.args.span.now (g.H.BytesPartialDecoderTraits.state c.args.handle.now) c.sharding_parts-at_end.ensures.parts c.requires.taken c.requires.stands in
+    grid_known shard
 
 pub shard_runs::shard_in_span-index_numbers-requires-clause-measured : goal.shard_runs::shard_in_span-index_numbers-requires-clause-measured
 shard_runs::shard_in_span-index_numbers-requires-clause-measured g t c =
     let f = g.B.BytesToBytesCodecTraits.functions in
     let P = c.sharding_parts-at_end.result in
-    let chain = P.codecs.now in
-    let index = P.index_codecs.now in
-    let shape = P.chunk_shape.now in
-    let sizes = c.args.shape.now in
-    let type = c.args.kind.now in
-    let fill = c.args.fill.now in
-    let codec = plain_sharding c.args.codec.now in
-    let is = c.sharding_parts-at_end.ensures.parts in
-    let takes = shard_takes f codec chain index shape P.is_index_at_end sizes type fill is (is_ok_so _ c.requires.taken) in
-    index_measured f chain index shape sizes type fill takes
+    let shard = stored_shard f (plain_sharding c.args.codec.now) P.codecs.now P.index_codecs.now P.chunk_shape.now P.is_index_at_end c.args.shape.now c.args.kind.now c.args.fill.now c.args.span.now (g.H.BytesPartialDecoderTraits.state c.args.handle.now) c.sharding_parts-at_end.ensures.parts c.requires.taken c.requires.stands in
+    index_measured shard
 
 pub shard_runs::shard_in_span-returns-in_err-found-clause-sure : goal.shard_runs::shard_in_span-returns-in_err-found-clause-sure
 shard_runs::shard_in_span-returns-in_err-found-clause-sure g t c =
     let f = g.B.BytesToBytesCodecTraits.functions in
     let P = c.sharding_parts-at_end.result in
-    let chain = P.codecs.now in
-    let index = P.index_codecs.now in
-    let shape = P.chunk_shape.now in
-    let sizes = c.args.shape.now in
-    let type = c.args.kind.now in
-    let fill = c.args.fill.now in
-    let codec = plain_sharding c.args.codec.now in
-    let is = c.sharding_parts-at_end.ensures.parts in
-    let takes = shard_takes f codec chain index shape P.is_index_at_end sizes type fill is (is_ok_so _ c.requires.taken) in
-    let state = seen_state c.args.span.now (g.H.BytesPartialDecoderTraits.state c.args.handle.now) in
-    let there = stands_value c.args.span.now (g.H.BytesPartialDecoderTraits.state c.args.handle.now) c.requires.stands in
-    let known = is_shard f chain index shape sizes type fill takes in
-    let places = joined_runs c.args.runs.now in
+    let shard = stored_shard f (plain_sharding c.args.codec.now) P.codecs.now P.index_codecs.now P.chunk_shape.now P.is_index_at_end c.args.shape.now c.args.kind.now c.args.fill.now c.args.span.now (g.H.BytesPartialDecoderTraits.state c.args.handle.now) c.sharding_parts-at_end.ensures.parts c.requires.taken c.requires.stands in
     let p = err_from_is_err_and c.from_residual.result c.from_residual.ensures.1 in
-    λ s. rw (p.1, p.2) (subst (λ (r : Result ℕ CodecError). IfOk r (λ size. are_sure state.sure (stored_index_bytes P.is_index_at_end size state.value) ≡ true → is_fault {T = Unit {0}} (Err c.in_err-found.field-0.0) ≡ false)) known.sized c.in_err-found.ensures.sure
-    (index_sure f codec chain index shape P.is_index_at_end sizes type fill is state there.value there.is places known.size known.sized s))
+    λ s. rw (p.1, p.2) (with_index_sure shard (joined_runs c.args.runs.now) s (is_fault {T = Unit {0}} (Err c.in_err-found.field-0.0) ≡ false) c.in_err-found.ensures.sure)
 
 pub shard_runs::shard_in_span-returns-in_err-encoded-clause-answer : goal.shard_runs::shard_in_span-returns-in_err-encoded-clause-answer
 shard_runs::shard_in_span-returns-in_err-encoded-clause-answer g t c =
     let f = g.B.BytesToBytesCodecTraits.functions in
     let P = c.sharding_parts-at_end.result in
-    let chain = P.codecs.now in
-    let index = P.index_codecs.now in
-    let shape = P.chunk_shape.now in
-    let sizes = c.args.shape.now in
-    let type = c.args.kind.now in
-    let fill = c.args.fill.now in
-    let codec = plain_sharding c.args.codec.now in
-    let is = c.sharding_parts-at_end.ensures.parts in
-    let takes = shard_takes f codec chain index shape P.is_index_at_end sizes type fill is (is_ok_so _ c.requires.taken) in
+    let shard = stored_shard f (plain_sharding c.args.codec.now) P.codecs.now P.index_codecs.now P.chunk_shape.now P.is_index_at_end c.args.shape.now c.args.kind.now c.args.fill.now c.args.span.now (g.H.BytesPartialDecoderTraits.state c.args.handle.now) c.sharding_parts-at_end.ensures.parts c.requires.taken c.requires.stands in
     let p = err_from_is_err_and c.from_residual-in_err-encoded.result c.from_residual-in_err-encoded.ensures.1 in
-    rw (p.1, p.2) (λ unexcused. absurd (inner_taken f chain index shape sizes type fill c.in_err-encoded.field-0.0 takes (c.in_err-encoded.ensures.answer.is (memory_too c.in_err-encoded.field-0.0 unexcused))))
+    rw (p.1, p.2) (λ unexcused. absurd (inner_taken shard c.in_err-encoded.field-0.0 (c.in_err-encoded.ensures.answer.is (memory_too c.in_err-encoded.field-0.0 unexcused))))
 
 pub inner_reads::chain_in_span-moved_in_span-requires-2 : goal.inner_reads::chain_in_span-moved_in_span-requires-2
 inner_reads::chain_in_span-moved_in_span-requires-2 g t c κs within =
@@ -643,133 +594,41 @@ pub shard_runs::shard_in_span-read_groups-requires : goal.shard_runs::shard_in_s
 shard_runs::shard_in_span-read_groups-requires g t c κs within =
     let f = g.B.BytesToBytesCodecTraits.functions in
     let P = c.sharding_parts-at_end.result in
-    let chain = P.codecs.now in
-    let index = P.index_codecs.now in
-    let shape = P.chunk_shape.now in
-    let sizes = c.args.shape.now in
-    let type = c.args.kind.now in
-    let fill = c.args.fill.now in
-    let codec = plain_sharding c.args.codec.now in
-    let is = c.sharding_parts-at_end.ensures.parts in
-    let takes = shard_takes f codec chain index shape P.is_index_at_end sizes type fill is (is_ok_so _ c.requires.taken) in
-    let state = seen_state c.args.span.now (g.H.BytesPartialDecoderTraits.state c.args.handle.now) in
-    let there = stands_value c.args.span.now (g.H.BytesPartialDecoderTraits.state c.args.handle.now) c.requires.stands in
-    let known = is_shard f chain index shape sizes type fill takes in
-    let places = joined_runs c.args.runs.now in
-    let numbers = c.as_slice-numbers.result.now in
-    let spans = spans_of numbers in
-    let groups = c.as_slice-groups.result.now in
-    let at : stored_spans f (plain_chain index) shape P.is_index_at_end sizes state.value ≡ Ok spans = (c.in_ok-found.ensures {u = tt}).answer ∙ ap (λ (ns : List ℕ). ok (spans_of ns)) (sym c.as_slice-numbers.ensures.value) in
-    let cut = is_cut shape sizes (subst (All (λ size. 0 < size)) c.as_slice.ensures.value c.as_slice.ensures.positive) c.shard_form.ensures.form.divided in
-    let below = places_below (product sizes) c.args.runs.now c.requires.below in
-    let are : AreGroups shape sizes places groups = subst (AreGroups shape sizes places) (sym c.as_slice-groups.ensures.value) ((c.in_ok-grouped.ensures {u = tt}).groups) in
-    let order = order_places (length places) c.in_ok-grouped.grouped.order in
-    let o = (c.in_ok-grouped.ensures {u = tt}).order in
+    let shard = stored_shard f (plain_sharding c.args.codec.now) P.codecs.now P.index_codecs.now P.chunk_shape.now P.is_index_at_end c.args.shape.now c.args.kind.now c.args.fill.now c.args.span.now (g.H.BytesPartialDecoderTraits.state c.args.handle.now) c.sharding_parts-at_end.ensures.parts c.requires.taken c.requires.stands in
+    let it = grouped_shard shard c.args.runs.now _ _ _ _ _ c.as_slice.ensures.value c.as_slice.ensures.positive c.shard_form.ensures.form.divided c.requires.below c.as_slice-numbers.ensures.value ((c.in_ok-found.ensures {u = tt}).answer) c.as_slice-groups.ensures.value ((c.in_ok-grouped.ensures {u = tt}).groups) in
     let form = c.shard_form.ensures.form in
-    let taken : TakesForm f chain shape type fill c.in_ok-encoded.encoded c.in_ok-encoded.representation = (c.in_ok-encoded.ensures {u = tt}).answer.is in
-    let small : product shape < 2 ^ 64 = counted_small (product shape) form.inner_counted in
+    let taken : TakesForm f P.codecs.now P.chunk_shape.now c.args.kind.now c.args.fill.now c.in_ok-encoded.encoded c.in_ok-encoded.representation = (c.in_ok-encoded.ensures {u = tt}).answer.is in
+    let small = counted_small (product P.chunk_shape.now) form.inner_counted in
     let stands = subst (λ s. StandsIn c.args.span.now s) (sym ((c.in_ok-found.ensures {u = tt}).left)) c.requires.stands in
-    let runs = inner_runs f codec chain index shape P.is_index_at_end sizes type fill is state there.value there.is places spans at known.size known.sized cut below groups are c.requires.count in
-    let count = counted f codec chain index shape P.is_index_at_end sizes type fill is state there.value there.is places spans at known.size known.sized cut below in
-    let long : length numbers ≡ length spans * 2 = ap length c.as_slice-numbers.ensures.value ∙ (c.in_ok-found.ensures {u = tt}).len ∙ ap (λ n. n * 2) (sym count) in
+    let runs = inner_runs it c.requires.count in
+    let long = ap length c.as_slice-numbers.ensures.value ∙ (c.in_ok-found.ensures {u = tt}).len ∙ ap (λ n. n * 2) (sym (counted it)) in
     search (rules, taken, small, form.filling, stands, runs, long)
 
 pub shard_runs::shard_in_span-returns-in_err-joined-clause-answer : goal.shard_runs::shard_in_span-returns-in_err-joined-clause-answer
 shard_runs::shard_in_span-returns-in_err-joined-clause-answer g t c =
     let f = g.B.BytesToBytesCodecTraits.functions in
     let P = c.sharding_parts-at_end.result in
-    let chain = P.codecs.now in
-    let index = P.index_codecs.now in
-    let shape = P.chunk_shape.now in
-    let sizes = c.args.shape.now in
-    let type = c.args.kind.now in
-    let fill = c.args.fill.now in
-    let codec = plain_sharding c.args.codec.now in
-    let is = c.sharding_parts-at_end.ensures.parts in
-    let takes = shard_takes f codec chain index shape P.is_index_at_end sizes type fill is (is_ok_so _ c.requires.taken) in
-    let state = seen_state c.args.span.now (g.H.BytesPartialDecoderTraits.state c.args.handle.now) in
-    let there = stands_value c.args.span.now (g.H.BytesPartialDecoderTraits.state c.args.handle.now) c.requires.stands in
-    let known = is_shard f chain index shape sizes type fill takes in
-    let places = joined_runs c.args.runs.now in
-    let numbers = c.as_slice-numbers.result.now in
-    let spans = spans_of numbers in
-    let groups = c.as_slice-groups.result.now in
-    let at : stored_spans f (plain_chain index) shape P.is_index_at_end sizes state.value ≡ Ok spans = (c.in_ok-found.ensures {u = tt}).answer ∙ ap (λ (ns : List ℕ). ok (spans_of ns)) (sym c.as_slice-numbers.ensures.value) in
-    let cut = is_cut shape sizes (subst (All (λ size. 0 < size)) c.as_slice.ensures.value c.as_slice.ensures.positive) c.shard_form.ensures.form.divided in
-    let below = places_below (product sizes) c.args.runs.now c.requires.below in
-    let are : AreGroups shape sizes places groups = subst (AreGroups shape sizes places) (sym c.as_slice-groups.ensures.value) ((c.in_ok-grouped.ensures {u = tt}).groups) in
-    let order = order_places (length places) c.in_ok-grouped.grouped.order in
-    let o = (c.in_ok-grouped.ensures {u = tt}).order in
+    let shard = stored_shard f (plain_sharding c.args.codec.now) P.codecs.now P.index_codecs.now P.chunk_shape.now P.is_index_at_end c.args.shape.now c.args.kind.now c.args.fill.now c.args.span.now (g.H.BytesPartialDecoderTraits.state c.args.handle.now) c.sharding_parts-at_end.ensures.parts c.requires.taken c.requires.stands in
+    let it = grouped_shard shard c.args.runs.now _ _ _ _ _ c.as_slice.ensures.value c.as_slice.ensures.positive c.shard_form.ensures.form.divided c.requires.below c.as_slice-numbers.ensures.value ((c.in_ok-found.ensures {u = tt}).answer) c.as_slice-groups.ensures.value ((c.in_ok-grouped.ensures {u = tt}).groups) in
     let p = err_from_is_err_and c.from_residual-in_err-joined.result c.from_residual-in_err-joined.ensures.1 in
-    let same : seen_state c.args.span.now (g.H.BytesPartialDecoderTraits.state c.index_numbers.new.handle) ≡ state = ap (seen_state c.args.span.now) ((c.in_ok-found.ensures {u = tt}).left) in
-    rw (p.1, p.2) (λ unexcused. groups_error f codec chain index shape P.is_index_at_end sizes type fill is state there.value there.is places spans at known.size known.sized cut below groups are order o c.in_err-joined.field-0.0
-    (ap (λ s. stored_groups_read (chain_read f (plain_chain chain)) shape type fill s.value spans (map group groups)) (sym same) ∙ c.in_err-joined.ensures.answer unexcused))
+    let same = ap (seen_state c.args.span.now) ((c.in_ok-found.ensures {u = tt}).left) in
+    rw (p.1, p.2) (λ unexcused. groups_error it _ same (order_places (length (joined_runs c.args.runs.now)) c.in_ok-grouped.grouped.order) ((c.in_ok-grouped.ensures {u = tt}).order) c.in_err-joined.field-0.0 (c.in_err-joined.ensures.answer unexcused))
 
 pub shard_runs::shard_in_span-returns-in_err-joined-clause-sure : goal.shard_runs::shard_in_span-returns-in_err-joined-clause-sure
 shard_runs::shard_in_span-returns-in_err-joined-clause-sure g t c =
     let f = g.B.BytesToBytesCodecTraits.functions in
     let P = c.sharding_parts-at_end.result in
-    let chain = P.codecs.now in
-    let index = P.index_codecs.now in
-    let shape = P.chunk_shape.now in
-    let sizes = c.args.shape.now in
-    let type = c.args.kind.now in
-    let fill = c.args.fill.now in
-    let codec = plain_sharding c.args.codec.now in
-    let is = c.sharding_parts-at_end.ensures.parts in
-    let takes = shard_takes f codec chain index shape P.is_index_at_end sizes type fill is (is_ok_so _ c.requires.taken) in
-    let state = seen_state c.args.span.now (g.H.BytesPartialDecoderTraits.state c.args.handle.now) in
-    let there = stands_value c.args.span.now (g.H.BytesPartialDecoderTraits.state c.args.handle.now) c.requires.stands in
-    let known = is_shard f chain index shape sizes type fill takes in
-    let places = joined_runs c.args.runs.now in
-    let numbers = c.as_slice-numbers.result.now in
-    let spans = spans_of numbers in
-    let groups = c.as_slice-groups.result.now in
-    let at : stored_spans f (plain_chain index) shape P.is_index_at_end sizes state.value ≡ Ok spans = (c.in_ok-found.ensures {u = tt}).answer ∙ ap (λ (ns : List ℕ). ok (spans_of ns)) (sym c.as_slice-numbers.ensures.value) in
-    let cut = is_cut shape sizes (subst (All (λ size. 0 < size)) c.as_slice.ensures.value c.as_slice.ensures.positive) c.shard_form.ensures.form.divided in
-    let below = places_below (product sizes) c.args.runs.now c.requires.below in
-    let are : AreGroups shape sizes places groups = subst (AreGroups shape sizes places) (sym c.as_slice-groups.ensures.value) ((c.in_ok-grouped.ensures {u = tt}).groups) in
-    let order = order_places (length places) c.in_ok-grouped.grouped.order in
-    let o = (c.in_ok-grouped.ensures {u = tt}).order in
+    let shard = stored_shard f (plain_sharding c.args.codec.now) P.codecs.now P.index_codecs.now P.chunk_shape.now P.is_index_at_end c.args.shape.now c.args.kind.now c.args.fill.now c.args.span.now (g.H.BytesPartialDecoderTraits.state c.args.handle.now) c.sharding_parts-at_end.ensures.parts c.requires.taken c.requires.stands in
+    let it = grouped_shard shard c.args.runs.now _ _ _ _ _ c.as_slice.ensures.value c.as_slice.ensures.positive c.shard_form.ensures.form.divided c.requires.below c.as_slice-numbers.ensures.value ((c.in_ok-found.ensures {u = tt}).answer) c.as_slice-groups.ensures.value ((c.in_ok-grouped.ensures {u = tt}).groups) in
     let p = err_from_is_err_and c.from_residual-in_err-joined.result c.from_residual-in_err-joined.ensures.1 in
-    let same : seen_state c.args.span.now (g.H.BytesPartialDecoderTraits.state c.index_numbers.new.handle) ≡ state = ap (seen_state c.args.span.now) ((c.in_ok-found.ensures {u = tt}).left) in
-    λ s. rw (p.1, p.2) (c.in_err-joined.ensures.sure
-    (ap (λ st. are_given_sure st.sure (stored_groups_rest (chain_rests f (plain_chain chain)) shape type fill st.value spans (map group groups))) same
-    ∙ groups_sure f codec chain index shape P.is_index_at_end sizes type fill is state there.value there.is places spans at known.size known.sized cut below groups are s))
+    let same = ap (seen_state c.args.span.now) ((c.in_ok-found.ensures {u = tt}).left) in
+    λ s. rw (p.1, p.2) (c.in_err-joined.ensures.sure (groups_sure it _ same s))
 
 pub shard_runs::shard_in_span-returns-clause-answer : goal.shard_runs::shard_in_span-returns-clause-answer
 shard_runs::shard_in_span-returns-clause-answer g t c =
     let f = g.B.BytesToBytesCodecTraits.functions in
     let P = c.sharding_parts-at_end.result in
-    let chain = P.codecs.now in
-    let index = P.index_codecs.now in
-    let shape = P.chunk_shape.now in
-    let sizes = c.args.shape.now in
-    let type = c.args.kind.now in
-    let fill = c.args.fill.now in
-    let codec = plain_sharding c.args.codec.now in
-    let is = c.sharding_parts-at_end.ensures.parts in
-    let takes = shard_takes f codec chain index shape P.is_index_at_end sizes type fill is (is_ok_so _ c.requires.taken) in
-    let state = seen_state c.args.span.now (g.H.BytesPartialDecoderTraits.state c.args.handle.now) in
-    let there = stands_value c.args.span.now (g.H.BytesPartialDecoderTraits.state c.args.handle.now) c.requires.stands in
-    let known = is_shard f chain index shape sizes type fill takes in
-    let places = joined_runs c.args.runs.now in
-    let numbers = c.as_slice-numbers.result.now in
-    let spans = spans_of numbers in
-    let groups = c.as_slice-groups.result.now in
-    let at : stored_spans f (plain_chain index) shape P.is_index_at_end sizes state.value ≡ Ok spans = (c.in_ok-found.ensures {u = tt}).answer ∙ ap (λ (ns : List ℕ). ok (spans_of ns)) (sym c.as_slice-numbers.ensures.value) in
-    let cut = is_cut shape sizes (subst (All (λ size. 0 < size)) c.as_slice.ensures.value c.as_slice.ensures.positive) c.shard_form.ensures.form.divided in
-    let below = places_below (product sizes) c.args.runs.now c.requires.below in
-    let are : AreGroups shape sizes places groups = subst (AreGroups shape sizes places) (sym c.as_slice-groups.ensures.value) ((c.in_ok-grouped.ensures {u = tt}).groups) in
-    let order = order_places (length places) c.in_ok-grouped.grouped.order in
-    let o = (c.in_ok-grouped.ensures {u = tt}).order in
-    let same : seen_state c.args.span.now (g.H.BytesPartialDecoderTraits.state c.index_numbers.new.handle) ≡ state = ap (seen_state c.args.span.now) ((c.in_ok-found.ensures {u = tt}).left) in
-    let read = chain_read f (plain_chain chain) in
-    let held = subst (λ s. IsOkAnd (stored_groups_read read shape type fill s.value spans (map group groups)) (Holds type c.in_ok-joined.joined)) same ((c.in_ok-joined.ensures {u = tt}).answer) in
-    let whole = groups_found f codec chain index shape P.is_index_at_end sizes type fill is state there.value there.is places spans at known.size known.sized cut below groups are c.in_ok-joined.joined held in
-    let count = c.count_places-count.result in
-    let count_so : count ≡ length places = count_is (length places) count c.count_places-count.ensures.count c.requires.count in
-    let long : length whole.0 ≡ count = groups_long read (chain_count f (plain_chain chain)) shape type fill there.value spans (map group groups) whole.0 (ap (λ v. stored_groups_read read shape type fill v spans (map group groups)) (sym there.is) ∙ whole.1)
-    ∙ ap (λ gs. length (places_of_groups gs)) are.groups ∙ grouped_count shape sizes places cut below ∙ sym count_so in
-    groups_answered f codec chain index shape P.is_index_at_end sizes type fill is state there.value there.is places spans at known.size known.sized cut below groups are (order_places count c.in_ok-grouped.grouped.order) (subst (λ n. IsReadingOrder shape sizes places (order_places n c.in_ok-grouped.grouped.order)) (sym count_so) o) whole.0 whole.1 c.in_order.result
-    (c.in_order.ensures.answer whole.0 whole.2 long)
+    let shard = stored_shard f (plain_sharding c.args.codec.now) P.codecs.now P.index_codecs.now P.chunk_shape.now P.is_index_at_end c.args.shape.now c.args.kind.now c.args.fill.now c.args.span.now (g.H.BytesPartialDecoderTraits.state c.args.handle.now) c.sharding_parts-at_end.ensures.parts c.requires.taken c.requires.stands in
+    let it = grouped_shard shard c.args.runs.now _ _ _ _ _ c.as_slice.ensures.value c.as_slice.ensures.positive c.shard_form.ensures.form.divided c.requires.below c.as_slice-numbers.ensures.value ((c.in_ok-found.ensures {u = tt}).answer) c.as_slice-groups.ensures.value ((c.in_ok-grouped.ensures {u = tt}).groups) in
+    let same = ap (seen_state c.args.span.now) ((c.in_ok-found.ensures {u = tt}).left) in
+    groups_answered it _ same c.in_ok-joined.joined ((c.in_ok-joined.ensures {u = tt}).answer) c.in_ok-grouped.grouped.order ((c.in_ok-grouped.ensures {u = tt}).order) c.count_places-count.result c.count_places-count.ensures.count c.requires.count c.in_order.result c.in_order.ensures.answer
