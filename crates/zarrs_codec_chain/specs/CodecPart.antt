@@ -12,8 +12,7 @@ use Rattle.zarrs_chunk.specs.ChunkShape.{product}
 use Rattle.zarrs_array_to_array.specs.ArrayToArrayCodec.{ArrayMapping}
 use Rattle.zarrs_codec.specs.BytesToBytesCodec.{BytesCodecs}
 use Rattle.zarrs_codec.specs.ByteSpan.{ByteSpan}
-use Rattle.zarrs_codec.specs.StorageState.{value_indices}
-use Rattle.zarrs_codec_chain.specs.PartRead.{PlaceReader, whole_read, read_by_form, AnswersEach, whole_count, form_count}
+use Rattle.zarrs_codec_chain.specs.PartRead.{PlaceReader, whole_read, AnswersEach, whole_count, plain_count}
 use Rattle.zarrs_codec_chain.specs.PlaceLaws.{Resting, read_through, rests_through, whole_rests}
 use Rattle.zarrs_codec_chain.specs.ShardRead.{shard_count, shard_read, shard_rests}
 use Rattle.zarrs_data_type.specs.ElementType.{ElementType}
@@ -23,6 +22,7 @@ use Rattle.zarrs_packbits.specs.CountLaws.{read_count_of}
 use Rattle.zarrs_packbits.specs.PackBitsSettings.{packed_layout, PackBitsSettings}
 use Rattle.zarrs_packbits.specs.PartialRead.{bytes_of_places, read_places_of}
 use Rattle.zarrs_packbits.specs.ReadPlan.{IsPackBitsPlan}
+use Rattle.zarrs_plain_vlen.specs.PlainRead.{plain_read}
 use Rattle.zarrs_plain_vlen.specs.VlenRead.{stored_rests_on}
 
 -- The bytes that are there may be none: nothing is stored. A read answers an element for each place. What is asked of a plan, and of what a read rests on, is asked of places of the chunk that the codec gets. The depth is how many shards stand in one another.
@@ -77,21 +77,13 @@ packbits_part settings = record {
 
 -- ---- vlen
 
--- the numbers of the bytes of what is stored that the elements at these places rest on, of a `vlen` by its plain form: the offsets' and the elements'; all where it has no such form
-abbrev pub form_rests_on : Option PlainForm → ℕ → Option (List ℕ) → List ℕ → List ℕ
-form_rests_on None count stored places = value_indices stored
-form_rests_on (Some form) count stored places = stored_rests_on form count stored places
-
--- of a `vlen` with a plain form the offsets and the elements' bytes; which ones, the offsets say, so nothing is planned
+-- of a `vlen` with a plain form the offsets and the elements' bytes; which ones, the offsets say, so nothing is planned; any other is read and written whole
 abbrev pub vlen_part : {B : Type 0} → Option PlainForm → Meaning B → Part B
-vlen_part form m = record {
-  read = λ f. read_by_form form (m.chunk f);
-  counted = λ f. form_count form (m.chunk f);
-  rests_on = λ f sizes type fill stored places. Ok (form_rests_on form (product sizes) stored places);
-  plans = false;
-  IsPlanned = λ sizes type fill places ranges. ⊥;
-  in_place = None;
-  depth = 0;
+vlen_part None m = whole_part m
+vlen_part (Some form) m = record (whole_part m) {
+  read = λ f sizes. plain_read form (product sizes);
+  counted = λ f sizes. plain_count form (product sizes);
+  rests_on = λ f sizes type fill stored places. Ok (stored_rests_on form (product sizes) stored places);
 }
 
 -- ---- shards
