@@ -1,5 +1,4 @@
-use Rattle.std.proofs.Common.{rules, arith, ◌*◌, get_or, drop, Vec, Global, ◌≡◌, ◌<◌, ◌+◌, ℕ, Some, Result, Ok, Err, List, [], true, false, map, length, ap, sym, subst, ◌∙◌}
-use Rattle.std.specs.List.{All}
+use Rattle.std.proofs.Common.{rules, arith, ◌*◌, get_or, drop, ◌≡◌, ◌<◌, ◌+◌, ℕ, Some, Result, Ok, Err, List, [], true, false, map, length, ap, sym, subst, ◌∙◌}
 use Rattle.std.proofs.lemmas.Result.{err_from_is_err_and}
 use Rattle.zarrs_array_bytes.specs.Held.{Held}
 use Rattle.zarrs_array_bytes.specs.Validity.{Holds}
@@ -14,11 +13,9 @@ use Rattle.zarrs_chunk.specs.ChunkShape.{product}
 use Rattle.zarrs_chunk.specs.Indexer.{selection_of}
 use Rattle.zarrs_chunk.specs.Runs.{AreFilled, EndWithin, joined_runs}
 use Rattle.zarrs_chunk.specs.declared.codec_error.CodecError.{CodecError}
-use Rattle.zarrs_codec_chain.proofs.PartialCalls.{runs_answer}
-use Rattle.zarrs_codec_chain.proofs.PartialReads.{is_readable}
 use Rattle.zarrs_codec_chain.proofs.PlaceWrites.{memory_too}
-use Rattle.zarrs_codec_chain.proofs.RegionReads.{runs_at, takes_region, takes_type}
-use Rattle.zarrs_codec_chain.proofs.SpanChains.{chain_moved, chain_rests_moved, held_sure, places_stay, selected_go, window_answered, window_refused, window_sure, window_valid}
+use Rattle.zarrs_codec_chain.proofs.RegionReads.{runs_at}
+use Rattle.zarrs_codec_chain.proofs.SpanChains.{held_sure, window_answered, window_refused, window_sure, window_valid, stored_chunk, readable, places_gone, read_moved, sure_moved, read_alone, window_taken, window_type_taken}
 use Rattle.zarrs_chain_meaning.specs.sharding.Sharding.{is_stored, spans_of}
 use Rattle.std.specs.Prelude.{IsOkAnd, ◌^◌}
 use Rattle.zarrs_chain_meaning.proofs.OptionalSteps.{counted_small}
@@ -31,7 +28,7 @@ use Rattle.zarrs_codec_chain.proofs.ShardParts.{chain_count, grid_known, index_m
 use Rattle.zarrs_codec_chain.proofs.ShardSpans.{inside_is, inside_sure, with_index_sure}
 use Rattle.zarrs_codec_chain.proofs.SpanSeen.{stands_value}
 use Rattle.zarrs_codec_chain.specs.ChunkRead.{are_given_sure}
-use Rattle.zarrs_codec_chain.specs.SpanReads.{AnswersRuns, StandsIn, TakesForm, chain_read, chain_rests, stored_groups_read, stored_groups_rest, stored_span_read, stored_span_rests, moved_read, moved_rests, seen_state}
+use Rattle.zarrs_codec_chain.specs.SpanReads.{AnswersRuns, StandsIn, TakesForm, chain_read, chain_rests, stored_groups_read, stored_groups_rest, stored_span_read, stored_span_rests, seen_state}
 use Rattle.zarrs_data_type.specs.Element.{Chunk}
 use Rattle.std.proofs.lemmas.Bool.Decides.{nat_tests}
 use Rattle.zarrs_codec_chain.proofs.sharding.+read.Goals as goal
@@ -43,221 +40,86 @@ some_is x y e = cc
 
 pub inner_reads::chain_in_span-returns-then-is_empty-clause-answer : goal.inner_reads::chain_in_span-returns-then-is_empty-clause-answer
 inner_reads::chain_in_span-returns-then-is_empty-clause-answer g t c =
-    let f = g.B.BytesToBytesCodecTraits.functions in
-    let chain = plain_chain c.args.chain.now in
-    let sizes = c.args.shape.now in
-    let type = c.args.kind.now in
-    let fill = c.args.fill.now in
-    let encoded = c.args.encoded.now in
-    let r = c.args.measured.now in
-    let state = seen_state c.args.span.now (g.H.BytesPartialDecoderTraits.state c.args.handle.now) in
-    let are = c.chain_is_sound.ensures.mappings.mappings in
-    let positive = subst (All (λ size. 0 < size)) c.as_slice.ensures.value c.as_slice.ensures.positive in
-    let h = is_readable f chain sizes type fill encoded r are positive c.requires.takes in
-    let there = stands_value c.args.span.now (g.H.BytesPartialDecoderTraits.state c.args.handle.now) c.requires.stands in
-    let places = joined_runs c.args.runs.now in
+    let form : ChunkForm _ = record { chain = plain_chain c.args.chain.now; sizes = c.args.shape.now; type = c.args.kind.now; fill = c.args.fill.now } in
+    let it = stored_chunk g.B.BytesToBytesCodecTraits.functions form c.args.encoded.now c.args.measured.now c.args.span.now (g.H.BytesPartialDecoderTraits.state c.args.handle.now) _ c.chain_is_sound.ensures.mappings.mappings c.as_slice.ensures.value c.as_slice.ensures.positive c.requires.takes c.requires.stands in
     let empty : length c.array_to_array_codecs-codecs.result.now ≡ 0 = grind (arith, nat_tests) in
     let none = nil_from_length c.array_to_array_codecs-codecs.result.now empty in
-    let arrays : chain.array_to_array ≡ [] = sym c.array_to_array_codecs-codecs.ensures.value ∙ ap (λ codecs. map mapping_of codecs) none in
-    subst (λ (x : Result Chunk CodecError). AnswersRuns type x c.moved_in_span.result)
-    (sym (chain_moved f chain sizes type fill encoded r h state.value there.value there.is places ∙ ap (moved_read f chain encoded type fill r state.value) (places_stay f chain sizes type fill encoded r h arrays places)))
+    let arrays : form.chain.array_to_array ≡ [] = sym c.array_to_array_codecs-codecs.ensures.value ∙ ap (λ codecs. map mapping_of codecs) none in
+    subst (λ (x : Result Chunk CodecError). AnswersRuns form.type x c.moved_in_span.result) (sym (read_alone it arrays (joined_runs c.args.runs.now)))
     c.moved_in_span.ensures.answer
 
 pub inner_reads::chain_in_span-returns-in_err-runs-clause-answer : goal.inner_reads::chain_in_span-returns-in_err-runs-clause-answer
 inner_reads::chain_in_span-returns-in_err-runs-clause-answer g t c =
-    let f = g.B.BytesToBytesCodecTraits.functions in
-    let chain = plain_chain c.args.chain.now in
-    let sizes = c.args.shape.now in
-    let type = c.args.kind.now in
-    let fill = c.args.fill.now in
-    let encoded = c.args.encoded.now in
-    let r = c.args.measured.now in
-    let state = seen_state c.args.span.now (g.H.BytesPartialDecoderTraits.state c.args.handle.now) in
-    let are = c.chain_is_sound.ensures.mappings.mappings in
-    let positive = subst (All (λ size. 0 < size)) c.as_slice.ensures.value c.as_slice.ensures.positive in
-    let h = is_readable f chain sizes type fill encoded r are positive c.requires.takes in
-    let there = stands_value c.args.span.now (g.H.BytesPartialDecoderTraits.state c.args.handle.now) c.requires.stands in
-    let places = joined_runs c.args.runs.now in
-    let go = selected_go type chain.array_to_array sizes places (selection_of c.in_ok-indexer.indexer) h.map_is (sym (ok_is _ _ c.in_ok-indexer.ensures.selects)) h.mapped in
+    let form : ChunkForm _ = record { chain = plain_chain c.args.chain.now; sizes = c.args.shape.now; type = c.args.kind.now; fill = c.args.fill.now } in
+    let it = stored_chunk g.B.BytesToBytesCodecTraits.functions form c.args.encoded.now c.args.measured.now c.args.span.now (g.H.BytesPartialDecoderTraits.state c.args.handle.now) _ c.chain_is_sound.ensures.mappings.mappings c.as_slice.ensures.value c.as_slice.ensures.positive c.requires.takes c.requires.stands in
     let p = err_from_is_err_and c.from_residual-in_err-runs.result c.from_residual-in_err-runs.ensures.1 in
-    rw (p.1, p.2) (λ unexcused. absurd (ok_no_err _ c.in_err-runs.field-0.0 (sym go ∙ runs_answer (λ (runs : Vec (ℕ × ℕ) Global). joined_runs runs.items) (Err c.in_err-runs.field-0.0) type chain.array_to_array (map mapping_of c.array_to_array_codecs-codecs.result.now) sizes (selection_of c.in_ok-indexer.indexer) h.map_is c.array_to_array_codecs-codecs.ensures.value h.mapped c.in_err-runs.ensures.answer.is (memory_too c.in_err-runs.field-0.0 unexcused))))
+    rw (p.1, p.2) (λ unexcused. absurd (ok_no_err _ c.in_err-runs.field-0.0 (places_gone it (map mapping_of c.array_to_array_codecs-codecs.result.now) (selection_of c.in_ok-indexer.indexer) (joined_runs c.args.runs.now) (Err c.in_err-runs.field-0.0) c.array_to_array_codecs-codecs.ensures.value (sym (ok_is _ _ c.in_ok-indexer.ensures.selects)) c.in_err-runs.ensures.answer.is (memory_too c.in_err-runs.field-0.0 unexcused))))
 
 pub inner_reads::chain_in_span-returns-clause-answer : goal.inner_reads::chain_in_span-returns-clause-answer
 inner_reads::chain_in_span-returns-clause-answer g t c =
-    let f = g.B.BytesToBytesCodecTraits.functions in
-    let chain = plain_chain c.args.chain.now in
-    let sizes = c.args.shape.now in
-    let type = c.args.kind.now in
-    let fill = c.args.fill.now in
-    let encoded = c.args.encoded.now in
-    let r = c.args.measured.now in
-    let state = seen_state c.args.span.now (g.H.BytesPartialDecoderTraits.state c.args.handle.now) in
-    let are = c.chain_is_sound.ensures.mappings.mappings in
-    let positive = subst (All (λ size. 0 < size)) c.as_slice.ensures.value c.as_slice.ensures.positive in
-    let h = is_readable f chain sizes type fill encoded r are positive c.requires.takes in
-    let there = stands_value c.args.span.now (g.H.BytesPartialDecoderTraits.state c.args.handle.now) c.requires.stands in
-    let places = joined_runs c.args.runs.now in
-    let go = selected_go type chain.array_to_array sizes places (selection_of c.in_ok-indexer.indexer) h.map_is (sym (ok_is _ _ c.in_ok-indexer.ensures.selects)) h.mapped in
-    let moved : map h.map_is.to places ≡ joined_runs c.deref.result.now =
-    ok_is _ _ (sym go ∙ runs_answer (λ (runs : Vec (ℕ × ℕ) Global). joined_runs runs.items) (Ok c.in_ok-runs.runs) type chain.array_to_array (map mapping_of c.array_to_array_codecs-codecs.result.now) sizes (selection_of c.in_ok-indexer.indexer) h.map_is c.array_to_array_codecs-codecs.ensures.value h.mapped c.in_ok-runs.ensures.answer.is) ∙ ap joined_runs (sym c.deref.ensures.value) in
-    subst (λ (x : Result Chunk CodecError). AnswersRuns type x c.moved_in_span-2.result)
-    (sym (chain_moved f chain sizes type fill encoded r h state.value there.value there.is places ∙ ap (moved_read f chain encoded type fill r state.value) moved))
+    let form : ChunkForm _ = record { chain = plain_chain c.args.chain.now; sizes = c.args.shape.now; type = c.args.kind.now; fill = c.args.fill.now } in
+    let it = stored_chunk g.B.BytesToBytesCodecTraits.functions form c.args.encoded.now c.args.measured.now c.args.span.now (g.H.BytesPartialDecoderTraits.state c.args.handle.now) _ c.chain_is_sound.ensures.mappings.mappings c.as_slice.ensures.value c.as_slice.ensures.positive c.requires.takes c.requires.stands in
+    let moved : map (readable it).map_is.to (joined_runs c.args.runs.now) ≡ joined_runs c.deref.result.now =
+    ok_is _ _ (places_gone it (map mapping_of c.array_to_array_codecs-codecs.result.now) (selection_of c.in_ok-indexer.indexer) (joined_runs c.args.runs.now) (Ok c.in_ok-runs.runs) c.array_to_array_codecs-codecs.ensures.value (sym (ok_is _ _ c.in_ok-indexer.ensures.selects)) c.in_ok-runs.ensures.answer.is) ∙ ap joined_runs (sym c.deref.ensures.value) in
+    subst (λ (x : Result Chunk CodecError). AnswersRuns form.type x c.moved_in_span-2.result) (sym (read_moved it (joined_runs c.args.runs.now) (joined_runs c.deref.result.now) moved))
     c.moved_in_span-2.ensures.answer
 
 pub inner_reads::chain_in_span-returns-clause-sure : goal.inner_reads::chain_in_span-returns-clause-sure
 inner_reads::chain_in_span-returns-clause-sure g t c =
-    let f = g.B.BytesToBytesCodecTraits.functions in
-    let chain = plain_chain c.args.chain.now in
-    let sizes = c.args.shape.now in
-    let type = c.args.kind.now in
-    let fill = c.args.fill.now in
-    let encoded = c.args.encoded.now in
-    let r = c.args.measured.now in
-    let state = seen_state c.args.span.now (g.H.BytesPartialDecoderTraits.state c.args.handle.now) in
-    let are = c.chain_is_sound.ensures.mappings.mappings in
-    let positive = subst (All (λ size. 0 < size)) c.as_slice.ensures.value c.as_slice.ensures.positive in
-    let h = is_readable f chain sizes type fill encoded r are positive c.requires.takes in
-    let there = stands_value c.args.span.now (g.H.BytesPartialDecoderTraits.state c.args.handle.now) c.requires.stands in
-    let places = joined_runs c.args.runs.now in
-    let go = selected_go type chain.array_to_array sizes places (selection_of c.in_ok-indexer.indexer) h.map_is (sym (ok_is _ _ c.in_ok-indexer.ensures.selects)) h.mapped in
-    let moved : map h.map_is.to places ≡ joined_runs c.deref.result.now =
-    ok_is _ _ (sym go ∙ runs_answer (λ (runs : Vec (ℕ × ℕ) Global). joined_runs runs.items) (Ok c.in_ok-runs.runs) type chain.array_to_array (map mapping_of c.array_to_array_codecs-codecs.result.now) sizes (selection_of c.in_ok-indexer.indexer) h.map_is c.array_to_array_codecs-codecs.ensures.value h.mapped c.in_ok-runs.ensures.answer.is) ∙ ap joined_runs (sym c.deref.ensures.value) in
-    λ s. c.moved_in_span-2.ensures.sure
-    (ap (λ (ps : List ℕ). are_given_sure state.sure (moved_rests f chain encoded type fill state.value ps)) (sym moved)
-    ∙ ap (are_given_sure state.sure) (sym (chain_rests_moved f chain sizes type fill encoded r h state.value there.value there.is places)) ∙ s)
+    let form : ChunkForm _ = record { chain = plain_chain c.args.chain.now; sizes = c.args.shape.now; type = c.args.kind.now; fill = c.args.fill.now } in
+    let it = stored_chunk g.B.BytesToBytesCodecTraits.functions form c.args.encoded.now c.args.measured.now c.args.span.now (g.H.BytesPartialDecoderTraits.state c.args.handle.now) _ c.chain_is_sound.ensures.mappings.mappings c.as_slice.ensures.value c.as_slice.ensures.positive c.requires.takes c.requires.stands in
+    let moved : map (readable it).map_is.to (joined_runs c.args.runs.now) ≡ joined_runs c.deref.result.now =
+    ok_is _ _ (places_gone it (map mapping_of c.array_to_array_codecs-codecs.result.now) (selection_of c.in_ok-indexer.indexer) (joined_runs c.args.runs.now) (Ok c.in_ok-runs.runs) c.array_to_array_codecs-codecs.ensures.value (sym (ok_is _ _ c.in_ok-indexer.ensures.selects)) c.in_ok-runs.ensures.answer.is) ∙ ap joined_runs (sym c.deref.ensures.value) in
+    λ s. c.moved_in_span-2.ensures.sure (sure_moved it (joined_runs c.args.runs.now) (joined_runs c.deref.result.now) moved s)
 
 pub inner_reads::region_in_span-region_runs-requires : goal.inner_reads::region_in_span-region_runs-requires
 inner_reads::region_in_span-region_runs-requires g t c =
-    let f = g.B.BytesToBytesCodecTraits.functions in
-    let chain = plain_chain c.args.chain.now in
-    let sizes = c.args.shape.now in
-    let type = c.args.kind.now in
-    let fill = c.args.fill.now in
-    let encoded = c.args.encoded.now in
-    let r = c.args.measured.now in
-    let state = seen_state c.args.span.now (g.H.BytesPartialDecoderTraits.state c.args.handle.now) in
-    let are = c.chain_is_sound.ensures.mappings.mappings in
-    let positive = subst (All (λ size. 0 < size)) c.as_slice.ensures.value c.as_slice.ensures.positive in
-    let h = is_readable f chain sizes type fill encoded r are positive c.requires.takes in
-    let there = stands_value c.args.span.now (g.H.BytesPartialDecoderTraits.state c.args.handle.now) c.requires.stands in
-    let form : ChunkForm _ = record { chain = chain; sizes = sizes; type = type; fill = fill } in
-    let region = c.args.region.now in
-    record { region = subst (λ cs. TakesRegion cs sizes region) (sym c.array_to_array_codecs-codecs.ensures.value) (takes_region f form encoded r h are positive c.requires.counted region c.requires.inside c.requires.region_kept) }
+    let form : ChunkForm _ = record { chain = plain_chain c.args.chain.now; sizes = c.args.shape.now; type = c.args.kind.now; fill = c.args.fill.now } in
+    let it = stored_chunk g.B.BytesToBytesCodecTraits.functions form c.args.encoded.now c.args.measured.now c.args.span.now (g.H.BytesPartialDecoderTraits.state c.args.handle.now) _ c.chain_is_sound.ensures.mappings.mappings c.as_slice.ensures.value c.as_slice.ensures.positive c.requires.takes c.requires.stands in
+    record { region = subst (λ cs. TakesRegion cs form.sizes c.args.region.now) (sym c.array_to_array_codecs-codecs.ensures.value) (window_taken it c.requires.counted c.args.region.now c.requires.inside c.requires.region_kept) }
 
 pub inner_reads::region_in_span-returns-in_err-held-clause-answer : goal.inner_reads::region_in_span-returns-in_err-held-clause-answer
 inner_reads::region_in_span-returns-in_err-held-clause-answer g t c =
-    let f = g.B.BytesToBytesCodecTraits.functions in
-    let chain = plain_chain c.args.chain.now in
-    let sizes = c.args.shape.now in
-    let type = c.args.kind.now in
-    let fill = c.args.fill.now in
-    let encoded = c.args.encoded.now in
-    let r = c.args.measured.now in
-    let state = seen_state c.args.span.now (g.H.BytesPartialDecoderTraits.state c.args.handle.now) in
-    let are = c.chain_is_sound.ensures.mappings.mappings in
-    let positive = subst (All (λ size. 0 < size)) c.as_slice.ensures.value c.as_slice.ensures.positive in
-    let h = is_readable f chain sizes type fill encoded r are positive c.requires.takes in
-    let there = stands_value c.args.span.now (g.H.BytesPartialDecoderTraits.state c.args.handle.now) c.requires.stands in
-    let form : ChunkForm _ = record { chain = chain; sizes = sizes; type = type; fill = fill } in
-    let region = c.args.region.now in
-    let at = runs_at chain.array_to_array (map mapping_of c.array_to_array_codecs-codecs.result.now) (window_of sizes region) c.in_ok-runs.runs.items c.deref.result.now c.array_to_array_codecs-codecs.ensures.value ((c.in_ok-runs.ensures {u = tt}).places.is) c.deref.ensures.value in
+    let form : ChunkForm _ = record { chain = plain_chain c.args.chain.now; sizes = c.args.shape.now; type = c.args.kind.now; fill = c.args.fill.now } in
+    let it = stored_chunk g.B.BytesToBytesCodecTraits.functions form c.args.encoded.now c.args.measured.now c.args.span.now (g.H.BytesPartialDecoderTraits.state c.args.handle.now) _ c.chain_is_sound.ensures.mappings.mappings c.as_slice.ensures.value c.as_slice.ensures.positive c.requires.takes c.requires.stands in
+    let at = runs_at form.chain.array_to_array (map mapping_of c.array_to_array_codecs-codecs.result.now) (window_of form.sizes c.args.region.now) c.in_ok-runs.runs.items c.deref.result.now c.array_to_array_codecs-codecs.ensures.value ((c.in_ok-runs.ensures {u = tt}).places.is) c.deref.ensures.value in
     let p = err_from_is_err_and c.from_residual-in_err-held.result c.from_residual-in_err-held.ensures.1 in
-    rw (p.1, p.2) (window_refused f form encoded r h are positive c.requires.counted region c.requires.inside c.requires.region_kept state.value there.value there.is (joined_runs c.deref.result.now) c.in_err-held.field-0.0 at c.in_err-held.ensures.answer)
+    rw (p.1, p.2) (window_refused it c.requires.counted c.args.region.now c.requires.inside c.requires.region_kept (joined_runs c.deref.result.now) c.in_err-held.field-0.0 at c.in_err-held.ensures.answer)
 
 pub inner_reads::region_in_span-returns-in_err-held-clause-sure : goal.inner_reads::region_in_span-returns-in_err-held-clause-sure
 inner_reads::region_in_span-returns-in_err-held-clause-sure g t c =
-    let f = g.B.BytesToBytesCodecTraits.functions in
-    let chain = plain_chain c.args.chain.now in
-    let sizes = c.args.shape.now in
-    let type = c.args.kind.now in
-    let fill = c.args.fill.now in
-    let encoded = c.args.encoded.now in
-    let r = c.args.measured.now in
-    let state = seen_state c.args.span.now (g.H.BytesPartialDecoderTraits.state c.args.handle.now) in
-    let are = c.chain_is_sound.ensures.mappings.mappings in
-    let positive = subst (All (λ size. 0 < size)) c.as_slice.ensures.value c.as_slice.ensures.positive in
-    let h = is_readable f chain sizes type fill encoded r are positive c.requires.takes in
-    let there = stands_value c.args.span.now (g.H.BytesPartialDecoderTraits.state c.args.handle.now) c.requires.stands in
-    let form : ChunkForm _ = record { chain = chain; sizes = sizes; type = type; fill = fill } in
-    let region = c.args.region.now in
-    let at = runs_at chain.array_to_array (map mapping_of c.array_to_array_codecs-codecs.result.now) (window_of sizes region) c.in_ok-runs.runs.items c.deref.result.now c.array_to_array_codecs-codecs.ensures.value ((c.in_ok-runs.ensures {u = tt}).places.is) c.deref.ensures.value in
+    let form : ChunkForm _ = record { chain = plain_chain c.args.chain.now; sizes = c.args.shape.now; type = c.args.kind.now; fill = c.args.fill.now } in
+    let it = stored_chunk g.B.BytesToBytesCodecTraits.functions form c.args.encoded.now c.args.measured.now c.args.span.now (g.H.BytesPartialDecoderTraits.state c.args.handle.now) _ c.chain_is_sound.ensures.mappings.mappings c.as_slice.ensures.value c.as_slice.ensures.positive c.requires.takes c.requires.stands in
+    let at = runs_at form.chain.array_to_array (map mapping_of c.array_to_array_codecs-codecs.result.now) (window_of form.sizes c.args.region.now) c.in_ok-runs.runs.items c.deref.result.now c.array_to_array_codecs-codecs.ensures.value ((c.in_ok-runs.ensures {u = tt}).places.is) c.deref.ensures.value in
     let p = err_from_is_err_and c.from_residual-in_err-held.result c.from_residual-in_err-held.ensures.1 in
-    λ s. rw (p.1, p.2) (c.in_err-held.ensures.sure (window_sure f form encoded r h are positive c.requires.counted region c.requires.inside c.requires.region_kept state.value there.value there.is (joined_runs c.deref.result.now) state.sure at s))
+    λ s. rw (p.1, p.2) (c.in_err-held.ensures.sure (window_sure it c.requires.counted c.args.region.now c.requires.inside c.requires.region_kept (joined_runs c.deref.result.now) at s))
 
 pub inner_reads::region_in_span-decoded_window-requires-clause-region : goal.inner_reads::region_in_span-decoded_window-requires-clause-region
 inner_reads::region_in_span-decoded_window-requires-clause-region g t c =
-    let f = g.B.BytesToBytesCodecTraits.functions in
-    let chain = plain_chain c.args.chain.now in
-    let sizes = c.args.shape.now in
-    let type = c.args.kind.now in
-    let fill = c.args.fill.now in
-    let encoded = c.args.encoded.now in
-    let r = c.args.measured.now in
-    let state = seen_state c.args.span.now (g.H.BytesPartialDecoderTraits.state c.args.handle.now) in
-    let are = c.chain_is_sound.ensures.mappings.mappings in
-    let positive = subst (All (λ size. 0 < size)) c.as_slice.ensures.value c.as_slice.ensures.positive in
-    let h = is_readable f chain sizes type fill encoded r are positive c.requires.takes in
-    let there = stands_value c.args.span.now (g.H.BytesPartialDecoderTraits.state c.args.handle.now) c.requires.stands in
-    let form : ChunkForm _ = record { chain = chain; sizes = sizes; type = type; fill = fill } in
-    let region = c.args.region.now in
-    subst (λ cs. TakesRegion cs sizes region) (sym c.array_to_array_codecs-codecs.ensures.value) (takes_region f form encoded r h are positive c.requires.counted region c.requires.inside c.requires.region_kept)
+    let form : ChunkForm _ = record { chain = plain_chain c.args.chain.now; sizes = c.args.shape.now; type = c.args.kind.now; fill = c.args.fill.now } in
+    let it = stored_chunk g.B.BytesToBytesCodecTraits.functions form c.args.encoded.now c.args.measured.now c.args.span.now (g.H.BytesPartialDecoderTraits.state c.args.handle.now) _ c.chain_is_sound.ensures.mappings.mappings c.as_slice.ensures.value c.as_slice.ensures.positive c.requires.takes c.requires.stands in
+    subst (λ cs. TakesRegion cs form.sizes c.args.region.now) (sym c.array_to_array_codecs-codecs.ensures.value) (window_taken it c.requires.counted c.args.region.now c.requires.inside c.requires.region_kept)
 
 pub inner_reads::region_in_span-decoded_window-requires-clause-takes : goal.inner_reads::region_in_span-decoded_window-requires-clause-takes
 inner_reads::region_in_span-decoded_window-requires-clause-takes g t c =
-    let f = g.B.BytesToBytesCodecTraits.functions in
-    let chain = plain_chain c.args.chain.now in
-    let sizes = c.args.shape.now in
-    let type = c.args.kind.now in
-    let fill = c.args.fill.now in
-    let encoded = c.args.encoded.now in
-    let r = c.args.measured.now in
-    let state = seen_state c.args.span.now (g.H.BytesPartialDecoderTraits.state c.args.handle.now) in
-    let are = c.chain_is_sound.ensures.mappings.mappings in
-    let positive = subst (All (λ size. 0 < size)) c.as_slice.ensures.value c.as_slice.ensures.positive in
-    let h = is_readable f chain sizes type fill encoded r are positive c.requires.takes in
-    let there = stands_value c.args.span.now (g.H.BytesPartialDecoderTraits.state c.args.handle.now) c.requires.stands in
-    let form : ChunkForm _ = record { chain = chain; sizes = sizes; type = type; fill = fill } in
-    let region = c.args.region.now in
-    subst (λ cs. TakeType cs type) (sym c.array_to_array_codecs-codecs.ensures.value) (takes_type f form encoded r h are positive c.requires.counted region c.requires.inside c.requires.region_kept)
+    let form : ChunkForm _ = record { chain = plain_chain c.args.chain.now; sizes = c.args.shape.now; type = c.args.kind.now; fill = c.args.fill.now } in
+    let it = stored_chunk g.B.BytesToBytesCodecTraits.functions form c.args.encoded.now c.args.measured.now c.args.span.now (g.H.BytesPartialDecoderTraits.state c.args.handle.now) _ c.chain_is_sound.ensures.mappings.mappings c.as_slice.ensures.value c.as_slice.ensures.positive c.requires.takes c.requires.stands in
+    subst (λ cs. TakeType cs form.type) (sym c.array_to_array_codecs-codecs.ensures.value) (window_type_taken it c.requires.counted c.args.region.now c.requires.inside c.requires.region_kept)
 
 pub inner_reads::region_in_span-decoded_window-requires-clause-valid : goal.inner_reads::region_in_span-decoded_window-requires-clause-valid
 inner_reads::region_in_span-decoded_window-requires-clause-valid g t c =
-    let f = g.B.BytesToBytesCodecTraits.functions in
-    let chain = plain_chain c.args.chain.now in
-    let sizes = c.args.shape.now in
-    let type = c.args.kind.now in
-    let fill = c.args.fill.now in
-    let encoded = c.args.encoded.now in
-    let r = c.args.measured.now in
-    let state = seen_state c.args.span.now (g.H.BytesPartialDecoderTraits.state c.args.handle.now) in
-    let are = c.chain_is_sound.ensures.mappings.mappings in
-    let positive = subst (All (λ size. 0 < size)) c.as_slice.ensures.value c.as_slice.ensures.positive in
-    let h = is_readable f chain sizes type fill encoded r are positive c.requires.takes in
-    let there = stands_value c.args.span.now (g.H.BytesPartialDecoderTraits.state c.args.handle.now) c.requires.stands in
-    let form : ChunkForm _ = record { chain = chain; sizes = sizes; type = type; fill = fill } in
-    let region = c.args.region.now in
-    let at = runs_at chain.array_to_array (map mapping_of c.array_to_array_codecs-codecs.result.now) (window_of sizes region) c.in_ok-runs.runs.items c.deref.result.now c.array_to_array_codecs-codecs.ensures.value ((c.in_ok-runs.ensures {u = tt}).places.is) c.deref.ensures.value in
-    window_valid f form encoded r h are positive c.requires.counted region c.requires.inside c.requires.region_kept state.value there.value there.is (joined_runs c.deref.result.now) c.in_ok-held.held at ((c.in_ok-held.ensures {u = tt}).answer)
+    let form : ChunkForm _ = record { chain = plain_chain c.args.chain.now; sizes = c.args.shape.now; type = c.args.kind.now; fill = c.args.fill.now } in
+    let it = stored_chunk g.B.BytesToBytesCodecTraits.functions form c.args.encoded.now c.args.measured.now c.args.span.now (g.H.BytesPartialDecoderTraits.state c.args.handle.now) _ c.chain_is_sound.ensures.mappings.mappings c.as_slice.ensures.value c.as_slice.ensures.positive c.requires.takes c.requires.stands in
+    let at = runs_at form.chain.array_to_array (map mapping_of c.array_to_array_codecs-codecs.result.now) (window_of form.sizes c.args.region.now) c.in_ok-runs.runs.items c.deref.result.now c.array_to_array_codecs-codecs.ensures.value ((c.in_ok-runs.ensures {u = tt}).places.is) c.deref.ensures.value in
+    window_valid it c.requires.counted c.args.region.now c.requires.inside c.requires.region_kept (joined_runs c.deref.result.now) c.in_ok-held.held at ((c.in_ok-held.ensures {u = tt}).answer)
 
 pub inner_reads::region_in_span-returns-clause-answer : goal.inner_reads::region_in_span-returns-clause-answer
 inner_reads::region_in_span-returns-clause-answer g t c =
-    let f = g.B.BytesToBytesCodecTraits.functions in
-    let chain = plain_chain c.args.chain.now in
-    let sizes = c.args.shape.now in
-    let type = c.args.kind.now in
-    let fill = c.args.fill.now in
-    let encoded = c.args.encoded.now in
-    let r = c.args.measured.now in
-    let state = seen_state c.args.span.now (g.H.BytesPartialDecoderTraits.state c.args.handle.now) in
-    let are = c.chain_is_sound.ensures.mappings.mappings in
-    let positive = subst (All (λ size. 0 < size)) c.as_slice.ensures.value c.as_slice.ensures.positive in
-    let h = is_readable f chain sizes type fill encoded r are positive c.requires.takes in
-    let there = stands_value c.args.span.now (g.H.BytesPartialDecoderTraits.state c.args.handle.now) c.requires.stands in
-    let form : ChunkForm _ = record { chain = chain; sizes = sizes; type = type; fill = fill } in
-    let region = c.args.region.now in
-    let at = runs_at chain.array_to_array (map mapping_of c.array_to_array_codecs-codecs.result.now) (window_of sizes region) c.in_ok-runs.runs.items c.deref.result.now c.array_to_array_codecs-codecs.ensures.value ((c.in_ok-runs.ensures {u = tt}).places.is) c.deref.ensures.value in
-    window_answered f form encoded r h are positive c.requires.counted region c.requires.inside c.requires.region_kept state.value there.value there.is (joined_runs c.deref.result.now) c.in_ok-held.held c.decoded_window.result at ((c.in_ok-held.ensures {u = tt}).answer)
-    (subst (λ cs. AnswersBy memory (Holds type) c.decoded_window.result (ok (decoded_of cs type (window_of sizes region) c.in_ok-held.held))) c.array_to_array_codecs-codecs.ensures.value c.decoded_window.ensures.decoded.is)
+    let form : ChunkForm _ = record { chain = plain_chain c.args.chain.now; sizes = c.args.shape.now; type = c.args.kind.now; fill = c.args.fill.now } in
+    let it = stored_chunk g.B.BytesToBytesCodecTraits.functions form c.args.encoded.now c.args.measured.now c.args.span.now (g.H.BytesPartialDecoderTraits.state c.args.handle.now) _ c.chain_is_sound.ensures.mappings.mappings c.as_slice.ensures.value c.as_slice.ensures.positive c.requires.takes c.requires.stands in
+    let at = runs_at form.chain.array_to_array (map mapping_of c.array_to_array_codecs-codecs.result.now) (window_of form.sizes c.args.region.now) c.in_ok-runs.runs.items c.deref.result.now c.array_to_array_codecs-codecs.ensures.value ((c.in_ok-runs.ensures {u = tt}).places.is) c.deref.ensures.value in
+    window_answered it c.requires.counted c.args.region.now c.requires.inside c.requires.region_kept (joined_runs c.deref.result.now) c.in_ok-held.held c.decoded_window.result at ((c.in_ok-held.ensures {u = tt}).answer)
+    (subst (λ cs. AnswersBy memory (Holds form.type) c.decoded_window.result (ok (decoded_of cs form.type (window_of form.sizes c.args.region.now) c.in_ok-held.held))) c.array_to_array_codecs-codecs.ensures.value c.decoded_window.ensures.decoded.is)
 
 pub shard_runs::read_group-returns-clause-answer : goal.shard_runs::read_group-returns-clause-answer
 shard_runs::read_group-returns-clause-answer g t c =
@@ -310,43 +172,23 @@ shard_runs::shard_in_span-returns-in_err-encoded-clause-answer g t c =
 
 pub inner_reads::chain_in_span-moved_in_span-requires-2 : goal.inner_reads::chain_in_span-moved_in_span-requires-2
 inner_reads::chain_in_span-moved_in_span-requires-2 g t c κs within =
-    let f = g.B.BytesToBytesCodecTraits.functions in
-    let chain = plain_chain c.args.chain.now in
-    let sizes = c.args.shape.now in
-    let type = c.args.kind.now in
-    let fill = c.args.fill.now in
-    let encoded = c.args.encoded.now in
-    let r = c.args.measured.now in
-    let state = seen_state c.args.span.now (g.H.BytesPartialDecoderTraits.state c.args.handle.now) in
-    let are = c.chain_is_sound.ensures.mappings.mappings in
-    let positive = subst (All (λ size. 0 < size)) c.as_slice.ensures.value c.as_slice.ensures.positive in
-    let h = is_readable f chain sizes type fill encoded r are positive c.requires.takes in
-    let there = stands_value c.args.span.now (g.H.BytesPartialDecoderTraits.state c.args.handle.now) c.requires.stands in
-    let small = subst (λ n. n < 2 ^ 64) (sym h.count) c.requires.counted in
+    let form : ChunkForm _ = record { chain = plain_chain c.args.chain.now; sizes = c.args.shape.now; type = c.args.kind.now; fill = c.args.fill.now } in
+    let it = stored_chunk g.B.BytesToBytesCodecTraits.functions form c.args.encoded.now c.args.measured.now c.args.span.now (g.H.BytesPartialDecoderTraits.state c.args.handle.now) _ c.chain_is_sound.ensures.mappings.mappings c.as_slice.ensures.value c.as_slice.ensures.positive c.requires.takes c.requires.stands in
+    let small = subst (λ n. n < 2 ^ 64) (sym (readable it).count) c.requires.counted in
     let filled = subst AreFilled (sym c.deref.ensures.value) ((c.in_ok-runs.ensures {u = tt}).filled) in
-    let inside = subst (λ n. EndWithin n c.deref.result.now) (sym h.count) (subst (EndWithin (product sizes)) (sym c.deref.ensures.value) ((c.in_ok-runs.ensures {u = tt}).below)) in
+    let inside = subst (λ n. EndWithin n c.deref.result.now) (sym (readable it).count) (subst (EndWithin (product form.sizes)) (sym c.deref.ensures.value) ((c.in_ok-runs.ensures {u = tt}).below)) in
     let few = subst (λ rs. length (joined_runs rs) < 2 ^ 64) (sym c.deref.ensures.value) ((c.in_ok-runs.ensures {u = tt}).count) in
-    search (rules, h.measured, small, filled, inside, few)
+    search (rules, (readable it).measured, small, filled, inside, few)
 
 pub inner_reads::region_in_span-moved_in_span-requires : goal.inner_reads::region_in_span-moved_in_span-requires
 inner_reads::region_in_span-moved_in_span-requires g t c κs within =
-    let f = g.B.BytesToBytesCodecTraits.functions in
-    let chain = plain_chain c.args.chain.now in
-    let sizes = c.args.shape.now in
-    let type = c.args.kind.now in
-    let fill = c.args.fill.now in
-    let encoded = c.args.encoded.now in
-    let r = c.args.measured.now in
-    let state = seen_state c.args.span.now (g.H.BytesPartialDecoderTraits.state c.args.handle.now) in
-    let are = c.chain_is_sound.ensures.mappings.mappings in
-    let positive = subst (All (λ size. 0 < size)) c.as_slice.ensures.value c.as_slice.ensures.positive in
-    let h = is_readable f chain sizes type fill encoded r are positive c.requires.takes in
-    let there = stands_value c.args.span.now (g.H.BytesPartialDecoderTraits.state c.args.handle.now) c.requires.stands in
-    let small = subst (λ n. n < 2 ^ 64) (sym h.count) c.requires.counted in
+    let form : ChunkForm _ = record { chain = plain_chain c.args.chain.now; sizes = c.args.shape.now; type = c.args.kind.now; fill = c.args.fill.now } in
+    let it = stored_chunk g.B.BytesToBytesCodecTraits.functions form c.args.encoded.now c.args.measured.now c.args.span.now (g.H.BytesPartialDecoderTraits.state c.args.handle.now) _ c.chain_is_sound.ensures.mappings.mappings c.as_slice.ensures.value c.as_slice.ensures.positive c.requires.takes c.requires.stands in
+    let small = subst (λ n. n < 2 ^ 64) (sym (readable it).count) c.requires.counted in
     let filled = subst AreFilled (sym c.deref.ensures.value) ((c.in_ok-runs.ensures {u = tt}).filled) in
-    let inside = subst (λ n. EndWithin n c.deref.result.now) (sym h.count) (subst (EndWithin (product sizes)) (sym c.deref.ensures.value) ((c.in_ok-runs.ensures {u = tt}).below)) in
+    let inside = subst (λ n. EndWithin n c.deref.result.now) (sym (readable it).count) (subst (EndWithin (product form.sizes)) (sym c.deref.ensures.value) ((c.in_ok-runs.ensures {u = tt}).below)) in
     let few = subst (λ rs. length (joined_runs rs) < 2 ^ 64) (sym c.deref.ensures.value) ((c.in_ok-runs.ensures {u = tt}).count) in
-    search (rules, h.measured, small, filled, inside, few)
+    search (rules, (readable it).measured, small, filled, inside, few)
 
 pub inner_reads::moved_in_span-returns-clause-sure : goal.inner_reads::moved_in_span-returns-clause-sure
 inner_reads::moved_in_span-returns-clause-sure g t c =
