@@ -37,3 +37,4 @@ pub mod LeafReads
 pub mod WholeSpans
 pub mod ShardParts
 pub mod GroupedShards
+pub mod GroupSteps
