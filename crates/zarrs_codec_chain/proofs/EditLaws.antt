@@ -1,7 +1,8 @@
 -- Edits of stored values are edits of chunks.
 use Rattle.std.proofs.Common.{◌≡◌, ℕ, zero, suc, ◌+◌, ◌<◌, Bool, true, false, if◌then◌else◌, Option, Some, None, List, [], ◌∷◌, ◌++◌, length, take, get_or, Result, Ok, Err, arith, refl, ap, sym, ◌∙◌, subst}
 use Rattle.std.specs.List.{All}
-use Rattle.std.specs.Prelude.{◌↔◌, IsOkAnd}
+use Rattle.std.specs.Option.{unwrap_or}
+use Rattle.std.specs.Prelude.{◌↔◌, IfSome, IsOkAnd}
 use Rattle.std.proofs.lemmas.List.{take_more}
 use Rattle.std.proofs.lemmas.List.Elements.{All-take, All-head, All-replicate, All-tail}
 use Rattle.zarrs_chunk.specs.Answer.{◌>>=◌, seen}
@@ -24,7 +25,7 @@ use Rattle.zarrs_packbits.specs.Laws.{HasBytes}
 use Rattle.zarrs_chain_meaning.specs.ChunkForm.{ChunkForm}
 use Rattle.zarrs_codec_chain.specs.CodecPart.{order_in_place}
 use Rattle.zarrs_codec_chain.specs.ChunkWrite.{stored_written, value_left, IsStoredFor}
-use Rattle.zarrs_codec_chain.specs.Edits.{chunk_or_fill, edited_state, states_edited, edited_store, stores_edited, AcceptsEdits, edit_excuse, excuse_at, EditHasBytes, StateHasBytes}
+use Rattle.zarrs_codec_chain.specs.Edits.{edited_state, states_edited, edited_store, stores_edited, AcceptsEdits, edit_excuse, excuse_at, EditHasBytes}
 use Rattle.zarrs_chain_meaning.specs.Laws.{IsChainOfMappings}
 use Rattle.zarrs_chain_meaning.specs.CodecMeaning.{normal_form, ChainWritten}
 use Rattle.zarrs_chain_meaning.specs.MachineBytes.{HeldHasBytes}
@@ -120,11 +121,11 @@ module _ {B : Type 0} (f : BytesCodecs B) (form : ChunkForm B) (encoded : List �
   new_bytes chunk places new here there = All-update HasBytes chunk places (elements form.type (length places) new) here (held_bytes form.type (length places) new there)
 
   abbrev IsNext : Option (List ℕ) → Option Chunk → Type 0
-  IsNext after next = IsStoredFor f form after next × StateHasBytes next
+  IsNext after next = IsStoredFor f form after next × IfSome next (All HasBytes)
 
   -- what is written of new elements, from nothing or from a value that is written for a chunk
-  encoded_step : (stored : Option (List ℕ)) (state : Option Chunk) (places : List ℕ) (new : Held) (value : List ℕ) → StateHasBytes state → HeldHasBytes new → IsStoredFor f form stored state → All (λ place. place < product form.sizes) places → data_fit form.type (length places) new ≡ Ok tt
-      → value_left f form (order_in_place form.chain.bytes_to_bytes form.chain.array_to_bytes) stored places new ≡ Ok value → IsNext (Some value) (Some (with_elements form.type (chunk_or_fill form state) places new))
+  encoded_step : (stored : Option (List ℕ)) (state : Option Chunk) (places : List ℕ) (new : Held) (value : List ℕ) → IfSome state (All HasBytes) → HeldHasBytes new → IsStoredFor f form stored state → All (λ place. place < product form.sizes) places → data_fit form.type (length places) new ≡ Ok tt
+      → value_left f form (order_in_place form.chain.bytes_to_bytes form.chain.array_to_bytes) stored places new ≡ Ok value → IsNext (Some value) (Some (with_elements form.type (unwrap_or state (filled_chunk form.sizes form.type form.fill)) places new))
   encoded_step None None places new value here there is inside fit e =
       let filled = filled_chunk form.sizes form.type form.fill in (
         (left_by f form encoded r h chain_is positive fits (order_in_place form.chain.bytes_to_bytes form.chain.array_to_bytes) refl None filled places new refl inside fit).0 value e,
@@ -138,18 +139,18 @@ module _ {B : Type 0} (f : BytesCodecs B) (form : ChunkForm B) (encoded : List �
       let w = (left_by f form encoded r h chain_is positive fits (order_in_place form.chain.bytes_to_bytes form.chain.array_to_bytes) refl (Some stored) normal places new stands inside fit).0 value e in
       ((either_written chunk places new value is.elements fit).0 w, new_bytes chunk places new here there)
 
-  edited_step : (stored after : Option (List ℕ)) (state : Option Chunk) (edit : Edit) → StateHasBytes state → EditHasBytes edit → IsStoredFor f form stored state → edited_store f form stored edit ≡ Ok after → IsOkAnd (edited_state form state edit) (IsNext after)
+  edited_step : (stored after : Option (List ℕ)) (state : Option Chunk) (edit : Edit) → IfSome state (All HasBytes) → EditHasBytes edit → IsStoredFor f form stored state → edited_store f form stored edit ≡ Ok after → IsOkAnd (edited_state form state edit) (IsNext after)
   edited_step stored after state Erase here there is e = subst (λ (v : Option (List ℕ)). IsNext v None) (same_stored None after e) (tt, tt)
   edited_step stored after state (Encode indexer new) here there is e =
       let v = seen_ok (λ value. Some value) (stored_written f form stored (selection_of indexer) new) after e in
       let a = bind_ok (data_places form.sizes form.type (selection_of indexer) new) _ v.0 v.1 in
       let inside = data_inside form.sizes form.type (selection_of indexer) new a.0 a.1 in
       let next = encoded_step stored state a.0 new v.0 here there is inside.0 inside.1 a.2 in
-      next_at (data_places form.sizes form.type (selection_of indexer) new) (λ places. with_elements form.type (chunk_or_fill form state) places new) (IsNext after) a.0 a.1
-      (subst (λ (x : Option (List ℕ)). IsNext x (Some (with_elements form.type (chunk_or_fill form state) a.0 new))) v.2 next)
+      next_at (data_places form.sizes form.type (selection_of indexer) new) (λ places. with_elements form.type (unwrap_or state (filled_chunk form.sizes form.type form.fill)) places new) (IsNext after) a.0 a.1
+      (subst (λ (x : Option (List ℕ)). IsNext x (Some (with_elements form.type (unwrap_or state (filled_chunk form.sizes form.type form.fill)) a.0 new))) v.2 next)
 
   -- edits of a value that is written for a chunk, or of nothing, leave what is written for the edited chunk, or nothing
-  pub edits_written : (edits : List Edit) (stored after : Option (List ℕ)) (state : Option Chunk) → StateHasBytes state → All EditHasBytes edits → IsStoredFor f form stored state → stores_edited f form edits stored ≡ Ok after → IsOkAnd (states_edited form edits state) (IsStoredFor f form after)
+  pub edits_written : (edits : List Edit) (stored after : Option (List ℕ)) (state : Option Chunk) → IfSome state (All HasBytes) → All EditHasBytes edits → IsStoredFor f form stored state → stores_edited f form edits stored ≡ Ok after → IsOkAnd (states_edited form edits state) (IsStoredFor f form after)
   edits_written [] stored after state here there is e = subst (λ (v : Option (List ℕ)). IsStoredFor f form v state) (same_stored stored after e) is
   edits_written (edit ∷ edits) stored after state here there is e =
       let a = bind_ok (edited_store f form stored edit) (stores_edited f form edits) after e in
@@ -157,7 +158,7 @@ module _ {B : Type 0} (f : BytesCodecs B) (form : ChunkForm B) (encoded : List �
       then_at (edited_state form state edit) (states_edited form edits) (IsStoredFor f form after) s.0 s.1 (edits_written edits a.0 after s.0 s.2.1 (All-tail EditHasBytes edit edits there) s.2.0 a.2)
 
   -- each of them was accepted
-  pub edits_accepted : (edits : List Edit) (stored after : Option (List ℕ)) (state : Option Chunk) → StateHasBytes state → All EditHasBytes edits → IsStoredFor f form stored state → stores_edited f form edits stored ≡ Ok after → AcceptsEdits f form edits state
+  pub edits_accepted : (edits : List Edit) (stored after : Option (List ℕ)) (state : Option Chunk) → IfSome state (All HasBytes) → All EditHasBytes edits → IsStoredFor f form stored state → stores_edited f form edits stored ≡ Ok after → AcceptsEdits f form edits state
   edits_accepted [] stored after state here there is e = tt
   edits_accepted (edit ∷ edits) stored after state here there is e =
       let a = bind_ok (edited_store f form stored edit) (stores_edited f form edits) after e in
@@ -166,8 +167,8 @@ module _ {B : Type 0} (f : BytesCodecs B) (form : ChunkForm B) (encoded : List �
       ((a.0, s.2.0), edits_accepted edits a.0 after s.0 s.2.1 (All-tail EditHasBytes edit edits there) s.2.0 a.2)
 
   -- where a value is written for the chunk with new elements, it is left of what is written for the chunk, or of nothing
-  written_step : (stored : Option (List ℕ)) (state : Option Chunk) (places : List ℕ) (new : Held) (value : List ℕ) → StateHasBytes state → IsStoredFor f form stored state → All (λ place. place < product form.sizes) places → data_fit form.type (length places) new ≡ Ok tt
-      → ChainWritten f form.chain form.sizes form.type form.fill value (with_elements form.type (chunk_or_fill form state) places new) → value_left f form (order_in_place form.chain.bytes_to_bytes form.chain.array_to_bytes) stored places new ≡ Ok value
+  written_step : (stored : Option (List ℕ)) (state : Option Chunk) (places : List ℕ) (new : Held) (value : List ℕ) → IfSome state (All HasBytes) → IsStoredFor f form stored state → All (λ place. place < product form.sizes) places → data_fit form.type (length places) new ≡ Ok tt
+      → ChainWritten f form.chain form.sizes form.type form.fill value (with_elements form.type (unwrap_or state (filled_chunk form.sizes form.type form.fill)) places new) → value_left f form (order_in_place form.chain.bytes_to_bytes form.chain.array_to_bytes) stored places new ≡ Ok value
   written_step None None places new value here is inside fit w =
       let filled = filled_chunk form.sizes form.type form.fill in
       (left_by f form encoded r h chain_is positive fits (order_in_place form.chain.bytes_to_bytes form.chain.array_to_bytes) refl None filled places new refl inside fit).1 value w
@@ -184,12 +185,12 @@ module _ {B : Type 0} (f : BytesCodecs B) (form : ChunkForm B) (encoded : List �
   written_value (Some value) chunk is = (value, is)
 
   -- an edit that is rejected can't be made, or no value is written for what it makes
-  refused_step : (stored : Option (List ℕ)) (state : Option Chunk) (edit : Edit) (e : CodecError) → StateHasBytes state → IsStoredFor f form stored state → edited_store f form stored edit ≡ Err e → AcceptsEdits f form (edit ∷ []) state → ⊥
+  refused_step : (stored : Option (List ℕ)) (state : Option Chunk) (edit : Edit) (e : CodecError) → IfSome state (All HasBytes) → IsStoredFor f form stored state → edited_store f form stored edit ≡ Err e → AcceptsEdits f form (edit ∷ []) state → ⊥
   refused_step stored state Erase e here is refused accepts = absurd (not_refused None e refused)
   refused_step stored state (Encode indexer new) e here is refused accepts =
       let selection = selection_of indexer in
-      let a = made_at (data_places form.sizes form.type selection new) (λ places. with_elements form.type (chunk_or_fill form state) places new) (λ next. ((stored : Option (List ℕ)) × IsStoredFor f form stored next) × AcceptsEdits f form [] next) accepts in
-      let v = written_value a.2.0.0 (with_elements form.type (chunk_or_fill form state) a.0 new) a.2.0.1 in
+      let a = made_at (data_places form.sizes form.type selection new) (λ places. with_elements form.type (unwrap_or state (filled_chunk form.sizes form.type form.fill)) places new) (λ next. ((stored : Option (List ℕ)) × IsStoredFor f form stored next) × AcceptsEdits f form [] next) accepts in
+      let v = written_value a.2.0.0 (with_elements form.type (unwrap_or state (filled_chunk form.sizes form.type form.fill)) a.0 new) a.2.0.1 in
       let inside = data_inside form.sizes form.type selection new a.0 a.1 in
       let left = written_step stored state a.0 new v.0 here is inside.0 inside.1 v.1 in
       let due : edited_store f form stored (Encode indexer new) ≡ ok_stored (Some v.0)
@@ -198,7 +199,7 @@ module _ {B : Type 0} (f : BytesCodecs B) (form : ChunkForm B) (encoded : List �
       not_refused (Some v.0) e (sym due ∙ refused)
 
   -- the same behind accepted edits
-  edits_refused : (edits : List Edit) (edit : Edit) (stored last : Option (List ℕ)) (state : Option Chunk) (e : CodecError) → StateHasBytes state → All EditHasBytes edits → IsStoredFor f form stored state → stores_edited f form edits stored ≡ Ok last → edited_store f form last edit ≡ Err e
+  edits_refused : (edits : List Edit) (edit : Edit) (stored last : Option (List ℕ)) (state : Option Chunk) (e : CodecError) → IfSome state (All HasBytes) → All EditHasBytes edits → IsStoredFor f form stored state → stores_edited f form edits stored ≡ Ok last → edited_store f form last edit ≡ Err e
       → AcceptsEdits f form (edits ++ edit ∷ []) state → ⊥
   edits_refused [] edit stored last state e here there is ran refused accepts =
       refused_step stored state edit e here is (subst (λ (v : Option (List ℕ)). edited_store f form v edit ≡ Err e) (sym (same_stored stored last ran)) refused) accepts
@@ -208,7 +209,7 @@ module _ {B : Type 0} (f : BytesCodecs B) (form : ChunkForm B) (encoded : List �
       edits_refused edits edit a.0 last s.0 e s.1.1 (All-tail EditHasBytes first edits there) s.1.0 a.2 refused s.2.1
 
   -- the edit behind so many accepted ones
-  pub more_refused : (edits : List Edit) (n : ℕ) (edit : Edit) (stored last : Option (List ℕ)) (state : Option Chunk) (e : CodecError) → n < length edits → edit ≡ get_or edits n edit → StateHasBytes state → All EditHasBytes (take n edits) → IsStoredFor f form stored state → stores_edited f form (take n edits) stored ≡ Ok last
+  pub more_refused : (edits : List Edit) (n : ℕ) (edit : Edit) (stored last : Option (List ℕ)) (state : Option Chunk) (e : CodecError) → n < length edits → edit ≡ get_or edits n edit → IfSome state (All HasBytes) → All EditHasBytes (take n edits) → IsStoredFor f form stored state → stores_edited f form (take n edits) stored ≡ Ok last
       → edited_store f form last edit ≡ Err e → AcceptsEdits f form (take (n + 1) edits) state → ⊥
   more_refused edits n edit stored last state e lt is here there written ran refused accepts =
       edits_refused (take n edits) edit stored last state e here there written ran refused

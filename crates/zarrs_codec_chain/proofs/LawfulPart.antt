@@ -15,7 +15,7 @@ use Rattle.zarrs_codec.specs.ByteRanges.{range_indices, SameByte}
 use Rattle.zarrs_codec.specs.ByteSpan.{ByteSpan}
 use Rattle.zarrs_codec.specs.BytesToBytesCodec.{BytesCodecs}
 use Rattle.zarrs_codec.specs.CoordinateMap.{CoordinateMap, IsCoordinateMap, inverse_map, moved_chunk}
-use Rattle.zarrs_codec.specs.StorageState.{are_sure}
+use Rattle.zarrs_codec.specs.StorageState.{are_sure, value_indices}
 use Rattle.zarrs_codec.specs.declared.bytes_representation.BytesRepresentation.{BytesRepresentation}
 use Rattle.zarrs_codec.specs.declared.capabilities.PartialDecoderCapability.{PartialDecoderCapability}
 use Rattle.zarrs_array_regions.specs.PlaceReaders.{ReadsInAnyOrder, brought_back}
@@ -31,17 +31,17 @@ use Rattle.zarrs_chain_meaning.proofs.ArraySteps.{ok_is}
 use Rattle.zarrs_chain_meaning.specs.Chain.{codec_reads}
 use Rattle.zarrs_chain_meaning.specs.CodecFacts.{facts, Facts, bytes_facts, packbits_facts, reads_all_if, shard_facts, whole_facts}
 use Rattle.zarrs_chain_meaning.specs.CodecMeaning.{codec_chunk, codec_representation, HasMappings, meaning, bytes_meaning, packbits_meaning}
-use Rattle.zarrs_chain_meaning.specs.Meaning.{Decoder, Meaning, through}
+use Rattle.zarrs_chain_meaning.specs.Meaning.{Meaning, through}
 use Rattle.zarrs_chain_meaning.specs.PlainChain.{PlainCodec, bytes_codec, packbits_codec, vlen_v2_codec, vlen_codec, optional_codec, sharding_codec}
 use Rattle.zarrs_chain_meaning.specs.sharding.Sharding.{shard_meaning}
 use Rattle.zarrs_chain_meaning.specs.vlen.PlainForm.{PlainForm}
-use Rattle.zarrs_chain_meaning.specs.vlen.PlainVlen.{plain_form_of, is_plain}
+use Rattle.zarrs_chain_meaning.specs.vlen.PlainVlen.{plain_form_of}
 use Rattle.zarrs_plain_vlen.specs.PlainRead.{plain_read}
 use Rattle.zarrs_plain_vlen.specs.VlenRead.{stored_rests_on}
 use Rattle.zarrs_codec_chain.proofs.PlaceCodecs.{bytes_places, packbits_places, vlen_places, whole_places}
 use Rattle.zarrs_codec_chain.proofs.ShardPlaces.{shard_places, through_places}
-use Rattle.zarrs_codec_chain.specs.CodecPart.{part_of, codec_read, codec_rests_on, form_rests_on, Part, bytes_part, packbits_part, shard_part, vlen_part, whole_part}
-use Rattle.zarrs_codec_chain.specs.PartRead.{read_by_form, whole_read}
+use Rattle.zarrs_codec_chain.specs.CodecPart.{part_of, codec_read, codec_rests_on, Part, bytes_part, packbits_part, shard_part, vlen_part, whole_part}
+use Rattle.zarrs_codec_chain.specs.PartRead.{whole_read}
 use Rattle.zarrs_codec_chain.specs.PlaceLaws.{SameMembers, ReadsEach, IsLawfulReader}
 
 -- ---- the laws
@@ -66,7 +66,7 @@ pub record IsBytes {B : Type 0} (m : Meaning B) (p : Part B) (order : Option End
   pub means : m ≡ bytes_meaning order
   pub does : p ≡ bytes_part order
 
--- What is read of places, and what that rests on, keeps what is asked of it. Where it is planned, what places rest on doesn't go by what is stored, values that agree there are read alike, and the ranges have these bytes. What is planned is read in part; a codec reads all in part, or nothing and then by the whole chunk; where it has a plain form, by that. Only `bytes` replaces its places' bytes alone.
+-- What is read of places, and what that rests on, keeps what is asked of it. Where it is planned, what places rest on doesn't go by what is stored, values that agree there are read alike, and the ranges have these bytes. What is planned is read in part; a codec reads all in part, or nothing and then by the whole chunk, of all bytes; where it has a plain form, by that. Only `bytes` replaces its places' bytes alone.
 pub record IsLawfulPart {B : Type 0} (m : Meaning B) (x : Facts) (p : Part B) : Type 1 where
   pub places : (f : BytesCodecs B) → IsLawfulReader f m (p.read f) (p.rests_on f)
   pub rests_alike : (f : BytesCodecs B) (sizes : List ℕ) (type : ElementType) (fill : List ℕ) (stored : Option (List ℕ)) (places : List ℕ) → p.plans ≡ true → p.rests_on f sizes type fill None places ≡ p.rests_on f sizes type fill stored places
@@ -75,24 +75,29 @@ pub record IsLawfulPart {B : Type 0} (m : Meaning B) (x : Facts) (p : Part B) : 
   pub plans_ask : p.plans ≡ true → x.reads.partial_decode ≡ true
   pub reads_all : x.reads ≡ reads_all_if x.reads.partial_decode
   pub wholly : (f : BytesCodecs B) (sizes : List ℕ) (type : ElementType) (fill : List ℕ) (stored : Option (List ℕ)) (places : List ℕ) → x.reads.partial_decode ≡ false → p.read f sizes type fill stored places ≡ whole_read (m.chunk f) sizes type fill stored places
+  pub rests_wholly : (f : BytesCodecs B) (sizes : List ℕ) (type : ElementType) (fill : List ℕ) (stored : Option (List ℕ)) (places : List ℕ) → x.reads.partial_decode ≡ false → p.rests_on f sizes type fill stored places ≡ Ok (value_indices stored)
   pub plainly : (f : BytesCodecs B) (form : PlainForm) (sizes : List ℕ) (type : ElementType) (fill : List ℕ) (stored : Option (List ℕ)) (places : List ℕ) → x.plain ≡ Some form → p.read f sizes type fill stored places ≡ plain_read form (product sizes) type fill stored places
   pub rests_plainly : (f : BytesCodecs B) (form : PlainForm) (sizes : List ℕ) (type : ElementType) (fill : List ℕ) (stored : Option (List ℕ)) (places : List ℕ) → x.plain ≡ Some form → p.rests_on f sizes type fill stored places ≡ Ok (stored_rests_on form (product sizes) stored places)
   pub in_place : (order : Option Endianness) → p.in_place ≡ Some order → IsBytes m p order
 
 -- ---- read whole
 
+reads_if : (reads : PartialDecoderCapability) (test : Bool) → reads ≡ reads_all_if test → reads ≡ reads_all_if reads.partial_decode
+reads_if reads test e = e ∙ ap (λ (r : PartialDecoderCapability). reads_all_if r.partial_decode) (sym e)
+
 -- a codec that is read whole keeps them, whatever it means
-pub whole_part_laws : {B : Type 0} (m : Meaning B) → IsLawfulPart m whole_facts (whole_part m)
-whole_part_laws m = record {
+pub whole_part_laws : {B : Type 0} (m : Meaning B) (x : Facts) → x.reads ≡ reads_all_if false → x.plain ≡ None → IsLawfulPart m x (whole_part m)
+whole_part_laws m x reads none = record {
   places = λ f. whole_places f m;
   rests_alike = λ f sizes type fill stored places plans. absurd cc;
   alike = λ f value other sizes type fill places numbers plans. absurd cc;
   planned_bytes = λ f sizes type fill places ranges plan. absurd plan;
   plans_ask = λ plans. absurd cc;
-  reads_all = refl;
+  reads_all = reads_if x.reads false reads;
   wholly = λ f sizes type fill stored places e. refl;
-  plainly = λ f form sizes type fill stored places e. absurd cc;
-  rests_plainly = λ f form sizes type fill stored places e. absurd cc;
+  rests_wholly = λ f sizes type fill stored places e. refl;
+  plainly = λ f form sizes type fill stored places e. absurd (let none = none in cc);
+  rests_plainly = λ f form sizes type fill stored places e. absurd (let none = none in cc);
   in_place = λ order e. absurd cc;
 }
 
@@ -115,6 +120,7 @@ bytes_part_laws order = record {
   plans_ask = λ plans. refl;
   reads_all = refl;
   wholly = λ f sizes type fill stored places e. absurd cc;
+  rests_wholly = λ f sizes type fill stored places e. absurd cc;
   plainly = λ f form sizes type fill stored places e. absurd cc;
   rests_plainly = λ f form sizes type fill stored places e. absurd cc;
   in_place = λ other e. record { means = ap bytes_meaning (order_is order other e); does = ap bytes_part (order_is order other e) };
@@ -142,6 +148,7 @@ packbits_part_laws settings = record {
   plans_ask = λ plans. refl;
   reads_all = refl;
   wholly = λ f sizes type fill stored places e. absurd cc;
+  rests_wholly = λ f sizes type fill stored places e. absurd cc;
   plainly = λ f form sizes type fill stored places e. absurd cc;
   rests_plainly = λ f form sizes type fill stored places e. absurd cc;
   in_place = λ order e. absurd cc;
@@ -152,34 +159,20 @@ packbits_part_laws settings = record {
 some_is : (x y : PlainForm) → Some x ≡ Some y → x ≡ y
 some_is x y e = cc
 
-by_form : (found : Option PlainForm) (form : PlainForm) (decode : Decoder) (sizes : List ℕ) (type : ElementType) (fill : List ℕ) (stored : Option (List ℕ)) (places : List ℕ) → found ≡ Some form
-    → read_by_form found decode sizes type fill stored places ≡ plain_read form (product sizes) type fill stored places
-by_form None form decode sizes type fill stored places e = absurd cc
-by_form (Some x) form decode sizes type fill stored places e = ap (λ (y : PlainForm). plain_read y (product sizes) type fill stored places) (some_is x form e)
-
-rests_by_form : (found : Option PlainForm) (form : PlainForm) (count : ℕ) (stored : Option (List ℕ)) (places : List ℕ) → found ≡ Some form → form_rests_on found count stored places ≡ stored_rests_on form count stored places
-rests_by_form None form count stored places e = absurd cc
-rests_by_form (Some x) form count stored places e = ap (λ (y : PlainForm). stored_rests_on y count stored places) (some_is x form e)
-
-form_wholly : (form : Option PlainForm) (decode : Decoder) (sizes : List ℕ) (type : ElementType) (fill : List ℕ) (stored : Option (List ℕ)) (places : List ℕ) → is_some form ≡ false → read_by_form form decode sizes type fill stored places ≡ whole_read decode sizes type fill stored places
-form_wholly None decode sizes type fill stored places e = refl
-form_wholly (Some form) decode sizes type fill stored places e = absurd cc
-
-reads_if : (reads : PartialDecoderCapability) (test : Bool) → reads ≡ reads_all_if test → reads.partial_decode ≡ test
-reads_if reads test e = ap (λ (r : PartialDecoderCapability). r.partial_decode) e
-
 -- where it reads in part exactly if it is plain, whatever is in it
-vlen_part_laws : {B : Type 0} (codec : PlainCodec B) → codec_reads codec ≡ reads_all_if (is_plain codec) → IsLawfulPart (meaning codec) (facts codec) (vlen_part (plain_form_of codec) (meaning codec))
-vlen_part_laws codec reads = record {
-  places = λ f. vlen_places f codec;
+vlen_part_laws : {B : Type 0} (codec : PlainCodec B) (form : Option PlainForm) → plain_form_of codec ≡ form → codec_reads codec ≡ reads_all_if (is_some form) → IsLawfulPart (meaning codec) (facts codec) (vlen_part form (meaning codec))
+vlen_part_laws codec None p reads = whole_part_laws (meaning codec) (facts codec) reads p
+vlen_part_laws codec (Some form) p reads = record {
+  places = λ f. vlen_places f codec (Some form) p;
   rests_alike = λ f sizes type fill stored places plans. absurd cc;
   alike = λ f value other sizes type fill places numbers plans. absurd cc;
   planned_bytes = λ f sizes type fill places ranges plan. absurd plan;
   plans_ask = λ plans. absurd cc;
-  reads_all = reads ∙ ap reads_all_if (sym (reads_if (codec_reads codec) (is_plain codec) reads));
-  wholly = λ f sizes type fill stored places e. form_wholly (plain_form_of codec) (codec_chunk f codec) sizes type fill stored places (sym (reads_if (codec_reads codec) (is_plain codec) reads) ∙ e);
-  plainly = λ f form sizes type fill stored places e. by_form (plain_form_of codec) form (codec_chunk f codec) sizes type fill stored places e;
-  rests_plainly = λ f form sizes type fill stored places e. ap ok (rests_by_form (plain_form_of codec) form (product sizes) stored places e);
+  reads_all = reads_if (codec_reads codec) true reads;
+  wholly = λ f sizes type fill stored places e. absurd cc;
+  rests_wholly = λ f sizes type fill stored places e. absurd cc;
+  plainly = λ f other sizes type fill stored places e. ap (λ (x : PlainForm). plain_read x (product sizes) type fill stored places) (some_is form other (sym p ∙ e));
+  rests_plainly = λ f other sizes type fill stored places e. ap (λ (x : PlainForm). ok (stored_rests_on x (product sizes) stored places)) (some_is form other (sym p ∙ e));
   in_place = λ order e. absurd cc;
 }
 
@@ -196,6 +189,7 @@ shard_part_laws arrays m p outer index shape at_end laws = record {
   plans_ask = λ plans. absurd cc;
   reads_all = refl;
   wholly = λ f sizes type fill stored places e. absurd cc;
+  rests_wholly = λ f sizes type fill stored places e. absurd cc;
   plainly = λ f form sizes type fill stored places e. absurd cc;
   rests_plainly = λ f form sizes type fill stored places e. absurd cc;
   in_place = λ order e. absurd cc;
@@ -208,9 +202,9 @@ pub part_laws : {B : Type 0} (codec : PlainCodec B) → IsLawfulPart (meaning co
 unfolding meaning
 part_laws (bytes_codec order) = bytes_part_laws order
 part_laws (packbits_codec settings) = packbits_part_laws settings
-part_laws (vlen_v2_codec codec) = whole_part_laws (meaning (vlen_v2_codec codec))
-part_laws (vlen_codec ia ix ib da dx db wide at_end) = vlen_part_laws (vlen_codec ia ix ib da dx db wide at_end) refl
-part_laws (optional_codec ma mx mb da dx db) = whole_part_laws (meaning (optional_codec ma mx mb da dx db))
+part_laws (vlen_v2_codec codec) = whole_part_laws (meaning (vlen_v2_codec codec)) whole_facts refl refl
+part_laws (vlen_codec ia ix ib da dx db wide at_end) = vlen_part_laws (vlen_codec ia ix ib da dx db wide at_end) (plain_form_of (vlen_codec ia ix ib da dx db wide at_end)) refl refl
+part_laws (optional_codec ma mx mb da dx db) = whole_part_laws (meaning (optional_codec ma mx mb da dx db)) whole_facts refl refl
 part_laws (sharding_codec sa sx sb ia ix ib shape at_end) = shard_part_laws sa (meaning sx) (part_of sx) sb (through ia (meaning ix) ib) shape at_end (part_laws sx).places
 
 -- ---- what follows

@@ -1,23 +1,19 @@
 -- What is read of a value in a span through a codec that isn't `sharding_indexed`.
-use Rattle.std.proofs.Common.{◌≡◌, ℕ, false, Option, Some, None, List, [], Result, Ok, Bor, refl, ap, subst}
+use Rattle.std.proofs.Common.{◌≡◌, ℕ, false, Option, Some, List, [], Result, Bor, refl, ap, subst}
 use Rattle.std.specs.Option.{option_map}
-use Rattle.std.specs.Prelude.{is_some}
 use Rattle.zarrs_array_bytes.specs.Elements.{select}
 use Rattle.zarrs_array_bytes.specs.Held.{Held}
 use Rattle.zarrs_array_bytes.specs.Validity.{Holds}
 use Rattle.zarrs_chain_meaning.specs.Chain.{codec_reads}
 use Rattle.zarrs_chain_meaning.specs.CodecMeaning.{codec_chunk}
-use Rattle.zarrs_chain_meaning.specs.PlainChain.{PlainChain, PlainCodec, bytes_codec, packbits_codec, vlen_v2_codec, vlen_codec, optional_codec, sharding_codec}
-use Rattle.zarrs_chain_meaning.specs.vlen.PlainForm.{PlainForm}
-use Rattle.zarrs_chain_meaning.specs.vlen.PlainVlen.{plain_form_of}
+use Rattle.zarrs_chain_meaning.specs.PlainChain.{PlainChain, PlainCodec}
 use Rattle.zarrs_chunk.specs.Answer.{AnswersBy, memory, memory_or_fault, seen}
-use Rattle.zarrs_chunk.specs.ChunkShape.{product}
 use Rattle.zarrs_codec.specs.BytesToBytesCodec.{BytesCodecs}
-use Rattle.zarrs_codec.specs.StorageState.{StorageState, value_indices}
+use Rattle.zarrs_codec.specs.StorageState.{StorageState}
 use Rattle.zarrs_codec.specs.declared.bytes_representation.BytesRepresentation.TheVariants.{UnboundedSize}
 use Rattle.zarrs_codec_chain.proofs.SpanChains.{moved_alone}
 use Rattle.zarrs_codec_chain.proofs.WholeReads.{whole_answer}
-use Rattle.zarrs_codec_chain.specs.CodecPart.{codec_read, codec_rests_on, form_rests_on}
+use Rattle.zarrs_codec_chain.specs.CodecPart.{codec_read}
 use Rattle.zarrs_codec_chain.specs.SpanReads.{held_state, seen_state}
 use Rattle.zarrs_codec_chain.specs.declared.sharding.value_span.ValueSpan.{ValueSpan}
 use Rattle.zarrs_data_type.specs.ElementType.{ElementType}
@@ -27,20 +23,7 @@ use Rattle.zarrs_lent_handles.specs.SpanHandle.{span_state, spanned}
 abbrev pub lone_chain : {B : Type 0} → PlainCodec B → PlainChain B
 lone_chain codec = record { array_to_array = []; array_to_bytes = codec; bytes_to_bytes = [] }
 
-form_wholly : (form : Option PlainForm) (count : ℕ) (stored : Option (List ℕ)) (places : List ℕ) → is_some form ≡ false → form_rests_on form count stored places ≡ value_indices stored
-form_wholly None count stored places e = refl
-form_wholly (Some form) count stored places e = absurd cc
-
--- a codec that reads no part rests on all bytes
-pub rests_wholly : {B : Type 0} (f : BytesCodecs B) (codec : PlainCodec B) (sizes : List ℕ) (type : ElementType) (fill : List ℕ) (stored : Option (List ℕ)) (places : List ℕ) → (codec_reads codec).partial_decode ≡ false → codec_rests_on f codec sizes type fill stored places ≡ Ok (value_indices stored)
-rests_wholly f (bytes_codec order) sizes type fill stored places e = absurd cc
-rests_wholly f (packbits_codec settings) sizes type fill stored places e = absurd cc
-rests_wholly f (vlen_v2_codec codec) sizes type fill stored places e = refl
-rests_wholly f (vlen_codec ia ix ib da dx db wide at_end) sizes type fill stored places e = ap (λ (ns : List ℕ). Ok ns) (form_wholly (plain_form_of (vlen_codec ia ix ib da dx db wide at_end)) (product sizes) stored places e)
-rests_wholly f (optional_codec ma mx mb da dx db) sizes type fill stored places e = refl
-rests_wholly f (sharding_codec sa sx sb ia ix ib shape at_end) sizes type fill stored places e = absurd cc
-
--- and answers by the whole chunk
+-- a codec that reads no part answers by the whole chunk
 pub wholly_answered : {B : Type 0} (f : BytesCodecs B) (codec : PlainCodec B) (sizes : List ℕ) (type : ElementType) (fill : List ℕ) (stored : Option (List ℕ)) (value places : List ℕ) (result : Result Held _) → (codec_reads codec).partial_decode ≡ false → stored ≡ Some value
     → AnswersBy memory (Holds type) result (seen (λ chunk. select chunk places) (codec_chunk f codec sizes type fill value)) → AnswersBy memory_or_fault (Holds type) result (codec_read f codec sizes type fill stored places)
 wholly_answered f codec sizes type fill stored value places result whole is h =

@@ -36,3 +36,5 @@ pub mod SpanChains
 pub mod LeafReads
 pub mod WholeSpans
 pub mod ShardParts
+pub mod GroupedShards
+pub mod GroupSteps

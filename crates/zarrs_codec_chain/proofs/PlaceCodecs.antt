@@ -28,8 +28,8 @@ use Rattle.zarrs_codec.specs.declared.bytes_representation.BytesRepresentation.T
 use Rattle.zarrs_codec_chain.proofs.ShardPlaces.{all_same}
 use Rattle.zarrs_codec_chain.proofs.ShardReads.{no_refusal, same_element, then_each}
 use Rattle.zarrs_codec_chain.proofs.SizedAlike.{Agree, bytes_sized, packed_sized}
-use Rattle.zarrs_codec_chain.specs.CodecPart.{bytes_part, form_rests_on, packbits_part, vlen_part, whole_part}
-use Rattle.zarrs_codec_chain.specs.PartRead.{read_by_form, whole_read}
+use Rattle.zarrs_codec_chain.specs.CodecPart.{bytes_part, packbits_part, vlen_part, whole_part}
+use Rattle.zarrs_codec_chain.specs.PartRead.{whole_read}
 use Rattle.zarrs_codec_chain.specs.PlaceLaws.{SameMembers, ReadsEach, RestsEach, IsSame, ReadsBy, IsLawfulReader, whole_rests}
 use Rattle.zarrs_data_type.specs.Element.{absent, Chunk, fill_element, plain}
 use Rattle.zarrs_data_type.specs.ElementType.{ElementType}
@@ -43,8 +43,9 @@ use Rattle.zarrs_packbits.specs.PaddingByte.{value_len}
 use Rattle.zarrs_packbits.specs.PartialRead.{all_below, packed_place_bytes, packed_places_bytes, read_packed_places, read_places_of}
 use Rattle.zarrs_plain_vlen.proofs.Alike.{reads_alike}
 use Rattle.zarrs_plain_vlen.proofs.Selected.{decoded_selects}
+use Rattle.zarrs_plain_vlen.specs.PlainRead.{plain_read}
 use Rattle.zarrs_plain_vlen.specs.VlenLayout.{VlenLayout, layout_of, span_bytes, span_numbers}
-use Rattle.zarrs_plain_vlen.specs.VlenRead.{element_is_there, element_numbers, elements_at, elements_read, head_numbers, numbers_or_none, offsets_read, rests_on}
+use Rattle.zarrs_plain_vlen.specs.VlenRead.{element_is_there, element_numbers, elements_at, elements_read, head_numbers, numbers_or_none, offsets_read, rests_on, stored_rests_on}
 
 -- ---- numbers place by place
 
@@ -164,25 +165,11 @@ elements_each offsets content = record {
   is = λ places. refl;
 }
 
-form_each : (form : Option PlainForm) (decode : Decoder) (sizes : List ℕ) (type : ElementType) (fill : List ℕ) (stored : Option (List ℕ)) → ReadsEach (read_by_form form decode sizes type fill stored)
-form_each None decode sizes type fill stored = whole_each decode sizes type fill stored
-form_each (Some form) decode sizes type fill None = same_element (fill_element type fill)
-form_each (Some form) decode sizes type fill (Some value) =
-    then_each (vlen_value_parts form.at_end value) (λ parts places. offsets_read form (product sizes) parts.0 >>= λ offsets. elements_read offsets parts.1 places)
-    (λ parts. then_each (offsets_read form (product sizes) parts.0) (λ offsets places. elements_read offsets parts.1 places) (λ offsets. elements_each offsets parts.1))
-
--- where nothing is stored a `vlen`, plain or not, reads fill elements
-form_fills : (form : Option PlainForm) (decode : Decoder) (sizes : List ℕ) (type : ElementType) (fill places : List ℕ) → read_by_form form decode sizes type fill None places ≡ Ok (map (λ _. fill_element type fill) places)
-form_fills None decode sizes type fill places = refl
-form_fills (Some form) decode sizes type fill places = refl
-
--- of a value that it reads as a chunk, a `vlen`, plain or not, reads the chunk's elements
-form_selects : {B : Type 0} (f : BytesCodecs B) (codec : PlainCodec B) (form : Option PlainForm) (sizes : List ℕ) (type : ElementType) (fill value : List ℕ) (chunk : Chunk) (places : List ℕ) → plain_form_of codec ≡ form
-    → codec_chunk f codec sizes type fill value ≡ Ok chunk → All (λ place. place < product sizes) places → read_by_form form (codec_chunk f codec) sizes type fill (Some value) places ≡ Ok (select chunk places)
-form_selects f codec None sizes type fill value chunk places p e h = selected_of (codec_chunk f codec sizes type fill value) chunk places e
-form_selects {B} f codec (Some form) sizes type fill value chunk places p e h =
-    let plain = plain_is_plain B codec form p in
-    decoded_selects f form plain.0 sizes type fill value chunk places (subst (λ (c : PlainCodec B). codec_chunk f c sizes type fill value ≡ Ok chunk) plain.1 e) h
+plain_each : (form : PlainForm) (count : ℕ) (type : ElementType) (fill : List ℕ) (stored : Option (List ℕ)) → ReadsEach (plain_read form count type fill stored)
+plain_each form count type fill None = same_element (fill_element type fill)
+plain_each form count type fill (Some value) =
+    then_each (vlen_value_parts form.at_end value) (λ parts places. offsets_read form count parts.0 >>= λ offsets. elements_read offsets parts.1 places)
+    (λ parts. then_each (offsets_read form count parts.0) (λ offsets places. elements_read offsets parts.1 places) (λ offsets. elements_each offsets parts.1))
 
 appended_same : (test : ℕ → Bool) (front one other : List ℕ) → list_all test one ≡ list_all test other → list_all test (front ++ one) ≡ list_all test (front ++ other)
 appended_same test front one other e = list_all-append test front one ∙ ap (λ (b : Bool). list_all test front && b) e ∙ sym (list_all-append test front other)
@@ -206,22 +193,21 @@ module _ (test : ℕ → Bool) (ps qs : List ℕ) (same : SameMembers ps qs) whe
       let other = numbers_or_none (elements_at form count value qs) in
       appended_same test head (index ++ one) (index ++ other) (appended_same test index one other (by_layout form count value (layout_of form.at_end value)))
 
-form_rests : (form : Option PlainForm) (count : ℕ) (stored : Option (List ℕ)) → RestsEach (λ places. Ok (form_rests_on form count stored places))
-form_rests None count stored ps qs same test = refl
-form_rests (Some form) count None ps qs same test = refl
-form_rests (Some form) count (Some value) ps qs same test = ap (λ (b : Bool). ok b) (by_value test ps qs same form count value)
+plain_rests : (form : PlainForm) (count : ℕ) (stored : Option (List ℕ)) → RestsEach (λ places. Ok (stored_rests_on form count stored places))
+plain_rests form count None ps qs same test = refl
+plain_rests form count (Some value) ps qs same test = ap (λ (b : Bool). ok b) (by_value test ps qs same form count value)
 
-form_local : (form : Option PlainForm) (decode : Decoder) → ReadsBy (read_by_form form decode) (λ sizes type fill stored places. Ok (form_rests_on form (product sizes) stored places))
-form_local None decode sizes type fill value other places numbers l e h = whole_local decode sizes type fill value other places numbers l e h
-form_local (Some form) decode sizes type fill value other places numbers l e h =
-    reads_alike form (product sizes) value other places l (subst (All (IsSame value other)) (sym (ok_is (rests_on form (product sizes) value places) numbers e)) h)
-
-pub vlen_places : {B : Type 0} (f : BytesCodecs B) (codec : PlainCodec B) → IsLawfulReader f (meaning codec) ((vlen_part (plain_form_of codec) (meaning codec)).read f) ((vlen_part (plain_form_of codec) (meaning codec)).rests_on f)
-vlen_places f codec = record {
-  fills = λ sizes type fill r places e. form_fills (plain_form_of codec) (codec_chunk f codec) sizes type fill places;
-  selects = λ mapped sizes type fill value r chunk places positive t e below. form_selects f codec (plain_form_of codec) sizes type fill value chunk places refl e below;
-  each = form_each (plain_form_of codec) (codec_chunk f codec);
-  rests_each = λ sizes type fill stored. form_rests (plain_form_of codec) (product sizes) stored;
+-- by its plain form, or as it is read whole
+pub vlen_places : {B : Type 0} (f : BytesCodecs B) (codec : PlainCodec B) (form : Option PlainForm) → plain_form_of codec ≡ form → IsLawfulReader f (meaning codec) ((vlen_part form (meaning codec)).read f) ((vlen_part form (meaning codec)).rests_on f)
+vlen_places f codec None p = whole_places f (meaning codec)
+vlen_places {B} f codec (Some form) p = record {
+  fills = λ sizes type fill r places e. refl;
+  selects = λ mapped sizes type fill value r chunk places positive t e below.
+      let plain = plain_is_plain B codec form p in
+      decoded_selects f form plain.0 sizes type fill value chunk places (subst (λ (c : PlainCodec B). codec_chunk f c sizes type fill value ≡ Ok chunk) plain.1 e) below;
+  each = λ sizes. plain_each form (product sizes);
+  rests_each = λ sizes type fill stored. plain_rests form (product sizes) stored;
   rests_found = λ sizes type fill r stored places e. refl;
-  local = form_local (plain_form_of codec) (codec_chunk f codec);
+  local = λ sizes type fill value other places numbers l e h.
+      reads_alike form (product sizes) value other places l (subst (All (IsSame value other)) (sym (ok_is (rests_on form (product sizes) value places) numbers e)) h);
 }

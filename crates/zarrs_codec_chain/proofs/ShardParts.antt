@@ -13,7 +13,7 @@ use Rattle.zarrs_chain_meaning.specs.ArrayStages.{arrays_map}
 use Rattle.zarrs_chain_meaning.specs.BytesStages.{outer_bytes}
 use Rattle.zarrs_chain_meaning.specs.Chain.{taken_form}
 use Rattle.zarrs_chain_meaning.specs.CodecMeaning.{codec_representation}
-use Rattle.zarrs_chain_meaning.specs.PlainChain.{PlainChain}
+use Rattle.zarrs_chain_meaning.specs.PlainChain.{PlainChain, PlainCodec, sharding_codec_of}
 use Rattle.zarrs_chain_meaning.specs.sharding.InnerChunks.{grid, is_divided}
 use Rattle.zarrs_chain_meaning.specs.sharding.ShardSteps.{divided_grid}
 use Rattle.zarrs_chain_meaning.specs.sharding.Sharding.{Span, is_stored}
@@ -22,12 +22,15 @@ use Rattle.zarrs_chunk.specs.declared.codec_error.CodecError.{CodecError}
 use Rattle.zarrs_chunk.specs.declared.codec_error.CodecError.TheVariants.{IncompatibleDimensionality, IndivisibleShape}
 use Rattle.zarrs_codec.specs.BytesToBytesCodec.{BytesCodecs}
 use Rattle.zarrs_codec.specs.CountLaws.{passed}
+use Rattle.zarrs_codec.specs.StorageState.{StorageState}
 use Rattle.zarrs_codec_chain.proofs.GroupWalks.{places_of_groups, span_count}
-use Rattle.zarrs_codec_chain.proofs.ShardSpans.{is_shard}
+use Rattle.zarrs_codec_chain.proofs.ShardSpans.{StoredShard, is_shard, shard_takes}
+use Rattle.zarrs_codec_chain.proofs.SpanSeen.{stands_value}
 use Rattle.zarrs_codec_chain.specs.CodecPart.{codec_read, part_of}
 use Rattle.zarrs_codec_chain.specs.PartRead.{AnswersEach, PlaceReader}
 use Rattle.zarrs_codec_chain.specs.ShardRead.{groups_read, span_read}
-use Rattle.zarrs_codec_chain.specs.SpanReads.{chain_read}
+use Rattle.zarrs_codec_chain.specs.SpanReads.{StandsIn, chain_read, seen_state}
+use Rattle.zarrs_codec_chain.specs.declared.sharding.value_span.ValueSpan.{ValueSpan}
 use Rattle.zarrs_data_type.specs.Element.{Chunk, fill_element}
 use Rattle.zarrs_data_type.specs.ElementType.{ElementType}
 
@@ -66,20 +69,29 @@ groups_long read each shape type fill value spans (one ∷ groups) chunk e =
 grid_by : (same even : Bool) (counts : List ℕ) → same ≡ true → even ≡ true → (demand same IncompatibleDimensionality >>= λ _. demand even IndivisibleShape >>= λ _. ok counts) ≡ Ok counts
 grid_by same even counts s e = rw (s, e) refl
 
-pub grid_known : {B : Type 0} (f : BytesCodecs B) (inner index : CodecChain B) (shape sizes : List ℕ) (type : ElementType) (fill : List ℕ) → IsOk (shard_represented f inner index shape sizes type fill) → divided_grid shape sizes ≡ Ok (grid shape sizes)
-grid_known f inner index shape sizes type fill h =
-    let known = from_ok (shard_represented f inner index shape sizes type fill) h in
-    let a = bind_ok (demand (length shape == length sizes) IncompatibleDimensionality) _ known.0 known.1 in
-    let b = bind_ok (demand (is_divided shape sizes) IndivisibleShape) _ known.0 a.2 in
-    grid_by (length shape == length sizes) (is_divided shape sizes) (grid shape sizes) (demand_ok (length shape == length sizes) IncompatibleDimensionality a.0 a.1) (demand_ok (is_divided shape sizes) IndivisibleShape b.0 b.1)
+module _ {B : Type 0} {f : BytesCodecs B} {codec : PlainCodec B} {inner index : CodecChain B} {shape : List ℕ} {at_end : Bool} {sizes : List ℕ} {type : ElementType} {fill : List ℕ} {state : StorageState} (shard : StoredShard f codec inner index shape at_end sizes type fill state) where
+  -- inner chunks divide the chunk
+  pub grid_known : divided_grid shape sizes ≡ Ok (grid shape sizes)
+  grid_known =
+      let known = from_ok (shard_represented f inner index shape sizes type fill) shard.taken in
+      let a = bind_ok (demand (length shape == length sizes) IncompatibleDimensionality) _ known.0 known.1 in
+      let b = bind_ok (demand (is_divided shape sizes) IndivisibleShape) _ known.0 a.2 in
+      grid_by (length shape == length sizes) (is_divided shape sizes) (grid shape sizes) (demand_ok (length shape == length sizes) IncompatibleDimensionality a.0 a.1) (demand_ok (is_divided shape sizes) IndivisibleShape b.0 b.1)
 
-pub index_measured : {B : Type 0} (f : BytesCodecs B) (inner index : CodecChain B) (shape sizes : List ℕ) (type : ElementType) (fill : List ℕ) → IsOk (shard_represented f inner index shape sizes type fill) → IsOk (index_size_of f index (grid shape sizes))
-index_measured f inner index shape sizes type fill h =
-    let s = is_shard f inner index shape sizes type fill h in
-    subst (λ (r : Result ℕ CodecError). IsOk r) (sym s.sized) refl
+  pub index_measured : IsOk (index_size_of f index (grid shape sizes))
+  index_measured =
+      let s = is_shard f inner index shape sizes type fill shard.taken in
+      subst (λ (r : Result ℕ CodecError). IsOk r) (sym s.sized) refl
 
--- the inner chain takes inner chunks
-pub inner_taken : {B : Type 0} (f : BytesCodecs B) (inner index : CodecChain B) (shape sizes : List ℕ) (type : ElementType) (fill : List ℕ) (error : CodecError) → IsOk (shard_represented f inner index shape sizes type fill) → taken_form f (plain_chain inner) shape type fill ≡ Err error → ⊥
-inner_taken f inner index shape sizes type fill error h e =
-    let s = is_shard f inner index shape sizes type fill h in
-    ok_no_err s.inner_size error (sym s.inner_is ∙ refused_representation f (plain_chain inner) shape type fill error e)
+  -- the inner chain takes inner chunks
+  pub inner_taken : (error : CodecError) → taken_form f (plain_chain inner) shape type fill ≡ Err error → ⊥
+  inner_taken error e =
+      let s = is_shard f inner index shape sizes type fill shard.taken in
+      ok_no_err s.inner_size error (sym s.inner_is ∙ refused_representation f (plain_chain inner) shape type fill error e)
+
+-- a shard of a codec with these parts that takes the chunk, in a span
+pub stored_shard : {B : Type 0} (f : BytesCodecs B) (codec : PlainCodec B) (inner index : CodecChain B) (shape : List ℕ) (at_end : Bool) (sizes : List ℕ) (type : ElementType) (fill : List ℕ) (span : ValueSpan) (state : StorageState) → codec ≡ sharding_codec_of (plain_chain inner) (plain_chain index) shape at_end
+    → is_ok (codec_representation f codec sizes type fill) ≡ true → StandsIn span state → StoredShard f codec inner index shape at_end sizes type fill (seen_state span state)
+stored_shard f codec inner index shape at_end sizes type fill span state is takes stands =
+    let there = stands_value span state stands in
+    record { is = is; taken = shard_takes f codec inner index shape at_end sizes type fill is (is_ok_so (codec_representation f codec sizes type fill) takes); value = there.value; value_is = there.is }

@@ -1,13 +1,10 @@
 -- What is read of a shard that stands in a span: by its index and its groups.
-use Rattle.std.proofs.Common.{◌≡◌, ℕ, ◌+◌, ◌<◌, ◌^◌, nat_le, Bool, true, Option, Some, get_or, List, length, map, Result, Ok, Err, arith, refl, ap, sym, subst, ◌∙◌}
-use Rattle.std.specs.List.{All, flat_map, range_with_len}
-use Rattle.std.specs.Prelude.{IsOk, IsOkAnd}
+use Rattle.std.proofs.Common.{◌≡◌, ℕ, ◌+◌, ◌<◌, nat_le, Bool, true, Option, Some, get_or, List, length, Result, Ok, Err, arith, refl, ap, sym, subst, ◌∙◌}
+use Rattle.std.specs.List.{range_with_len}
+use Rattle.std.specs.Prelude.{IfOk, IsOk}
 use Rattle.std.proofs.lemmas.List.{ext_get_or}
-use Rattle.std.proofs.lemmas.List.Folds.{flat_map-map}
 use Rattle.std.proofs.lemmas.List.FromFn.{get_or-map-range_with_len, length-range_with_len}
 use Rattle.zarrs_array_bytes.specs.Elements.{select}
-use Rattle.zarrs_array_bytes.specs.Held.{Held}
-use Rattle.zarrs_array_bytes.specs.Validity.{Holds}
 use Rattle.zarrs_array_to_array.proofs.CoordinateMaps.{length-select}
 use Rattle.zarrs_bytes.proofs.Coding.{ok}
 use Rattle.zarrs_chain.specs.ChainView.{plain_chain}
@@ -17,31 +14,23 @@ use Rattle.zarrs_chain_meaning.proofs.Answered.{from_ok}
 use Rattle.zarrs_chain_meaning.proofs.ShardNormal.{shard_taken}
 use Rattle.zarrs_chain_meaning.specs.CodecMeaning.{meaning, chain_chunk, chain_representation, codec_normal_element, codec_representation}
 use Rattle.zarrs_chain_meaning.specs.PlainChain.{PlainChain, PlainCodec, sharding_codec_of}
-use Rattle.zarrs_chain_meaning.specs.sharding.InnerChunks.{IsCut, grid, inner_chunk_count}
+use Rattle.zarrs_chain_meaning.specs.sharding.InnerChunks.{grid}
 use Rattle.zarrs_chain_meaning.specs.sharding.Sharding.{Span, is_stored, spanned_bytes}
-use Rattle.zarrs_chunk.specs.Answer.{◌>>=◌, AnswersBy, GivesBy, demand, memory, memory_or_fault}
-use Rattle.zarrs_chunk.specs.ChunkShape.{product}
-use Rattle.zarrs_chunk.specs.Runs.{joined_runs}
+use Rattle.zarrs_chunk.specs.Answer.{◌>>=◌, demand}
 use Rattle.zarrs_chunk.specs.declared.codec_error.CodecError.{CodecError}
 use Rattle.zarrs_chunk.specs.declared.codec_error.CodecError.TheVariants.{InvalidByteRange}
 use Rattle.zarrs_codec.specs.BytesToBytesCodec.{BytesCodecs}
 use Rattle.zarrs_codec.specs.StorageState.{StorageState, are_sure}
 use Rattle.zarrs_codec.specs.declared.bytes_representation.BytesRepresentation.{BytesRepresentation}
-use Rattle.zarrs_codec_chain.proofs.GroupWalks.{groups_below, grouped_count, numbers_below, places_of_groups}
-use Rattle.zarrs_codec_chain.proofs.GroupedReads.{ShardSure, grouped_read, chain_each, moved_sure, shard_sure, span_sure, spans_counted}
-use Rattle.zarrs_codec_chain.proofs.PlaceWrites.{memory_too}
+use Rattle.zarrs_codec_chain.proofs.GroupedReads.{ShardSure, moved_sure, shard_sure, span_sure}
 use Rattle.zarrs_codec_chain.proofs.SpanSeen.{HasValue, IsInside, inside_seen, span_value, stands_value}
 use Rattle.zarrs_codec_chain.specs.ChunkRead.{are_given_sure}
 use Rattle.zarrs_codec_chain.specs.CodecPart.{codec_read, codec_rests_on}
-use Rattle.zarrs_codec_chain.specs.PartRead.{PlaceReader}
-use Rattle.zarrs_codec_chain.specs.ShardRead.{groups_rest, span_read, span_rests, spans_by, spans_read, shard_rests}
-use Rattle.zarrs_codec_chain.specs.SpanReads.{AreInnerRuns, StandsIn, chain_read, chain_rests, inner_span, seen_state, span_parts, stored_groups_read, stored_groups_rest, stored_index_bytes, stored_span_read, stored_span_rests, stored_spans}
+use Rattle.zarrs_codec_chain.specs.ShardRead.{span_read, span_rests, spans_read, shard_rests}
+use Rattle.zarrs_codec_chain.specs.SpanReads.{StandsIn, chain_read, chain_rests, inner_span, seen_state, span_parts, stored_index_bytes, stored_span_read, stored_span_rests, stored_spans}
 use Rattle.zarrs_codec_chain.specs.declared.sharding.value_span.ValueSpan.{ValueSpan}
 use Rattle.zarrs_data_type.specs.Element.{absent, Chunk}
 use Rattle.zarrs_data_type.specs.ElementType.{ElementType}
-use Rattle.zarrs_shard_runs.specs.GroupedRuns.{AreGroups, IsReadingOrder, group}
-use Rattle.zarrs_shard_runs.specs.declared.grouped_runs.InnerRuns.{InnerRuns}
-use Rattle.zarrs_codec_chain.proofs.EditLaws.{found as ok_found}
 
 -- ---- one inner chunk
 
@@ -133,102 +122,43 @@ is_shard f inner index shape sizes type fill h =
     let t = shard_taken shape (codec_normal_element (plain_chain inner).array_to_bytes) (chain_representation f (plain_chain inner)) (chain_representation f (plain_chain index)) sizes type fill known.0 known.1 in
     record { size = t.size; sized = t.sized; inner_size = t.inner_size; inner_is = t.inner_is }
 
-module _ {B : Type 0} (f : BytesCodecs B) (codec : PlainCodec B) (inner index : CodecChain B) (shape : List ℕ) (at_end : Bool) (sizes : List ℕ) (type : ElementType) (fill : List ℕ) (is : codec ≡ sharding_codec_of (plain_chain inner) (plain_chain index) shape at_end) (state : StorageState) (value : List ℕ) (value_is : state.value ≡ Some value) (places : List ℕ) where
-  abbrev reading : PlaceReader
-  reading = chain_read f (plain_chain inner)
+-- The codec has these parts and takes such a chunk, and something is stored.
+pub record StoredShard {B : Type 0} (f : BytesCodecs B) (codec : PlainCodec B) (inner index : CodecChain B) (shape : List ℕ) (at_end : Bool) (sizes : List ℕ) (type : ElementType) (fill : List ℕ) (state : StorageState) : Type 0 where
+  pub is : codec ≡ sharding_codec_of (plain_chain inner) (plain_chain index) shape at_end
+  pub taken : IsOk (shard_represented f inner index shape sizes type fill)
+  pub value : List ℕ
+  pub value_is : state.value ≡ Some value
 
-  abbrev all_read : Result Chunk CodecError
+module _ {B : Type 0} {f : BytesCodecs B} {codec : PlainCodec B} {inner index : CodecChain B} {shape : List ℕ} {at_end : Bool} {sizes : List ℕ} {type : ElementType} {fill : List ℕ} {state : StorageState} (shard : StoredShard f codec inner index shape at_end sizes type fill state) (places : List ℕ) where
+  abbrev pub known : IsShard f inner index shape sizes type fill
+  known = is_shard f inner index shape sizes type fill shard.taken
+
+  abbrev pub all_read : Result Chunk CodecError
   all_read = codec_read f codec sizes type fill state.value places
 
   abbrev spans_found : Result (List Span) CodecError
   spans_found = stored_spans f (plain_chain index) shape at_end sizes state.value
 
-  by_spans : all_read ≡ (spans_found >>= λ spans. spans_read reading shape sizes type fill value places spans)
+  pub by_spans : all_read ≡ (spans_found >>= λ spans. spans_read (chain_read f (plain_chain inner)) shape sizes type fill shard.value places spans)
   by_spans =
-      (λ i. codec_read f (is i) sizes type fill (value_is i) places)
-      ∙ shard_is f (plain_chain inner) (plain_chain index) shape at_end sizes type fill value places
-      ∙ ap (λ (v : Option (List ℕ)). stored_spans f (plain_chain index) shape at_end sizes v >>= λ spans. spans_read reading shape sizes type fill value places spans) (sym value_is)
+      (λ i. codec_read f (shard.is i) sizes type fill (shard.value_is i) places)
+      ∙ shard_is f (plain_chain inner) (plain_chain index) shape at_end sizes type fill shard.value places
+      ∙ ap (λ (v : Option (List ℕ)). stored_spans f (plain_chain index) shape at_end sizes v >>= λ spans. spans_read (chain_read f (plain_chain inner)) shape sizes type fill shard.value places spans) (sym shard.value_is)
 
-  module _ (spans : List Span) (at : spans_found ≡ Ok spans) (size : ℕ) (sized : index_size_of f index (grid shape sizes) ≡ Ok size) (cut : IsCut shape sizes) (below : All (λ place. place < product sizes) places) where
-    spans_at : spans_by shape at_end (chain_chunk f (plain_chain index)) sizes value size ≡ Ok spans
-    spans_at =
-        ap (λ (r : Result ℕ CodecError). r >>= spans_by shape at_end (chain_chunk f (plain_chain index)) sizes value) (sym sized)
-        ∙ ap (λ (v : Option (List ℕ)). stored_spans f (plain_chain index) shape at_end sizes v) (sym value_is)
-        ∙ at
+  module _ (sure : are_given_sure state.sure (codec_rests_on f codec sizes type fill state.value places) ≡ true) where
+    given : (r : Result (List ℕ) CodecError) → are_given_sure state.sure r ≡ true → (numbers : List ℕ) × (r ≡ Ok numbers) × (are_sure state.sure numbers ≡ true)
+    given (Ok numbers) h = (numbers, refl, h)
+    given (Err error) h = absurd cc
 
-    pub counted : length spans ≡ inner_chunk_count shape sizes
-    counted = spans_counted f (plain_chain index).array_to_array (plain_chain index).array_to_bytes (plain_chain index).bytes_to_bytes shape at_end sizes value size spans spans_at
+    pub all_sure : ShardSure shape at_end (chain_chunk f (plain_chain index)) (chain_rests f (plain_chain inner)) sizes type fill shard.value places state.sure known.size
+    all_sure =
+        let rests_are : codec_rests_on f codec sizes type fill state.value places ≡ shard_rests shape at_end (chain_representation f (plain_chain index)) (chain_chunk f (plain_chain index)) (chain_rests f (plain_chain inner)) sizes type fill (Some shard.value) places =
+        (λ i. codec_rests_on f (shard.is i) sizes type fill (shard.value_is i) places) ∙ shard_rests_are f (plain_chain inner) (plain_chain index) shape at_end sizes type fill shard.value places in
+        let g = given (codec_rests_on f codec sizes type fill state.value places) sure in
+        shard_sure shape at_end (chain_representation f (plain_chain index)) (chain_chunk f (plain_chain index)) (chain_rests f (plain_chain inner)) sizes type fill shard.value places g.0 state.sure known.size known.sized (sym rests_are ∙ g.1) g.2
 
-    module _ (groups : List InnerRuns) (are : AreGroups shape sizes places groups) where
-      abbrev of_groups : Result Chunk CodecError
-      of_groups = stored_groups_read reading shape type fill state.value spans (map group groups)
-
-      abbrev groups_rests : Result (List ℕ) CodecError
-      groups_rests = stored_groups_rest (chain_rests f (plain_chain inner)) shape type fill state.value spans (map group groups)
-
-      pub inner_runs : length places < 2 ^ 64 → AreInnerRuns shape (length spans) groups
-      inner_runs l = record {
-        there = subst (λ (n : ℕ). All (λ it. it.number < n) groups) (sym counted) (numbers_below (inner_chunk_count shape sizes) groups (subst (All (λ it. it.0 < inner_chunk_count shape sizes)) (sym are.groups) (groups_below shape sizes places)));
-        counted =
-            let same : length (flat_map (λ it. joined_runs it.runs.items) groups) ≡ length places =
-            ap length (sym (flat_map-map (λ (it : ℕ × List ℕ). it.1) group groups))
-            ∙ ap (λ (gs : List (ℕ × List ℕ)). length (places_of_groups gs)) are.groups
-            ∙ grouped_count shape sizes places cut below in
-            omega (arith, same, l);
-        filled = are.filled;
-        inside = are.inside;
-      }
-
-      by_groups : (order : List ℕ) → IsReadingOrder shape sizes places order → all_read ≡ (of_groups >>= λ joined. ok (select joined order))
-      by_groups order o =
-          by_spans
-          ∙ ap (λ (r : Result (List Span) CodecError). r >>= λ spans. spans_read reading shape sizes type fill value places spans) at
-          ∙ grouped_read reading shape sizes type fill value places spans order (chain_each f (plain_chain inner).array_to_array (plain_chain inner).array_to_bytes (plain_chain inner).bytes_to_bytes shape type fill) counted cut below o
-          ∙ (λ i. stored_groups_read reading shape type fill (sym value_is i) spans (sym are.groups i) >>= λ joined. ok (select joined order))
-
-      -- a group is rejected
-      pub groups_error : (order : List ℕ) → IsReadingOrder shape sizes places order → (error : CodecError) → of_groups ≡ Err error → all_read ≡ Err error
-      groups_error order o error e = by_groups order o ∙ ap (λ (r : Result Chunk CodecError). r >>= λ joined. ok (select joined order)) e
-
-      -- all are read
-      pub groups_found : (joined : Held) → IsOkAnd of_groups (Holds type joined) → (chunk : Chunk) × (of_groups ≡ Ok chunk) × Holds type joined chunk
-      groups_found joined h = ok_found of_groups (Holds type joined) h
-
-      pub groups_answered : (order : List ℕ) → IsReadingOrder shape sizes places order → (chunk : Chunk) → of_groups ≡ Ok chunk → (result : Result Held CodecError) → GivesBy (Holds type) result (ok (select chunk order)) → AnswersBy memory_or_fault (Holds type) result all_read
-      groups_answered order o chunk e result h =
-          subst (AnswersBy memory_or_fault (Holds type) result) (sym (by_groups order o ∙ ap (λ (r : Result Chunk CodecError). r >>= λ joined. ok (select joined order)) e)) (weaker result (ok (select chunk order)) h.is)
-        where
-          weaker : (result : Result Held CodecError) (expected : Result Chunk CodecError) → AnswersBy memory (Holds type) result expected → AnswersBy memory_or_fault (Holds type) result expected
-          weaker (Ok x) expected h = h
-          weaker (Err error) expected h = λ unexcused. h (memory_too error unexcused)
-
-      module _ (sure : are_given_sure state.sure (codec_rests_on f codec sizes type fill state.value places) ≡ true) where
-        given : (r : Result (List ℕ) CodecError) → are_given_sure state.sure r ≡ true → (numbers : List ℕ) × (r ≡ Ok numbers) × (are_sure state.sure numbers ≡ true)
-        given (Ok numbers) h = (numbers, refl, h)
-        given (Err error) h = absurd cc
-
-        all_sure : ShardSure shape at_end (chain_chunk f (plain_chain index)) (chain_rests f (plain_chain inner)) sizes type fill value places state.sure size
-        all_sure =
-            let rests_are : codec_rests_on f codec sizes type fill state.value places ≡ shard_rests shape at_end (chain_representation f (plain_chain index)) (chain_chunk f (plain_chain index)) (chain_rests f (plain_chain inner)) sizes type fill (Some value) places =
-            (λ i. codec_rests_on f (is i) sizes type fill (value_is i) places) ∙ shard_rests_are f (plain_chain inner) (plain_chain index) shape at_end sizes type fill value places in
-            let g = given (codec_rests_on f codec sizes type fill state.value places) sure in
-            shard_sure shape at_end (chain_representation f (plain_chain index)) (chain_chunk f (plain_chain index)) (chain_rests f (plain_chain inner)) sizes type fill value places g.0 state.sure size sized (sym rests_are ∙ g.1) g.2
-
-        pub groups_sure : are_given_sure state.sure groups_rests ≡ true
-        groups_sure =
-            ap (λ (v : Option (List ℕ)). are_given_sure state.sure (stored_groups_rest (chain_rests f (plain_chain inner)) shape type fill v spans (map group groups))) value_is
-            ∙ ap (λ (gs : List (ℕ × List ℕ)). are_given_sure state.sure (groups_rest (chain_rests f (plain_chain inner)) shape type fill value spans gs)) are.groups
-            ∙ all_sure.groups spans spans_at counted
-
-  -- the index's bytes are sure where all are that the read rests on
-  pub index_sure : (size : ℕ) → index_size_of f index (grid shape sizes) ≡ Ok size → are_given_sure state.sure (codec_rests_on f codec sizes type fill state.value places) ≡ true → are_sure state.sure (stored_index_bytes at_end size state.value) ≡ true
-  index_sure size sized sure =
-      let g = given (codec_rests_on f codec sizes type fill state.value places) sure in
-      let rests_are : codec_rests_on f codec sizes type fill state.value places ≡ shard_rests shape at_end (chain_representation f (plain_chain index)) (chain_chunk f (plain_chain index)) (chain_rests f (plain_chain inner)) sizes type fill (Some value) places =
-      (λ i. codec_rests_on f (is i) sizes type fill (value_is i) places) ∙ shard_rests_are f (plain_chain inner) (plain_chain index) shape at_end sizes type fill value places in
-      ap (λ (v : Option (List ℕ)). are_sure state.sure (stored_index_bytes at_end size v)) value_is
-      ∙ (shard_sure shape at_end (chain_representation f (plain_chain index)) (chain_chunk f (plain_chain index)) (chain_rests f (plain_chain inner)) sizes type fill value places g.0 state.sure size sized (sym rests_are ∙ g.1) g.2).index_bytes
-    where
-      given : (r : Result (List ℕ) CodecError) → are_given_sure state.sure r ≡ true → (numbers : List ℕ) × (r ≡ Ok numbers) × (are_sure state.sure numbers ≡ true)
-      given (Ok numbers) h = (numbers, refl, h)
-      given (Err error) h = absurd cc
+    -- what holds where the index's bytes are sure holds where all are that the read rests on
+    pub with_index_sure : (P : Type 0) → IfOk (index_size_of f index (grid shape sizes)) (λ size. are_sure state.sure (stored_index_bytes at_end size state.value) ≡ true → P) → P
+    with_index_sure P h =
+        subst (λ (r : Result ℕ CodecError). IfOk r (λ size. are_sure state.sure (stored_index_bytes at_end size state.value) ≡ true → P)) known.sized h
+        (ap (λ (v : Option (List ℕ)). are_sure state.sure (stored_index_bytes at_end known.size v)) shard.value_is ∙ all_sure.index_bytes)

@@ -1,11 +1,11 @@
 -- What is read through a chain of a value that stands in a span.
-use Rattle.std.proofs.Common.{◌≡◌, ℕ, ◌<◌, ◌^◌, Bool, true, false, Option, Some, None, List, [], ◌∷◌, length, take, map, Result, Ok, Err, IfOk, refl, ap, sym, subst, ◌∙◌}
+use Rattle.std.proofs.Common.{◌≡◌, ℕ, ◌<◌, ◌^◌, Bool, true, false, Option, Some, None, List, [], ◌∷◌, length, take, map, Result, Ok, Err, IfOk, refl, ap, sym, subst, ◌∙◌, Global}
 use Rattle.std.specs.List.{All, list_all}
-use Rattle.std.specs.Prelude.{IsOkAnd}
+use Rattle.std.specs.Prelude.{IsOkAnd, Vec}
 use Rattle.zarrs_array_bytes.specs.Held.{Held}
 use Rattle.zarrs_array_bytes.specs.Validity.{Holds, validity}
 use Rattle.zarrs_array_regions.specs.KeptRegions.{keeps_regions}
-use Rattle.zarrs_array_regions.specs.Windows.{decoded_of, last_window, window_of, window_places}
+use Rattle.zarrs_array_regions.specs.Windows.{decoded_of, last_window, window_of, window_places, TakesRegion, TakeType}
 use Rattle.zarrs_array_to_array.specs.ArrayToArrayCodec.{ArrayMapping, IsMapping}
 use Rattle.zarrs_bytes.proofs.Coding.{ok}
 use Rattle.zarrs_chain_meaning.proofs.Answered.{from_ok}
@@ -15,7 +15,7 @@ use Rattle.zarrs_chain_meaning.specs.BytesStages.{outer_bytes}
 use Rattle.zarrs_chain_meaning.specs.ChunkForm.{ChunkForm}
 use Rattle.zarrs_chain_meaning.specs.CodecMeaning.{codec_representation}
 use Rattle.zarrs_chain_meaning.specs.PlainChain.{PlainChain, PlainCodec}
-use Rattle.zarrs_chunk.specs.Answer.{◌>>=◌, AnswersBy, memory, memory_or_fault, seen}
+use Rattle.zarrs_chunk.specs.Answer.{◌>>=◌, AnswersBy, memory, memory_or_fault, seen, Answers}
 use Rattle.zarrs_chunk.specs.ChunkShape.{product}
 use Rattle.zarrs_chunk.specs.Region.{Region}
 use Rattle.zarrs_chunk.specs.Selection.{Selection, places_of, subset}
@@ -26,17 +26,22 @@ use Rattle.zarrs_codec.specs.CoordinateMap.{CoordinateMap, same_places}
 use Rattle.zarrs_codec.specs.StorageState.{StorageState, are_sure}
 use Rattle.zarrs_codec.specs.declared.bytes_representation.BytesRepresentation.{BytesRepresentation}
 use Rattle.zarrs_codec_chain.proofs.LawfulPart.{part_laws}
-use Rattle.zarrs_codec_chain.proofs.PartialReads.{IsReadable, take_codecs}
-use Rattle.zarrs_codec_chain.proofs.RegionReads.{region_answered, region_goes, region_members, region_refused, region_valid}
+use Rattle.zarrs_codec_chain.proofs.PartialReads.{IsReadable, take_codecs, is_readable}
+use Rattle.zarrs_codec_chain.proofs.RegionReads.{region_answered, region_goes, region_members, region_refused, region_valid, takes_region, takes_type}
 use Rattle.zarrs_codec_chain.specs.ChunkRead.{are_given_sure, encoded_places, outer_stored}
 use Rattle.zarrs_codec_chain.specs.ChunkSource.{Source, bytes_above, source_places, source_read}
 use Rattle.zarrs_codec_chain.specs.CodecPart.{codec_read, codec_rests_on}
 use Rattle.zarrs_codec_chain.specs.PlaceLaws.{SameMembers, rests_through}
-use Rattle.zarrs_codec_chain.specs.SpanReads.{chain_read, chain_rests, held_state, moved_read, moved_rests, outer_rests, seen_state, span_parts}
+use Rattle.zarrs_codec_chain.specs.SpanReads.{chain_read, chain_rests, held_state, moved_read, moved_rests, outer_rests, seen_state, span_parts, StandsIn}
 use Rattle.zarrs_array_regions.specs.WindowLaws.{region_places}
 use Rattle.zarrs_codec_chain.specs.declared.sharding.value_span.ValueSpan.{ValueSpan}
 use Rattle.zarrs_data_type.specs.ElementType.{ElementType}
 use Rattle.zarrs_lent_handles.specs.SpanHandle.{span_state}
+use Rattle.zarrs_array_to_array.specs.Mapping.{chained_places}
+use Rattle.zarrs_chain_meaning.specs.Chain.{taken_form}
+use Rattle.zarrs_chunk.specs.Runs.{joined_runs}
+use Rattle.zarrs_codec_chain.proofs.PartialCalls.{runs_answer}
+use Rattle.zarrs_codec_chain.proofs.SpanSeen.{stands_value}
 
 -- ---- sure bytes
 
@@ -82,41 +87,78 @@ held_sure f codec inside bytes state encoded type fill r places e measured =
     ∙ ap (λ (p : Option (List ℕ) × ℕ × ℕ). are_sure (span_state p.1 p.2 (held_state p.0 state)).sure known.0) e
     ∙ all_true known.0
 
+-- where selected places go
+selected_go : (type : ElementType) (arrays : List ArrayMapping) (sizes places : List ℕ) (selection : Selection) (m : CoordinateMap) → places_of selection sizes ≡ Ok places → arrays_map type arrays sizes ≡ Ok m → encoded_places type arrays sizes selection ≡ Ok (map m.to places)
+selected_go type arrays sizes places selection m a b = rw (a, b) refl
+
 -- ---- through array-to-array codecs
 
-module _ {B : Type 0} (f : BytesCodecs B) (chain : PlainChain B) (sizes : List ℕ) (type : ElementType) (fill encoded : List ℕ) (r : BytesRepresentation) (h : IsReadable f chain sizes type fill encoded r) (stored : Option (List ℕ)) (value : List ℕ) (there : stored ≡ Some value) where
-  -- is read where its places go
-  pub chain_moved : (places : List ℕ) → chain_read f chain sizes type fill stored places ≡ moved_read f chain encoded type fill r stored (map h.map_is.to places)
+-- A chain takes such a chunk, no size of which is zero, and something is stored.
+pub record StoredChunk {B : Type 0} (f : BytesCodecs B) (form : ChunkForm B) (encoded : List ℕ) (r : BytesRepresentation) (state : StorageState) : Type 0 where
+  pub mappings : All IsMapping form.chain.array_to_array
+  pub positive : All (λ size. 0 < size) form.sizes
+  pub taken : taken_form f form.chain form.sizes form.type form.fill ≡ Ok (encoded, r)
+  pub value : List ℕ
+  pub value_is : state.value ≡ Some value
+
+-- what stands in a span; the sizes are borrowed
+pub stored_chunk : {B : Type 0} (f : BytesCodecs B) (form : ChunkForm B) (encoded : List ℕ) (r : BytesRepresentation) (span : ValueSpan) (state : StorageState) (lengths : List ℕ) → All IsMapping form.chain.array_to_array → lengths ≡ form.sizes → All (λ size. 0 < size) lengths
+    → taken_form f form.chain form.sizes form.type form.fill ≡ Ok (encoded, r) → StandsIn span state → StoredChunk f form encoded r (seen_state span state)
+stored_chunk f form encoded r span state lengths mappings same positive taken stands =
+    let there = stands_value span state stands in
+    record { mappings = mappings; positive = subst (All (λ size. 0 < size)) same positive; taken = taken; value = there.value; value_is = there.is }
+
+module _ {B : Type 0} {f : BytesCodecs B} {form : ChunkForm B} {encoded : List ℕ} {r : BytesRepresentation} {state : StorageState} (it : StoredChunk f form encoded r state) where
+  abbrev pub readable : IsReadable f form.chain form.sizes form.type form.fill encoded r
+  readable = is_readable f form.chain form.sizes form.type form.fill encoded r it.mappings it.positive it.taken
+
+  -- it is read where its places go
+  chain_moved : (places : List ℕ) → chain_read f form.chain form.sizes form.type form.fill state.value places ≡ moved_read f form.chain encoded form.type form.fill r state.value (map readable.map_is.to places)
   chain_moved places =
-      ap (λ (v : Option (List ℕ)). chain_read f chain sizes type fill v places) there
-      ∙ ap (λ (x : Result CoordinateMap CodecError). x >>= λ m. codec_representation f chain.array_to_bytes m.encoded type fill >>= λ r. outer_bytes f chain.bytes_to_bytes r value >>= λ below. codec_read f chain.array_to_bytes m.encoded type fill (Some below) (map m.to places)) h.mapped
-      ∙ ap (λ (s : List ℕ). codec_representation f chain.array_to_bytes s type fill >>= λ r. outer_bytes f chain.bytes_to_bytes r value >>= λ below. codec_read f chain.array_to_bytes s type fill (Some below) (map h.map_is.to places)) h.encoded_is
-      ∙ ap (λ (x : Result BytesRepresentation CodecError). x >>= λ r. outer_bytes f chain.bytes_to_bytes r value >>= λ below. codec_read f chain.array_to_bytes encoded type fill (Some below) (map h.map_is.to places)) h.measured
-      ∙ sym (opened f chain encoded type fill r stored value there (map h.map_is.to places))
+      ap (λ (v : Option (List ℕ)). chain_read f form.chain form.sizes form.type form.fill v places) it.value_is
+      ∙ ap (λ (x : Result CoordinateMap CodecError). x >>= λ m. codec_representation f form.chain.array_to_bytes m.encoded form.type form.fill >>= λ r. outer_bytes f form.chain.bytes_to_bytes r it.value >>= λ below. codec_read f form.chain.array_to_bytes m.encoded form.type form.fill (Some below) (map m.to places)) readable.mapped
+      ∙ ap (λ (s : List ℕ). codec_representation f form.chain.array_to_bytes s form.type form.fill >>= λ r. outer_bytes f form.chain.bytes_to_bytes r it.value >>= λ below. codec_read f form.chain.array_to_bytes s form.type form.fill (Some below) (map readable.map_is.to places)) readable.encoded_is
+      ∙ ap (λ (x : Result BytesRepresentation CodecError). x >>= λ r. outer_bytes f form.chain.bytes_to_bytes r it.value >>= λ below. codec_read f form.chain.array_to_bytes encoded form.type form.fill (Some below) (map readable.map_is.to places)) readable.measured
+      ∙ sym (opened f form.chain encoded form.type form.fill r state.value it.value it.value_is (map readable.map_is.to places))
 
   -- and rests on what stands there
-  pub chain_rests_moved : (places : List ℕ) → chain_rests f chain sizes type fill stored places ≡ moved_rests f chain encoded type fill stored (map h.map_is.to places)
-  chain_rests_moved places = by chain.bytes_to_bytes
+  chain_rests_moved : (places : List ℕ) → chain_rests f form.chain form.sizes form.type form.fill state.value places ≡ moved_rests f form.chain encoded form.type form.fill state.value (map readable.map_is.to places)
+  chain_rests_moved places = by form.chain.bytes_to_bytes
     where
-      by : (codecs : List B) → rests_through chain.array_to_array (codec_rests_on f chain.array_to_bytes) codecs sizes type fill stored places ≡ outer_rests codecs (codec_rests_on f chain.array_to_bytes) encoded type fill stored (map h.map_is.to places)
+      by : (codecs : List B) → rests_through form.chain.array_to_array (codec_rests_on f form.chain.array_to_bytes) codecs form.sizes form.type form.fill state.value places ≡ outer_rests codecs (codec_rests_on f form.chain.array_to_bytes) encoded form.type form.fill state.value (map readable.map_is.to places)
       by [] =
-          ap (λ (x : Result CoordinateMap CodecError). x >>= λ m. codec_rests_on f chain.array_to_bytes m.encoded type fill stored (map m.to places)) h.mapped
-          ∙ ap (λ (s : List ℕ). codec_rests_on f chain.array_to_bytes s type fill stored (map h.map_is.to places)) h.encoded_is
+          ap (λ (x : Result CoordinateMap CodecError). x >>= λ m. codec_rests_on f form.chain.array_to_bytes m.encoded form.type form.fill state.value (map m.to places)) readable.mapped
+          ∙ ap (λ (s : List ℕ). codec_rests_on f form.chain.array_to_bytes s form.type form.fill state.value (map readable.map_is.to places)) readable.encoded_is
       by (codec ∷ codecs) = refl
 
--- without codecs they stay
-pub places_stay : {B : Type 0} (f : BytesCodecs B) (chain : PlainChain B) (sizes : List ℕ) (type : ElementType) (fill encoded : List ℕ) (r : BytesRepresentation) (h : IsReadable f chain sizes type fill encoded r) → chain.array_to_array ≡ [] → (places : List ℕ) → map h.map_is.to places ≡ places
-places_stay f chain sizes type fill encoded r h e places =
-    let same : same_places sizes ≡ h.map_is = ok_is (same_places sizes) h.map_is (ap (λ (arrays : List ArrayMapping). arrays_map type arrays sizes) (sym e) ∙ h.mapped) in
-    ap (λ (m : CoordinateMap). map m.to places) (sym same) ∙ each places
-  where
-    each : (ps : List ℕ) → map (λ p. p) ps ≡ ps
-    each [] = refl
-    each (p ∷ ps) = ap (λ (qs : List ℕ). p ∷ qs) (each ps)
+  -- without codecs its places stay
+  places_stay : form.chain.array_to_array ≡ [] → (places : List ℕ) → map readable.map_is.to places ≡ places
+  places_stay e places =
+      let same : same_places form.sizes ≡ readable.map_is = ok_is (same_places form.sizes) readable.map_is (ap (λ (arrays : List ArrayMapping). arrays_map form.type arrays form.sizes) (sym e) ∙ readable.mapped) in
+      ap (λ (m : CoordinateMap). map m.to places) (sym same) ∙ each places
+    where
+      each : (ps : List ℕ) → map (λ p. p) ps ≡ ps
+      each [] = refl
+      each (p ∷ ps) = ap (λ (qs : List ℕ). p ∷ qs) (each ps)
 
--- where selected places go
-pub selected_go : (type : ElementType) (arrays : List ArrayMapping) (sizes places : List ℕ) (selection : Selection) (m : CoordinateMap) → places_of selection sizes ≡ Ok places → arrays_map type arrays sizes ≡ Ok m → encoded_places type arrays sizes selection ≡ Ok (map m.to places)
-selected_go type arrays sizes places selection m a b = rw (a, b) refl
+  -- and otherwise they go where those of an indexer do, as runs that are borrowed
+  pub places_gone : (given : List ArrayMapping) (selection : Selection) (places : List ℕ) (runs : Result (Vec (ℕ × ℕ) Global) CodecError) → given ≡ form.chain.array_to_array → places_of selection form.sizes ≡ Ok places
+      → Answers memory (λ runs. joined_runs runs.items) runs (chained_places given selection form.sizes) → Answers memory (λ runs. joined_runs runs.items) runs (ok (map readable.map_is.to places))
+  places_gone given selection places runs same selects answer =
+      subst (λ (r : Result (List ℕ) CodecError). Answers memory (λ (runs : Vec (ℕ × ℕ) Global). joined_runs runs.items) runs r) (selected_go form.type form.chain.array_to_array form.sizes places selection readable.map_is selects readable.mapped)
+      (runs_answer (λ (runs : Vec (ℕ × ℕ) Global). joined_runs runs.items) runs form.type form.chain.array_to_array given form.sizes selection readable.map_is same readable.mapped answer)
+
+  module _ (places moved : List ℕ) (go : map readable.map_is.to places ≡ moved) where
+    pub read_moved : chain_read f form.chain form.sizes form.type form.fill state.value places ≡ moved_read f form.chain encoded form.type form.fill r state.value moved
+    read_moved = chain_moved places ∙ ap (moved_read f form.chain encoded form.type form.fill r state.value) go
+
+    pub sure_moved : are_given_sure state.sure (chain_rests f form.chain form.sizes form.type form.fill state.value places) ≡ true → are_given_sure state.sure (moved_rests f form.chain encoded form.type form.fill state.value moved) ≡ true
+    sure_moved s =
+        ap (λ (ps : List ℕ). are_given_sure state.sure (moved_rests f form.chain encoded form.type form.fill state.value ps)) (sym go)
+        ∙ ap (are_given_sure state.sure) (sym (chain_rests_moved places)) ∙ s
+
+  pub read_alone : form.chain.array_to_array ≡ [] → (places : List ℕ) → chain_read f form.chain form.sizes form.type form.fill state.value places ≡ moved_read f form.chain encoded form.type form.fill r state.value places
+  read_alone e places = read_moved places places (places_stay e places)
 
 -- ---- the same places in another order
 
@@ -146,33 +188,38 @@ moved_same {B} f chain encoded type fill stored sure ps qs same = by chain.bytes
 
 -- ---- regions
 
-module _ {B : Type 0} (f : BytesCodecs B) (form : ChunkForm B) (encoded : List ℕ) (r : BytesRepresentation) (h : IsReadable f form.chain form.sizes form.type form.fill encoded r) (are : All IsMapping form.chain.array_to_array) (positive : All (λ size. 0 < size) form.sizes) (counted : product form.sizes < 2 ^ 64)
-    (region : Region) (inside : is_box_inside form.sizes region.starts region.lengths ≡ true) (kept : keeps_regions form.chain.array_to_array ≡ true) (stored : Option (List ℕ)) (value : List ℕ) (there : stored ≡ Some value) where
+module _ {B : Type 0} {f : BytesCodecs B} {form : ChunkForm B} {encoded : List ℕ} {r : BytesRepresentation} {state : StorageState} (it : StoredChunk f form encoded r state) (counted : product form.sizes < 2 ^ 64) (region : Region) (inside : is_box_inside form.sizes region.starts region.lengths ≡ true) (kept : keeps_regions form.chain.array_to_array ≡ true) where
   abbrev source : Source
-  source = bytes_above (length form.chain.bytes_to_bytes) stored
+  source = bytes_above (length form.chain.bytes_to_bytes) state.value
 
-  region_is : source_read f form encoded r source (subset region) ≡ chain_read f form.chain form.sizes form.type form.fill stored (region_places form.sizes region)
+  region_is : source_read f form encoded r source (subset region) ≡ chain_read f form.chain form.sizes form.type form.fill state.value (region_places form.sizes region)
   region_is =
-      ap (λ (x : Result (List ℕ) CodecError). x >>= source_places f form.chain encoded form.type form.fill r source) (region_goes f form encoded r h are positive counted region inside kept)
-      ∙ sym (chain_moved f form.chain form.sizes form.type form.fill encoded r h stored value there (region_places form.sizes region))
+      ap (λ (x : Result (List ℕ) CodecError). x >>= source_places f form.chain encoded form.type form.fill r source) (region_goes f form encoded r (readable it) it.mappings it.positive counted region inside kept)
+      ∙ sym (chain_moved it (region_places form.sizes region))
+
+  pub window_taken : TakesRegion form.chain.array_to_array form.sizes region
+  window_taken = takes_region f form encoded r (readable it) it.mappings it.positive counted region inside kept
+
+  pub window_type_taken : TakeType form.chain.array_to_array form.type
+  window_type_taken = takes_type f form encoded r (readable it) it.mappings it.positive counted region inside kept
 
   pub window_refused : (places : List ℕ) (e : CodecError) → ok (window_places (last_window form.chain.array_to_array (window_of form.sizes region))) ≡ ok places
-      → AnswersBy {T = Held} memory_or_fault (Holds form.type) (Err e) (moved_read f form.chain encoded form.type form.fill r stored places)
-      → AnswersBy {T = Held} memory_or_fault (Holds form.type) (Err e) (chain_read f form.chain form.sizes form.type form.fill stored (region_places form.sizes region))
-  window_refused places e at answer = λ unexcused. sym region_is ∙ region_refused f form encoded r h are positive counted region inside kept source places e at answer unexcused
+      → AnswersBy {T = Held} memory_or_fault (Holds form.type) (Err e) (moved_read f form.chain encoded form.type form.fill r state.value places)
+      → AnswersBy {T = Held} memory_or_fault (Holds form.type) (Err e) (chain_read f form.chain form.sizes form.type form.fill state.value (region_places form.sizes region))
+  window_refused places e at answer = λ unexcused. sym region_is ∙ region_refused f form encoded r (readable it) it.mappings it.positive counted region inside kept source places e at answer unexcused
 
-  pub window_valid : (places : List ℕ) (held : Held) → ok (window_places (last_window form.chain.array_to_array (window_of form.sizes region))) ≡ ok places → IsOkAnd (moved_read f form.chain encoded form.type form.fill r stored places) (Holds form.type held)
+  pub window_valid : (places : List ℕ) (held : Held) → ok (window_places (last_window form.chain.array_to_array (window_of form.sizes region))) ≡ ok places → IsOkAnd (moved_read f form.chain encoded form.type form.fill r state.value places) (Holds form.type held)
       → validity form.type (product region.lengths) held ≡ Ok tt
-  window_valid places held at answer = region_valid f form encoded r h are positive counted region inside kept source places held at answer
+  window_valid places held at answer = region_valid f form encoded r (readable it) it.mappings it.positive counted region inside kept source places held at answer
 
-  pub window_answered : (places : List ℕ) (held : Held) (result : Result Held CodecError) → ok (window_places (last_window form.chain.array_to_array (window_of form.sizes region))) ≡ ok places → IsOkAnd (moved_read f form.chain encoded form.type form.fill r stored places) (Holds form.type held)
-      → AnswersBy memory (Holds form.type) result (ok (decoded_of form.chain.array_to_array form.type (window_of form.sizes region) held)) → AnswersBy memory_or_fault (Holds form.type) result (chain_read f form.chain form.sizes form.type form.fill stored (region_places form.sizes region))
-  window_answered places held result at answer d = subst (AnswersBy memory_or_fault (Holds form.type) result) region_is (region_answered f form encoded r h are positive counted region inside kept source places held result at answer d)
+  pub window_answered : (places : List ℕ) (held : Held) (result : Result Held CodecError) → ok (window_places (last_window form.chain.array_to_array (window_of form.sizes region))) ≡ ok places → IsOkAnd (moved_read f form.chain encoded form.type form.fill r state.value places) (Holds form.type held)
+      → AnswersBy memory (Holds form.type) result (ok (decoded_of form.chain.array_to_array form.type (window_of form.sizes region) held)) → AnswersBy memory_or_fault (Holds form.type) result (chain_read f form.chain form.sizes form.type form.fill state.value (region_places form.sizes region))
+  window_answered places held result at answer d = subst (AnswersBy memory_or_fault (Holds form.type) result) region_is (region_answered f form encoded r (readable it) it.mappings it.positive counted region inside kept source places held result at answer d)
 
-  pub window_sure : (places : List ℕ) (sure : Option (ℕ → Bool)) → ok (window_places (last_window form.chain.array_to_array (window_of form.sizes region))) ≡ ok places
-      → are_given_sure sure (chain_rests f form.chain form.sizes form.type form.fill stored (region_places form.sizes region)) ≡ true → are_given_sure sure (moved_rests f form.chain encoded form.type form.fill stored places) ≡ true
-  window_sure places sure at s =
-      ap (λ (ps : List ℕ). are_given_sure sure (moved_rests f form.chain encoded form.type form.fill stored ps)) (sym (ok_is (window_places (last_window form.chain.array_to_array (window_of form.sizes region))) places at))
-      ∙ sym (moved_same f form.chain encoded form.type form.fill stored sure (map h.map_is.to (region_places form.sizes region)) (window_places (last_window form.chain.array_to_array (window_of form.sizes region))) (region_members f form encoded r h are positive counted region inside kept))
-      ∙ ap (are_given_sure sure) (sym (chain_rests_moved f form.chain form.sizes form.type form.fill encoded r h stored value there (region_places form.sizes region)))
+  pub window_sure : (places : List ℕ) → ok (window_places (last_window form.chain.array_to_array (window_of form.sizes region))) ≡ ok places
+      → are_given_sure state.sure (chain_rests f form.chain form.sizes form.type form.fill state.value (region_places form.sizes region)) ≡ true → are_given_sure state.sure (moved_rests f form.chain encoded form.type form.fill state.value places) ≡ true
+  window_sure places at s =
+      ap (λ (ps : List ℕ). are_given_sure state.sure (moved_rests f form.chain encoded form.type form.fill state.value ps)) (sym (ok_is (window_places (last_window form.chain.array_to_array (window_of form.sizes region))) places at))
+      ∙ sym (moved_same f form.chain encoded form.type form.fill state.value state.sure (map (readable it).map_is.to (region_places form.sizes region)) (window_places (last_window form.chain.array_to_array (window_of form.sizes region))) (region_members f form encoded r (readable it) it.mappings it.positive counted region inside kept))
+      ∙ ap (are_given_sure state.sure) (sym (chain_rests_moved it (region_places form.sizes region)))
       ∙ s

@@ -18,9 +18,8 @@ use Rattle.zarrs_array_bytes.specs.Validity.{Holds, validity}
 use Rattle.zarrs_codec.specs.BytesToBytesCodec.{BytesCodecs}
 use Rattle.zarrs_chain.specs.ChainView.{plain_vlen, plain_vlen_at}
 use Rattle.zarrs_codec_chain.specs.CodecPart.{codec_read, codec_rests_on}
-use Rattle.zarrs_codec_chain.specs.PartRead.{read_by_form, whole_read}
+use Rattle.zarrs_codec_chain.specs.PartRead.{whole_read}
 use Rattle.zarrs_chain_meaning.specs.Chain.{codec_reads}
-use Rattle.zarrs_chain_meaning.specs.Meaning.{Decoder}
 use Rattle.zarrs_chain_meaning.specs.CodecMeaning.{codec_chunk, HasMappings, codec_representation, CodecStands}
 use Rattle.zarrs_chain_meaning.specs.vlen.Vlen.{vlen_representation}
 use Rattle.zarrs_chain_meaning.specs.PlainChain.{PlainCodec}
@@ -35,7 +34,7 @@ use Rattle.zarrs_bytes.proofs.Coding.{ok, bind_ok}
 use Rattle.zarrs_chain_meaning.proofs.ArraySteps.{ok_is}
 use Rattle.zarrs_chain_meaning.proofs.CodecLaws.{chunk_count, chunk_only}
 use Rattle.zarrs_codec_chain.proofs.PartialCalls.{counted_is, held_of}
-use Rattle.zarrs_codec_chain.proofs.LawfulPart.{codec_fills, codec_selects}
+use Rattle.zarrs_codec_chain.proofs.LawfulPart.{codec_fills, codec_selects, part_laws}
 use Rattle.zarrs_chain.proofs.TakenTight.{vlen_measured}
 use Rattle.zarrs_chain_meaning.specs.declared.codec_name.TheConstants.{VLEN}
 use Rattle.zarrs_chain_meaning.proofs.NestedRoom.{variable_fits}
@@ -65,26 +64,18 @@ vlen_taken f codec sizes type fill taken = taken_so sizes type fill (ap is_ok (s
 
 -- ---- what is read
 
-by_none : (found : Option PlainForm) (decode : Decoder) (sizes : List ℕ) (type : ElementType) (fill : List ℕ) (stored : Option (List ℕ)) (places : List ℕ) → found ≡ None
-    → read_by_form found decode sizes type fill stored places ≡ whole_read decode sizes type fill stored places
-by_none None decode sizes type fill stored places e = refl
-by_none (Some x) decode sizes type fill stored places e = absurd cc
+-- a `vlen` that has no plain form reads no part
+no_part : {B : Type 0} (codec : VlenCodec B) → plain_form_of (plain_vlen codec) ≡ None → (codec_reads (plain_vlen codec)).partial_decode ≡ false
+no_part {B} codec =
+    subst (λ (p : PlainCodec B). plain_form_of p ≡ None → (codec_reads p).partial_decode ≡ false) (sym (plain_vlen_at codec)) (λ e. ap (λ (form : Option PlainForm). is_some form) e)
 
--- a `vlen` that has none is read by the whole chunk
+pub reads_no_part : {B : Type 0} (codec : VlenCodec B) → plain_form_of (plain_vlen codec) ≡ None → (codec_reads (plain_vlen codec)).partial_decode ≡ true → ⊥
+reads_no_part codec none h = let e = no_part codec none in cc
+
+-- and is read by the whole chunk
 pub read_wholly : {B : Type 0} (f : BytesCodecs B) (codec : VlenCodec B) (sizes : List ℕ) (type : ElementType) (fill : List ℕ) (stored : Option (List ℕ)) (places : List ℕ) → plain_form_of (plain_vlen codec) ≡ None
     → codec_read f (plain_vlen codec) sizes type fill stored places ≡ whole_read (codec_chunk f (plain_vlen codec)) sizes type fill stored places
-read_wholly {B} f codec sizes type fill stored places =
-    subst (λ (p : PlainCodec B). plain_form_of p ≡ None → codec_read f p sizes type fill stored places ≡ whole_read (codec_chunk f p) sizes type fill stored places) (sym (plain_vlen_at codec))
-    (λ e. by_none _ (codec_chunk f _) sizes type fill stored places e)
-
-none_reads : (found : Option PlainForm) → found ≡ None → is_some found ≡ true → ⊥
-none_reads None e h = cc
-none_reads (Some form) e h = cc
-
--- a `vlen` that has no plain form reads no part
-pub reads_no_part : {B : Type 0} (codec : VlenCodec B) → plain_form_of (plain_vlen codec) ≡ None → (codec_reads (plain_vlen codec)).partial_decode ≡ true → ⊥
-reads_no_part {B} codec =
-    subst (λ (p : PlainCodec B). plain_form_of p ≡ None → (codec_reads p).partial_decode ≡ true → ⊥) (sym (plain_vlen_at codec)) (λ e h. none_reads _ e h)
+read_wholly f codec sizes type fill stored places none = (part_laws (plain_vlen codec)).wholly f sizes type fill stored places (no_part codec none)
 
 -- the container of the chunk that a value stands for
 pub vlen_held : {B : Type 0} (f : BytesCodecs B) (codec : VlenCodec B) (sizes : List ℕ) (type : ElementType) (fill value : List ℕ) (held : Held) → IsOkAnd (codec_chunk f (plain_vlen codec) sizes type fill value) (Holds type held)

@@ -1,5 +1,5 @@
 -- What each array-to-bytes codec does in part, as one record: what a read of places answers and rests on, what is planned, and whether a write replaces its places' bytes alone.
-use Rattle.std.specs.Prelude.{ℕ, Bool, true, false, Option, Some, None, IsOkAnd, List, [], ◌∷◌, Ok}
+use Rattle.std.specs.Prelude.{ℕ, suc, Bool, true, false, Option, Some, None, IsOkAnd, List, [], ◌∷◌, Ok}
 use Rattle.zarrs_bytes.specs.CountLaws.{read_count}
 use Rattle.zarrs_bytes.specs.PartialRead.{place_bytes, place_size, read_places}
 use Rattle.zarrs_bytes.specs.PlannedRanges.{IsPlan as IsElementPlan}
@@ -12,8 +12,7 @@ use Rattle.zarrs_chunk.specs.ChunkShape.{product}
 use Rattle.zarrs_array_to_array.specs.ArrayToArrayCodec.{ArrayMapping}
 use Rattle.zarrs_codec.specs.BytesToBytesCodec.{BytesCodecs}
 use Rattle.zarrs_codec.specs.ByteSpan.{ByteSpan}
-use Rattle.zarrs_codec.specs.StorageState.{value_indices}
-use Rattle.zarrs_codec_chain.specs.PartRead.{PlaceReader, whole_read, read_by_form, AnswersEach, whole_count, form_count}
+use Rattle.zarrs_codec_chain.specs.PartRead.{PlaceReader, whole_read, AnswersEach, whole_count, plain_count}
 use Rattle.zarrs_codec_chain.specs.PlaceLaws.{Resting, read_through, rests_through, whole_rests}
 use Rattle.zarrs_codec_chain.specs.ShardRead.{shard_count, shard_read, shard_rests}
 use Rattle.zarrs_data_type.specs.ElementType.{ElementType}
@@ -23,9 +22,10 @@ use Rattle.zarrs_packbits.specs.CountLaws.{read_count_of}
 use Rattle.zarrs_packbits.specs.PackBitsSettings.{packed_layout, PackBitsSettings}
 use Rattle.zarrs_packbits.specs.PartialRead.{bytes_of_places, read_places_of}
 use Rattle.zarrs_packbits.specs.ReadPlan.{IsPackBitsPlan}
+use Rattle.zarrs_plain_vlen.specs.PlainRead.{plain_read}
 use Rattle.zarrs_plain_vlen.specs.VlenRead.{stored_rests_on}
 
--- The bytes that are there may be none: nothing is stored. A read answers an element for each place. What is asked of a plan, and of what a read rests on, is asked of places of the chunk that the codec gets.
+-- The bytes that are there may be none: nothing is stored. A read answers an element for each place. What is asked of a plan, and of what a read rests on, is asked of places of the chunk that the codec gets. The depth is how many shards stand in one another.
 pub record Part (B : Type 0) : Type 1 where
   pub read : BytesCodecs B → PlaceReader
   pub counted : (f : BytesCodecs B) → AnswersEach (read f)
@@ -33,6 +33,7 @@ pub record Part (B : Type 0) : Type 1 where
   pub plans : Bool
   pub IsPlanned : List ℕ → ElementType → List ℕ → List ℕ → List ByteSpan → Type 0
   pub in_place : Option (Option Endianness)
+  pub depth : ℕ
 
 -- ---- read and written whole
 
@@ -45,6 +46,7 @@ whole_part m = record {
   plans = false;
   IsPlanned = λ sizes type fill places ranges. ⊥;
   in_place = None;
+  depth = 0;
 }
 
 -- ---- bytes, packbits
@@ -58,6 +60,7 @@ bytes_part order = record {
   plans = true;
   IsPlanned = λ sizes type fill places ranges. IsElementPlan (place_size type) places ranges;
   in_place = Some order;
+  depth = 0;
 }
 
 -- The bytes that have bits of the places, whatever is stored; the ranges likewise.
@@ -69,24 +72,18 @@ packbits_part settings = record {
   plans = true;
   IsPlanned = λ sizes type fill places ranges. IsOkAnd (packed_layout settings (form_of sizes type fill)) (λ layout. IsPackBitsPlan layout places ranges);
   in_place = None;
+  depth = 0;
 }
 
 -- ---- vlen
 
--- the numbers of the bytes of what is stored that the elements at these places rest on, of a `vlen` by its plain form: the offsets' and the elements'; all where it has no such form
-abbrev pub form_rests_on : Option PlainForm → ℕ → Option (List ℕ) → List ℕ → List ℕ
-form_rests_on None count stored places = value_indices stored
-form_rests_on (Some form) count stored places = stored_rests_on form count stored places
-
--- of a `vlen` with a plain form the offsets and the elements' bytes; which ones, the offsets say, so nothing is planned
+-- of a `vlen` with a plain form the offsets and the elements' bytes; which ones, the offsets say, so nothing is planned; any other is read and written whole
 abbrev pub vlen_part : {B : Type 0} → Option PlainForm → Meaning B → Part B
-vlen_part form m = record {
-  read = λ f. read_by_form form (m.chunk f);
-  counted = λ f. form_count form (m.chunk f);
-  rests_on = λ f sizes type fill stored places. Ok (form_rests_on form (product sizes) stored places);
-  plans = false;
-  IsPlanned = λ sizes type fill places ranges. ⊥;
-  in_place = None;
+vlen_part None m = whole_part m
+vlen_part (Some form) m = record (whole_part m) {
+  read = λ f sizes. plain_read form (product sizes);
+  counted = λ f sizes. plain_count form (product sizes);
+  rests_on = λ f sizes type fill stored places. Ok (stored_rests_on form (product sizes) stored places);
 }
 
 -- ---- shards
@@ -100,6 +97,7 @@ shard_part arrays m p outer index shape at_end = record {
   plans = false;
   IsPlanned = λ sizes type fill places ranges. ⊥;
   in_place = None;
+  depth = suc p.depth;
 }
 
 -- ---- all of them
@@ -128,6 +126,10 @@ codec_plans codec = (part_of codec).plans
 -- the ranges are a plan of a read of these places
 abbrev pub IsCodecPlan : {B : Type 0} → PlainCodec B → List ℕ → ElementType → List ℕ → List ℕ → List ByteSpan → Type 0
 IsCodecPlan codec = (part_of codec).IsPlanned
+
+-- how many shards stand in one another: none, but where the codec is `sharding_indexed`
+abbrev pub shard_depth : {B : Type 0} → PlainCodec B → ℕ
+shard_depth codec = (part_of codec).depth
 
 -- the byte order of `bytes` without bytes-to-bytes codecs: there the bytes of places are those of their elements, and a write over a stored value replaces them alone
 abbrev pub order_in_place : {B : Type 0} → List B → PlainCodec B → Option (Option Endianness)

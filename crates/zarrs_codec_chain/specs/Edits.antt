@@ -1,13 +1,15 @@
 -- Edits of a stored chunk, one after another.
 use Rattle.std.specs.Prelude.{◌≡◌, ℕ, zero, suc, ◌+◌, Bool, true, false, Option, Some, None, IfNone, IfSome, List, [], ◌∷◌, take, Result, Ok, Err, IsOkAnd, All}
+use Rattle.std.specs.Option.{unwrap_or}
 use Rattle.zarrs_chunk.specs.Answer.{◌>>=◌, Excused, fault, memory_or_fault, never, seen}
 use Rattle.zarrs_chunk.specs.Indexer.{selection_of}
 use Rattle.zarrs_chunk.specs.declared.codec_error.CodecError.{CodecError}
 use Rattle.zarrs_data_type.specs.Element.{Chunk}
 use Rattle.zarrs_codec.specs.ArrayWriter.{IsRefusedWrite}
 use Rattle.zarrs_codec.specs.BytesToBytesCodec.{BytesCodecs}
+use Rattle.zarrs_codec.specs.Calls.{count_more}
 use Rattle.zarrs_codec.specs.ChunkEdits.{edited_chunk}
-use Rattle.zarrs_codec.specs.StorageState.{StorageState, count_if}
+use Rattle.zarrs_codec.specs.StorageState.{StorageState}
 use Rattle.zarrs_bytes.specs.PartialWrite.{filled_chunk}
 use Rattle.zarrs_packbits.specs.Laws.{HasBytes}
 use Rattle.zarrs_chain_meaning.specs.ChunkForm.{ChunkForm}
@@ -19,25 +21,15 @@ use Rattle.zarrs_codec_chain.specs.declared.partial_encoder.edits.EditOutcome.{E
 
 -- ---- of chunks: the state is a chunk or nothing
 
--- the chunk that new elements are put into: nothing is a chunk of fill elements
-abbrev pub chunk_or_fill : {B : Type 0} → ChunkForm B → Option Chunk → Chunk
-chunk_or_fill form None = filled_chunk form.sizes form.type form.fill
-chunk_or_fill form (Some chunk) = chunk
-
--- what an edit makes of the state: the chunk with the new elements, or nothing; or why the edit can't be made
+-- what an edit makes of the state: the chunk with the new elements, where nothing is a chunk of fill elements; or nothing; or why the edit can't be made
 abbrev pub edited_state : {B : Type 0} → ChunkForm B → Option Chunk → Edit → Result (Option Chunk) CodecError
-edited_state form state (Encode indexer new) = seen (λ chunk. Some chunk) (edited_chunk form.sizes form.type (chunk_or_fill form state) (selection_of indexer) new)
+edited_state form state (Encode indexer new) = seen (λ chunk. Some chunk) (edited_chunk form.sizes form.type (unwrap_or state (filled_chunk form.sizes form.type form.fill)) (selection_of indexer) new)
 edited_state form state Erase = Ok None
 
 -- what edits make of it, one after another
 abbrev pub states_edited : {B : Type 0} → ChunkForm B → List Edit → Option Chunk → Result (Option Chunk) CodecError
 states_edited form [] state = Ok state
 states_edited form (edit ∷ edits) state = edited_state form state edit >>= states_edited form edits
-
--- the chunk, if there is one, is made of bytes
-abbrev pub StateHasBytes : Option Chunk → Type 0
-StateHasBytes None = Unit {0}
-StateHasBytes (Some chunk) = All HasBytes chunk
 
 -- each number of an edit's elements is a byte
 abbrev pub EditHasBytes : Edit → Type 0
@@ -58,7 +50,7 @@ stores_edited f form (edit ∷ edits) stored = edited_store f form stored edit >
 
 -- What is stored is nothing, or written for a chunk: then P holds of that chunk or of nothing. (Each number of the chunk is a byte.)
 abbrev pub OfWritten : {B : Type 0} → BytesCodecs B → ChunkForm B → Option (List ℕ) → (Option Chunk → Type 0) → Type 0
-OfWritten f form stored P = (state : Option Chunk) → StateHasBytes state → IsStoredFor f form stored state → P state
+OfWritten f form stored P = (state : Option Chunk) → IfSome state (All HasBytes) → IsStoredFor f form stored state → P state
 
 -- What was stored before these edits was nothing, or written for a chunk: then what is stored is written for the chunk as they leave it, or nothing where the last of them erases.
 abbrev pub LeavesWritten : {B : Type 0} → BytesCodecs B → ChunkForm B → List Edit → Option (List ℕ) → Option (List ℕ) → Type 0
@@ -86,17 +78,12 @@ excuse_at (edit ∷ edits) (suc place) = excuse_at edits place
 
 -- ---- of a handle
 
--- a count modulo 2^64, so many more
-abbrev pub advanced : ℕ → ℕ → ℕ
-advanced zero count = count
-advanced (suc more) count = count_if true (advanced more count)
-
 -- what so many accepted edits leave of a handle, where this is stored afterwards: one writing call more for each, and one that was accepted
 abbrev pub after_edits : ℕ → Option (List ℕ) → StorageState → StorageState
 after_edits done stored state = record state {
   value = stored;
-  writes = advanced done state.writes;
-  accepted_writes = advanced done state.accepted_writes;
+  writes = count_more done state.writes;
+  accepted_writes = count_more done state.accepted_writes;
 }
 
 -- what is left where an edit was rejected behind so many accepted ones: what a rejected write leaves of that, and that itself where neither memory nor the handle was the cause; else that
@@ -111,7 +98,7 @@ LeavesEdits (Some refusal) accepted left =
 pub record RunsEdits {B : Type 0} (f : BytesCodecs B) (form : ChunkForm B) (atomic : Bool) (before after : StorageState) (edits : List Edit) (outcome : EditOutcome) : Type 0 where
   pub written : IfNone outcome.refusal (LeavesWritten f form edits before.value after.value)
   pub written_if_atomic : atomic ≡ true → LeavesWritten f form (take outcome.done edits) before.value after.value
-  pub written_if_unwritten : after.writes ≡ advanced outcome.done before.writes → LeavesWritten f form (take outcome.done edits) before.value after.value
+  pub written_if_unwritten : after.writes ≡ count_more outcome.done before.writes → LeavesWritten f form (take outcome.done edits) before.value after.value
   pub accepted : OfWritten f form before.value (AcceptsEdits f form (take outcome.done edits))
   pub refused : IfSome outcome.refusal (λ e. Excused (excuse_at edits outcome.done e) (OfWritten f form before.value (λ state. ¬ AcceptsEdits f form (take (outcome.done + 1) edits) state)))
   pub cause : IfSome outcome.refusal (λ e. Excused (excuse_at edits outcome.done e) (stores_edited f form (take (outcome.done + 1) edits) before.value ≡ Err e))

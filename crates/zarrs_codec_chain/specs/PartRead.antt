@@ -8,7 +8,6 @@ use Rattle.zarrs_chain_meaning.specs.Meaning.{Decoder}
 use Rattle.zarrs_chain_meaning.specs.vlen.PlainForm.{PlainForm}
 use Rattle.zarrs_chain_meaning.specs.vlen.Vlen.{vlen_value_parts}
 use Rattle.zarrs_chunk.specs.Answer.{◌>>=◌, demand}
-use Rattle.zarrs_chunk.specs.ChunkShape.{product}
 use Rattle.zarrs_chunk.specs.declared.codec_error.CodecError.{CodecError}
 use Rattle.zarrs_chunk.specs.declared.codec_error.CodecError.TheVariants.{InvalidByteRange}
 use Rattle.zarrs_codec.specs.CountLaws.{passed, same_value}
@@ -27,11 +26,6 @@ whole_read decode sizes type fill None places = Ok (map (λ _. fill_element type
 whole_read decode sizes type fill (Some value) places = do
   chunk ← decode sizes type fill value
   Ok (select chunk places)
-
--- of a `vlen` by its plain form: by the offsets and the bytes of the elements alone; where it has none, by the whole chunk
-abbrev pub read_by_form : Option PlainForm → Decoder → PlaceReader
-read_by_form None decode sizes type fill stored places = whole_read decode sizes type fill stored places
-read_by_form (Some form) decode sizes type fill stored places = plain_read form (product sizes) type fill stored places
 
 -- ---- an element for each place
 
@@ -52,15 +46,11 @@ whole_count decode sizes type fill (Some value) places chunk e =
     let whole = passed (decode sizes type fill value) (λ c. Ok (select c places)) chunk e in
     each_count (λ place. get_or whole.given place absent) places chunk whole.second_is
 
-plain_count : (form : PlainForm) (count : ℕ) (type : ElementType) (fill : List ℕ) (stored : Option (List ℕ)) (places : List ℕ) (chunk : Chunk) → plain_read form count type fill stored places ≡ Ok chunk → length chunk ≡ length places
+-- and of a `vlen` by its plain form
+pub plain_count : (form : PlainForm) (count : ℕ) (type : ElementType) (fill : List ℕ) (stored : Option (List ℕ)) (places : List ℕ) (chunk : Chunk) → plain_read form count type fill stored places ≡ Ok chunk → length chunk ≡ length places
 plain_count form count type fill None places chunk e = each_count (λ _. fill_element type fill) places chunk e
 plain_count form count type fill (Some value) places chunk e =
     let parts = passed (vlen_value_parts form.at_end value) (λ parts. offsets_read form count parts.0 >>= λ offsets. elements_read offsets parts.1 places) chunk e in
     let offsets = passed (offsets_read form count parts.given.0) (λ offsets. elements_read offsets parts.given.1 places) chunk parts.second_is in
     let read = passed (demand (list_all (element_is_there offsets.given (length parts.given.1)) places) InvalidByteRange) (λ _. Ok (map (λ place. plain (cut offsets.given parts.given.1 place)) places)) chunk offsets.second_is in
     each_count (λ place. plain (cut offsets.given parts.given.1 place)) places chunk read.second_is
-
--- and of a `vlen`
-pub form_count : (form : Option PlainForm) (decode : Decoder) → AnswersEach (read_by_form form decode)
-form_count None decode sizes type fill stored places chunk e = whole_count decode sizes type fill stored places chunk e
-form_count (Some form) decode sizes type fill stored places chunk e = plain_count form (product sizes) type fill stored places chunk e

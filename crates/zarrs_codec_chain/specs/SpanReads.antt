@@ -1,5 +1,5 @@
 -- What reads give of a value that stands in a span: of what a handle keeps, or of bytes in memory.
-use Rattle.std.specs.Prelude.{◌≡◌, ℕ, ◌+◌, ◌-◌, ◌<◌, ◌^◌, if◌then◌else◌, suc, nat_le, Bool, true, false, Option, Some, None, IfOk, List, [], ◌∷◌, length, Vec, Result, Ok, option_map}
+use Rattle.std.specs.Prelude.{◌≡◌, ℕ, ◌+◌, ◌-◌, ◌<◌, ◌^◌, if◌then◌else◌, nat_le, Bool, true, false, Option, Some, None, IfOk, List, [], ◌∷◌, length, Vec, Result, Ok, option_map}
 use Rattle.std.specs.List.{All, flat_map}
 use Rattle.std.specs.declared.alloc.Global.{Global}
 use Rattle.zarrs_chunk.specs.Answer.{◌>>=◌, Answers, AnswersBy, GivesBy, demand, is_fault, memory_or_fault}
@@ -15,7 +15,7 @@ use Rattle.zarrs_chain.specs.declared.codec_chain.CodecChain.{CodecChain}
 use Rattle.zarrs_chain.specs.sharding.ShardingCalls.{index_size_of}
 use Rattle.zarrs_chain_meaning.specs.Chain.{taken_form}
 use Rattle.zarrs_chain_meaning.specs.CodecMeaning.{meaning, chain_chunk, chain_representation, codec_representation}
-use Rattle.zarrs_chain_meaning.specs.PlainChain.{PlainChain, PlainCodec, bytes_codec, packbits_codec, vlen_v2_codec, vlen_codec, optional_codec, sharding_codec}
+use Rattle.zarrs_chain_meaning.specs.PlainChain.{PlainChain}
 use Rattle.zarrs_chain_meaning.specs.sharding.InnerChunks.{grid}
 use Rattle.zarrs_chain_meaning.specs.sharding.Sharding.{Span, is_stored, spans_of}
 use Rattle.zarrs_codec.specs.BytesToBytesCodec.{BytesCodecs}
@@ -167,23 +167,3 @@ SurePlaces before rests places result = SureWhere before (rests before.value pla
 abbrev pub PutsInOrder : ElementType → ℕ → Held → Option (Vec (ℕ × ℕ) Global) → Result Held CodecError → Type 0
 PutsInOrder type count held order result =
     (chunk : Chunk) → Holds type held chunk → length chunk ≡ count → GivesBy (Holds type) result (Ok (select chunk (order_places count order)))
-
--- ---- codecs
-
--- the codec is `sharding_indexed`
-abbrev pub is_sharding : {B : Type 0} → PlainCodec B → Bool
-is_sharding (bytes_codec order) = false
-is_sharding (packbits_codec settings) = false
-is_sharding (vlen_v2_codec codec) = false
-is_sharding (vlen_codec ia ix ib da dx db wide at_end) = false
-is_sharding (optional_codec ma mx mb da dx db) = false
-is_sharding (sharding_codec sa sx sb ia ix ib shape at_end) = true
-
--- how many shards stand in one another
-abbrev pub shard_depth : {B : Type 0} → PlainCodec B → ℕ
-shard_depth (bytes_codec order) = 0
-shard_depth (packbits_codec settings) = 0
-shard_depth (vlen_v2_codec codec) = 0
-shard_depth (vlen_codec ia ix ib da dx db wide at_end) = 0
-shard_depth (optional_codec ma mx mb da dx db) = 0
-shard_depth (sharding_codec sa sx sb ia ix ib shape at_end) = suc (shard_depth sx)

@@ -10,9 +10,8 @@ ghost use Rattle.zarrs_codec.specs.StorageState.{after_reading};
 ghost use Rattle.zarrs_chain_meaning.specs.Chain.{codec_reads as codec_reads_of};
 ghost use Rattle.zarrs_chain.specs.ChainView.{plain_chain, plain_codec};
 ghost use Rattle.zarrs_codec_chain.specs.ChunkRead.{ChunkReadsRuns, SureRuns};
-ghost use Rattle.zarrs_codec_chain.specs.CodecPart.{codec_plans, codec_read, order_in_place, IsCodecPlan};
+ghost use Rattle.zarrs_codec_chain.specs.CodecPart.{codec_plans, codec_read, order_in_place, shard_depth, IsCodecPlan};
 ghost use Rattle.zarrs_codec_chain.specs.CodecRead.{Takes};
-ghost use Rattle.zarrs_codec_chain.specs.SpanReads.{is_sharding};
 
 use crate::sharding::shard_runs::shard_runs;
 use crate::vlen::vlen_runs::vlen_runs;
@@ -40,7 +39,7 @@ pub(crate) fn plain_runs<H: BytesPartialDecoderTraits, B: BytesToBytesCodecTrait
 ) -> Result<ArrayBytes<'static>, CodecError>
     requires taken { Takes B.functions codec.now shape.now kind.now fill.now }
     requires in_part { (codec_reads_of (plain_codec codec.now)).partial_decode ≡ true }
-    requires plain { is_sharding (plain_codec codec.now) ≡ false }
+    requires plain { shard_depth (plain_codec codec.now) ≡ 0 }
     requires filled { All (λ run. 0 < run.1) runs.now }
     requires below { All (λ run. run.0 + run.1 ≤ product shape.now) runs.now }
     requires count { length (joined_runs runs.now) < 2 ^ 64 }

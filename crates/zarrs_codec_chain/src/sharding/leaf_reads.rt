@@ -13,8 +13,9 @@ ghost use Rattle.zarrs_chunk.specs.ChunkShape.{product};
 ghost use Rattle.zarrs_chunk.specs.Runs.{AreFilled, EndWithin, joined_runs};
 ghost use Rattle.zarrs_codec.specs.StorageState.{after_reading};
 ghost use Rattle.zarrs_codec_chain.specs.ChunkRead.{ChunkReadsRuns, SureRuns};
+ghost use Rattle.zarrs_codec_chain.specs.CodecPart.{shard_depth};
 ghost use Rattle.zarrs_codec_chain.specs.CodecRead.{Takes};
-ghost use Rattle.zarrs_codec_chain.specs.SpanReads.{StandsIn, is_sharding, seen_state};
+ghost use Rattle.zarrs_codec_chain.specs.SpanReads.{StandsIn, seen_state};
 ghost use Rattle.zarrs_data_type.specs.Form.{form_of};
 
 use crate::partial_decoder::codec_read::plain_runs;
@@ -50,7 +51,7 @@ fn part_in_span<H: BytesPartialDecoderTraits, B: BytesToBytesCodecTraits>(
 ) -> Result<ArrayBytes<'static>, CodecError>
     requires taken { Takes B.functions codec.now shape.now kind.now fill.now }
     requires in_part { (codec_reads_of (plain_codec codec.now)).partial_decode ≡ true }
-    requires plain { is_sharding (plain_codec codec.now) ≡ false }
+    requires plain { shard_depth (plain_codec codec.now) ≡ 0 }
     requires counted { product shape.now < 2 ^ 64 }
     requires stands { StandsIn span.now (H.state handle.old) }
     requires filled { AreFilled runs.now }
@@ -142,7 +143,7 @@ pub(crate) fn leaf_runs<H: BytesPartialDecoderTraits, B: BytesToBytesCodecTraits
     runs: &[(u64, u64)],
 ) -> Result<ArrayBytes<'static>, CodecError>
     requires taken { Takes B.functions codec.now shape.now kind.now fill.now }
-    requires plain { is_sharding (plain_codec codec.now) ≡ false }
+    requires plain { shard_depth (plain_codec codec.now) ≡ 0 }
     requires counted { product shape.now < 2 ^ 64 }
     requires stands { StandsIn span.now (H.state handle.old) }
     requires filled { AreFilled runs.now }

@@ -8,7 +8,8 @@ use Rattle.zarrs_chunk.specs.Runs.{joined_runs}
 use Rattle.zarrs_chunk.specs.declared.codec_error.CodecError.{CodecError}
 use Rattle.zarrs_codec.specs.StorageState.{are_sure}
 use Rattle.zarrs_codec_chain.specs.SpanReads.{seen_state}
-use Rattle.zarrs_codec_chain.proofs.LeafReads.{rests_wholly, wholly_answered}
+use Rattle.zarrs_codec_chain.proofs.LawfulPart.{part_laws}
+use Rattle.zarrs_codec_chain.proofs.LeafReads.{wholly_answered}
 use Rattle.zarrs_codec_chain.proofs.sharding.leaf_reads.whole_in_span.Goals as goal
 
 pub returns-in_err-value-clause-sure : goal.returns-in_err-value-clause-sure
@@ -16,7 +17,7 @@ returns-in_err-value-clause-sure g c =
     let f = g.B.BytesToBytesCodecTraits.functions in
     let state = seen_state c.args.span.now (g.H.BytesPartialDecoderTraits.state c.args.handle.now) in
     let p = err_from_is_err_and c.from_residual.result c.from_residual.ensures.1 in
-    subst (λ (r : Result (List ℕ) CodecError). IfOk r (λ numbers. are_sure state.sure numbers ≡ true → is_fault c.from_residual.result ≡ false)) (sym (rests_wholly f (plain_codec c.args.codec.now) c.args.shape.now c.args.kind.now c.args.fill.now state.value (joined_runs c.args.runs.now) c.requires.whole))
+    subst (λ (r : Result (List ℕ) CodecError). IfOk r (λ numbers. are_sure state.sure numbers ≡ true → is_fault c.from_residual.result ≡ false)) (sym ((part_laws (plain_codec c.args.codec.now)).rests_wholly f c.args.shape.now c.args.kind.now c.args.fill.now state.value (joined_runs c.args.runs.now) c.requires.whole))
     (λ h. rw (p.1, p.2) (c.in_err-value.ensures.sure h))
 
 pub returns-clause-answer : goal.returns-clause-answer
