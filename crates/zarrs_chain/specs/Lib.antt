@@ -10,6 +10,7 @@ pub mod ChainJson
 pub mod Making
 pub mod Compact
 pub mod ChainView
+pub mod FormView
 pub mod ChainParts
 pub mod Reencode
 pub mod ReencodeLaws

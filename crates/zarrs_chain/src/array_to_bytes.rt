@@ -3,6 +3,7 @@ use crate::array_to_bytes_codec::{
     ArrayToBytesCodec, codec_decode, codec_is_sound, codec_representation, codec_taken_encode,
 };
 use crate::codec_chain::{CodecChain, chain_is_sound};
+use crate::form::Form;
 use crate::representation::taken_form;
 use std::alloc::Global;
 use zarrs_array_bytes::{ArrayBytes, ArrayBytesRaw};
@@ -76,7 +77,12 @@ impl<B: BytesToBytesCodecTraits> ArrayToBytesCodecTraits for CodecChain<B> {
         data_type: &DataType,
         fill_value: &FillValue,
     ) -> Result<Option<ArrayBytesRaw<'a>>, CodecError> {
-        let taken = taken_form(alloc, self, shape, data_type, fill_value)?;
+        let form = Form {
+            shape,
+            data_type,
+            fill_value,
+        };
+        let taken = taken_form(alloc, self, form)?;
         decode_bytes(alloc, &self.bytes_to_bytes, &taken.representation, value)?;
         Ok(None)
     }
@@ -109,7 +115,12 @@ impl<B: BytesToBytesCodecTraits> ArrayToBytesCodecTraits for ArrayToBytesCodec<B
         data_type: &DataType,
         fill_value: &FillValue,
     ) -> Result<BytesRepresentation, CodecError> {
-        codec_representation(alloc, self, shape, data_type, fill_value)
+        let form = Form {
+            shape,
+            data_type,
+            fill_value,
+        };
+        codec_representation(alloc, self, form)
     }
 
     fn encode<'a>(
@@ -123,7 +134,12 @@ impl<B: BytesToBytesCodecTraits> ArrayToBytesCodecTraits for ArrayToBytesCodec<B
         codec_is_sound(self);
         elements_are_bytes(&elements);
         shape.as_slice();
-        codec_taken_encode(alloc, self, elements, shape, data_type, fill_value)
+        let form = Form {
+            shape,
+            data_type,
+            fill_value,
+        };
+        codec_taken_encode(alloc, self, elements, form)
     }
 
     #[tactic(auto, using(crate::proofs::Counted::content_valid))]
@@ -135,7 +151,12 @@ impl<B: BytesToBytesCodecTraits> ArrayToBytesCodecTraits for ArrayToBytesCodec<B
         data_type: &DataType,
         fill_value: &FillValue,
     ) -> Result<ArrayBytes<'a>, CodecError> {
-        codec_representation(alloc, self, shape, data_type, fill_value)?;
+        let form = Form {
+            shape,
+            data_type,
+            fill_value,
+        };
+        codec_representation(alloc, self, form)?;
         codec_decode(alloc, self, value, shape, data_type, fill_value)
     }
 
@@ -147,7 +168,12 @@ impl<B: BytesToBytesCodecTraits> ArrayToBytesCodecTraits for ArrayToBytesCodec<B
         data_type: &DataType,
         fill_value: &FillValue,
     ) -> Result<Option<ArrayBytesRaw<'a>>, CodecError> {
-        codec_representation(alloc, self, shape, data_type, fill_value)?;
+        let form = Form {
+            shape,
+            data_type,
+            fill_value,
+        };
+        codec_representation(alloc, self, form)?;
         Ok(None)
     }
 }

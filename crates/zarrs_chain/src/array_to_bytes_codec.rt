@@ -1,7 +1,7 @@
 ghost use Rattle.zarrs_array_bytes.specs.Held.{items_of};
 ghost use Rattle.zarrs_array_bytes.specs.Tight.{IsTight};
 ghost use Rattle.zarrs_data_type.specs.Form.{form_of};
-ghost use Rattle.zarrs_chain_meaning.specs.CallAnswers.{GivesRepresentation, GivesCodecChunk};
+ghost use Rattle.zarrs_chain_meaning.specs.CallAnswers.{GivesRepresentation, GivesCodecChunk, IsTaken, GivesCodecValue};
 ghost use Rattle.std.specs.Prelude.{◌≡◌, IfOk, true};
 ghost use Rattle.zarrs_bytes.specs.GivenBytes.{HoldsGiven, IsGiven};
 ghost use Rattle.zarrs_chain_meaning.specs.KeptBytes.{codec_keeps_bytes};
@@ -9,8 +9,9 @@ ghost use Rattle.zarrs_chain_meaning.specs.Chain.{codec_reads as codec_reads_of,
 ghost use Rattle.zarrs_chain.specs.ChainView.{plain_codec};
 ghost use Rattle.zarrs_chain_meaning.specs.CodecMeaning.{HasMappings};
 ghost use Rattle.zarrs_chain_meaning.specs.MadeAgain.{HasRanges};
-ghost use Rattle.zarrs_chain.specs.CodecCalls.{CodecAccepts, CodecEncodes};
+ghost use Rattle.zarrs_chain.specs.FormView.{lent_form};
 
+use crate::form::Form;
 use crate::optional::optional_codec::{
     OptionalCodec, optional_decode, optional_encode, optional_has_ranges, optional_is_sound,
     optional_representation,
@@ -92,13 +93,16 @@ pub(crate) fn codec_has_ranges<B>(codec: &ArrayToBytesCodec<B>)
 pub(crate) fn codec_representation<B: BytesToBytesCodecTraits>(
     alloc: Global,
     codec: &ArrayToBytesCodec<B>,
-    shape: &ChunkShape,
-    data_type: &DataType,
-    fill_value: &FillValue,
+    form: Form<'_>,
 ) -> Result<BytesRepresentation, CodecError>
     ensures answer { GivesRepresentation B.functions (plain_codec codec.now)
-        (form_of shape.now data_type.now fill_value.now) result }
+        (lent_form form.entry) result }
 {
+    let Form {
+        shape,
+        data_type,
+        fill_value,
+    } = form;
     match codec {
         ArrayToBytesCodec::Bytes(codec) => {
             codec.encoded_representation(shape, data_type, fill_value)
@@ -110,12 +114,8 @@ pub(crate) fn codec_representation<B: BytesToBytesCodecTraits>(
             codec.encoded_representation(shape, data_type, fill_value)
         }
         ArrayToBytesCodec::Vlen(_) => vlen_representation(shape, data_type),
-        ArrayToBytesCodec::Optional(codec) => {
-            optional_representation(alloc, codec, shape, data_type, fill_value)
-        }
-        ArrayToBytesCodec::Sharding(codec) => {
-            sharding_representation(alloc, codec, shape, data_type, fill_value)
-        }
+        ArrayToBytesCodec::Optional(codec) => { optional_representation(alloc, codec, form) }
+        ArrayToBytesCodec::Sharding(codec) => { sharding_representation(alloc, codec, form) }
     }
 }
 
@@ -127,26 +127,32 @@ pub(crate) fn codec_encode<'a, B: BytesToBytesCodecTraits>(
     alloc: Global,
     codec: &ArrayToBytesCodec<B>,
     held: ArrayBytes<'a>,
-    shape: &ChunkShape,
-    kind: &DataType,
-    fill: &FillValue,
+    form: Form<'_>,
 ) -> Result<ArrayBytesRaw<'a>, CodecError>
-    requires taken { CodecAccepts B.functions codec.now shape.now kind.now fill.now }
-    ensures answer { CodecEncodes B.functions codec.now shape.now kind.now fill.now held.entry result }
-    ensures kept { codec_keeps_bytes (plain_codec codec.now) kind.now ≡ true
+    requires taken { IsTaken B.functions (plain_codec codec.now) (lent_form form) }
+    ensures answer { GivesCodecValue B.functions (plain_codec codec.now) (lent_form form.entry)
+        held.entry result }
+    ensures kept { codec_keeps_bytes (plain_codec codec.now) form.entry.data_type.now ≡ true
         → IsGiven held.entry result }
 {
+    let Form {
+        shape,
+        data_type,
+        fill_value,
+    } = form;
     match codec {
-        ArrayToBytesCodec::Bytes(codec) => { codec.encode(alloc, held, shape, kind, fill) }
-        ArrayToBytesCodec::PackBits(codec) => { codec.encode(alloc, held, shape, kind, fill) }
-        ArrayToBytesCodec::VlenV2(codec) => { codec.encode(alloc, held, shape, kind, fill) }
-        ArrayToBytesCodec::Vlen(codec) => { vlen_encode(alloc, codec, held, shape, kind, fill) }
-        ArrayToBytesCodec::Optional(codec) => {
-            optional_encode(alloc, codec, held, shape, kind, fill)
+        ArrayToBytesCodec::Bytes(codec) => {
+            codec.encode(alloc, held, shape, data_type, fill_value)
         }
-        ArrayToBytesCodec::Sharding(codec) => {
-            sharding_encode(alloc, codec, held, shape, kind, fill)
+        ArrayToBytesCodec::PackBits(codec) => {
+            codec.encode(alloc, held, shape, data_type, fill_value)
         }
+        ArrayToBytesCodec::VlenV2(codec) => {
+            codec.encode(alloc, held, shape, data_type, fill_value)
+        }
+        ArrayToBytesCodec::Vlen(codec) => vlen_encode(alloc, codec, held, form),
+        ArrayToBytesCodec::Optional(codec) => { optional_encode(alloc, codec, held, form) }
+        ArrayToBytesCodec::Sharding(codec) => { sharding_encode(alloc, codec, held, form) }
     }
 }
 
@@ -155,14 +161,13 @@ pub(crate) fn codec_taken_encode<'a, B: BytesToBytesCodecTraits>(
     alloc: Global,
     codec: &ArrayToBytesCodec<B>,
     held: ArrayBytes<'a>,
-    shape: &ChunkShape,
-    kind: &DataType,
-    fill: &FillValue,
+    form: Form<'_>,
 ) -> Result<ArrayBytesRaw<'a>, CodecError>
-    ensures answer { CodecEncodes B.functions codec.now shape.now kind.now fill.now held.entry result }
+    ensures answer { GivesCodecValue B.functions (plain_codec codec.now) (lent_form form.entry)
+        held.entry result }
 {
-    codec_representation(alloc, codec, shape, kind, fill)?;
-    codec_encode(alloc, codec, held, shape, kind, fill)
+    codec_representation(alloc, codec, form)?;
+    codec_encode(alloc, codec, held, form)
 }
 
 /// The chunk that a value stands for, in the container that it fixes, where the codec takes such
@@ -177,7 +182,8 @@ pub fn codec_decode<'a, B: BytesToBytesCodecTraits>(
     kind: &DataType,
     fill: &FillValue,
 ) -> Result<ArrayBytes<'a>, CodecError>
-    requires taken { CodecAccepts B.functions codec.now shape.now kind.now fill.now }
+    requires taken { IsTaken B.functions (plain_codec codec.now)
+        (form_of shape.now kind.now fill.now) }
     ensures answer { GivesCodecChunk B.functions (plain_codec codec.now)
         (form_of shape.now kind.now fill.now) (items_of value.entry) result }
     ensures tight { IfOk result (IsTight kind.now) }
@@ -190,10 +196,20 @@ pub fn codec_decode<'a, B: BytesToBytesCodecTraits>(
         ArrayToBytesCodec::VlenV2(codec) => { codec.decode(alloc, value, shape, kind, fill) }
         ArrayToBytesCodec::Vlen(codec) => { vlen_decode(alloc, codec, value, shape, kind, fill) }
         ArrayToBytesCodec::Optional(codec) => {
-            optional_decode(alloc, codec, value, shape, kind, fill)
+            let form = Form {
+                shape,
+                data_type: kind,
+                fill_value: fill,
+            };
+            optional_decode(alloc, codec, value, form)
         }
         ArrayToBytesCodec::Sharding(codec) => {
-            sharding_decode(alloc, codec, value, shape, kind, fill)
+            let form = Form {
+                shape,
+                data_type: kind,
+                fill_value: fill,
+            };
+            sharding_decode(alloc, codec, value, form)
         }
     }
 }

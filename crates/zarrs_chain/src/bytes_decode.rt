@@ -2,20 +2,20 @@
 ghost use Rattle.zarrs_array_bytes.specs.Tight.{IsTight};
 ghost use Rattle.std.specs.Prelude.{◌≡◌, IfOk, None, map, true};
 ghost use Rattle.std.specs.List.{list_all};
-ghost use Rattle.zarrs_data_type.specs.Form.{form_of};
 ghost use Rattle.zarrs_array_to_array.specs.Mapping.{mapping_of};
 ghost use Rattle.zarrs_bytes.specs.BytesCodec.{BytesTakes, turn_size};
 ghost use Rattle.zarrs_bytes.specs.GivenBytes.{HoldsGiven};
 ghost use Rattle.zarrs_chain_meaning.specs.KeptBytes.{hands_on};
 ghost use Rattle.zarrs_chain.specs.CodecCalls.{ReadsBehind};
+ghost use Rattle.zarrs_chain.specs.FormView.{lent_form};
 
+use crate::form::Form;
 use std::alloc::Global;
 use zarrs_array_bytes::{ArrayBytes, ArrayBytesRaw};
 use zarrs_array_to_array::ArrayToArrayCodec;
 use zarrs_bytes::BytesCodec;
 use zarrs_chain_meaning::array_stages::decode_arrays;
-use zarrs_chunk::{ChunkShape, CodecError};
-use zarrs_data_type::{DataType, FillValue};
+use zarrs_chunk::CodecError;
 
 /// The chunk of this shape that a value of the codec stands for, as the array-to-array codecs
 /// decode it. They move the elements as they are stored, and what they made is turned round where
@@ -26,19 +26,22 @@ pub(crate) fn bytes_decode<'a>(
     codec: &BytesCodec,
     codecs: &[ArrayToArrayCodec],
     value: ArrayBytesRaw<'a>,
-    shape: &ChunkShape,
-    kind: &DataType,
-    fill: &FillValue,
+    form: Form<'_>,
 ) -> Result<ArrayBytes<'a>, CodecError>
-    requires taken { BytesTakes codec.now (form_of shape.now kind.now fill.now) }
-    ensures answer { ReadsBehind codec.now codecs.now shape.now kind.now fill.now value.entry result }
-    ensures tight { IfOk result (IsTight kind.now) }
-    ensures kept { turn_size codec.now kind.now ≡ None
+    requires taken { BytesTakes codec.now (lent_form form) }
+    ensures answer { ReadsBehind codec.now codecs.now (lent_form form.entry) value.entry result }
+    ensures tight { IfOk result (IsTight form.entry.data_type.now) }
+    ensures kept { turn_size codec.now form.entry.data_type.now ≡ None
         → list_all hands_on (map mapping_of codecs.now) ≡ true → HoldsGiven value.entry result }
 {
+    let Form {
+        shape,
+        data_type,
+        fill_value,
+    } = form;
     shape.as_slice();
-    let stored = BytesCodec::little().decode(alloc, value, shape, kind, fill)?;
-    let moved = decode_arrays(alloc, codecs, stored, shape, kind, fill)?;
+    let stored = BytesCodec::little().decode(alloc, value, shape, data_type, fill_value)?;
+    let moved = decode_arrays(alloc, codecs, stored, shape, data_type, fill_value)?;
     let raw = moved.into_fixed()?;
-    codec.decode(alloc, raw, shape, kind, fill)
+    codec.decode(alloc, raw, shape, data_type, fill_value)
 }

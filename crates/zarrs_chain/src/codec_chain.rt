@@ -21,6 +21,7 @@ use crate::array_to_bytes_codec::{
 };
 use crate::decode::chain_decode;
 use crate::encode::chain_encode;
+use crate::form::Form;
 use crate::representation::chain_representation;
 use std::alloc::Global;
 use zarrs_array_bytes::{ArrayBytes, ArrayBytesRaw};
@@ -128,7 +129,12 @@ impl<B: BytesToBytesCodecTraits> CodecChain<B> {
         ensures answer { ChainRepresents B.functions self.now
             shape.now data_type.now fill_value.now result }
     {
-        chain_representation(alloc, self, shape, data_type, fill_value)
+        let form = Form {
+            shape,
+            data_type,
+            fill_value,
+        };
+        chain_representation(alloc, self, form)
     }
 
     /// The value that is written for the chunk that `elements` hold. Errors, the first that holds,
@@ -169,7 +175,12 @@ impl<B: BytesToBytesCodecTraits> CodecChain<B> {
         chain_is_sound(self);
         elements_are_bytes(&elements);
         shape.as_slice();
-        chain_encode(alloc, self, elements, shape, data_type, fill_value)
+        let form = Form {
+            shape,
+            data_type,
+            fill_value,
+        };
+        chain_encode(alloc, self, elements, form)
     }
 
     /// The chunk that a value stands for. Errors, the first that holds, `OutOfMemory` aside: those
@@ -214,7 +225,12 @@ impl<B: BytesToBytesCodecTraits> CodecChain<B> {
     {
         chain_is_sound(self);
         shape.as_slice();
-        chain_decode(alloc, self, value, shape, data_type, fill_value)
+        let form = Form {
+            shape,
+            data_type,
+            fill_value,
+        };
+        chain_decode(alloc, self, value, form)
     }
 }
 

@@ -15,12 +15,13 @@ use crate::array_to_bytes_codec::{ArrayToBytesCodec, codec_decode};
 use crate::bytes_decode::bytes_decode;
 use crate::codec_chain::CodecChain;
 use crate::encode::row_of;
+use crate::form::Form;
 use crate::representation::taken_form;
 use std::alloc::Global;
 use zarrs_array_bytes::{ArrayBytes, ArrayBytesRaw};
 use zarrs_chain_meaning::array_stages::decode_arrays;
 use zarrs_chain_meaning::bytes_stages::decode_bytes;
-use zarrs_chunk::{ChunkShape, CodecError};
+use zarrs_chunk::CodecError;
 use zarrs_codec::BytesToBytesCodecTraits;
 use zarrs_data_type::{DataType, FillValue};
 
@@ -31,30 +32,36 @@ pub(crate) fn chain_decode<'a, B: BytesToBytesCodecTraits>(
     alloc: Global,
     chain: &CodecChain<B>,
     value: ArrayBytesRaw<'a>,
-    shape: &ChunkShape,
-    kind: &DataType,
-    fill: &FillValue,
+    form: Form<'_>,
 ) -> Result<ArrayBytes<'a>, CodecError>
-    ensures exact { GivesBy (Holds kind.now) result (chain_chunk B.functions (plain_chain chain.now)
-        shape.now kind.now fill.now (items_of value.entry)) }
-    ensures tight { IfOk result (IsTight kind.now) }
-    ensures kept { KeepsBytes (plain_chain chain.now) kind.now → HoldsGiven value.entry result }
+    ensures exact { GivesBy (Holds form.entry.data_type.now) result
+        (chain_chunk B.functions (plain_chain chain.now)
+        form.entry.shape.now form.entry.data_type.now form.entry.fill_value.now
+        (items_of value.entry)) }
+    ensures tight { IfOk result (IsTight form.entry.data_type.now) }
+    ensures kept { KeepsBytes (plain_chain chain.now) form.entry.data_type.now
+        → HoldsGiven value.entry result }
 {
-    let taken = taken_form(alloc, chain, shape, kind, fill)?;
+    let taken = taken_form(alloc, chain, form)?;
     let below = decode_bytes(alloc, &chain.bytes_to_bytes, &taken.representation, value)?;
     let codecs = chain.array_to_array.as_slice();
     if let ArrayToBytesCodec::Bytes(codec) = &chain.array_to_bytes {
-        return bytes_decode(alloc, codec, codecs, below, shape, kind, fill);
+        return bytes_decode(alloc, codec, codecs, below, form);
     }
+    let Form {
+        shape,
+        data_type,
+        fill_value,
+    } = form;
     let chunk = codec_decode(
         alloc,
         &chain.array_to_bytes,
         below,
         &taken.shape,
-        kind,
-        fill,
+        data_type,
+        fill_value,
     )?;
-    decode_arrays(alloc, codecs, chunk, shape, kind, fill)
+    decode_arrays(alloc, codecs, chunk, shape, data_type, fill_value)
 }
 
 /// The row of so many elements that a part stands for through the chain; of none, whatever the part
@@ -74,7 +81,14 @@ pub(crate) fn part_decode<'a, B: BytesToBytesCodecTraits>(
     ensures tight { IfOk result (IsTight kind.now) }
 {
     match row_of(alloc, count)? {
-        Some(row) => chain_decode(alloc, chain, part, &row, kind, fill),
+        Some(row) => {
+            let form = Form {
+                shape: &row,
+                data_type: kind,
+                fill_value: fill,
+            };
+            chain_decode(alloc, chain, part, form)
+        }
         None => ArrayBytes::new_fill_value(alloc, kind, 0, fill),
     }
 }

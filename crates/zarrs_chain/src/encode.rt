@@ -12,6 +12,7 @@ ghost use Rattle.zarrs_chain.specs.ChainView.{plain_chain};
 
 use crate::array_to_bytes_codec::codec_encode;
 use crate::codec_chain::CodecChain;
+use crate::form::Form;
 use crate::representation::taken_form;
 use std::alloc::Global;
 use std::borrow::CowSlice;
@@ -44,25 +45,33 @@ pub(crate) fn chain_encode<'a, B: BytesToBytesCodecTraits>(
     alloc: Global,
     chain: &CodecChain<B>,
     held: ArrayBytes<'a>,
-    shape: &ChunkShape,
-    kind: &DataType,
-    fill: &FillValue,
+    form: Form<'_>,
 ) -> Result<ArrayBytesRaw<'a>, CodecError>
     ensures exact { Gives items_of result (held_value B.functions (plain_chain chain.now)
-        shape.now kind.now fill.now held.entry) }
-    ensures kept { KeepsBytes (plain_chain chain.now) kind.now → IsGiven held.entry result }
+        form.entry.shape.now form.entry.data_type.now form.entry.fill_value.now held.entry) }
+    ensures kept { KeepsBytes (plain_chain chain.now) form.entry.data_type.now
+        → IsGiven held.entry result }
 {
-    let taken = taken_form(alloc, chain, shape, kind, fill)?;
-    check_elements(&held, shape, kind)?;
-    let chunk = encode_arrays(alloc, &chain.array_to_array, held, shape, kind, fill)?;
-    let below = codec_encode(
+    let taken = taken_form(alloc, chain, form)?;
+    let Form {
+        shape,
+        data_type,
+        fill_value,
+    } = form;
+    check_elements(&held, shape, data_type)?;
+    let chunk = encode_arrays(
         alloc,
-        &chain.array_to_bytes,
-        chunk,
-        &taken.shape,
-        kind,
-        fill,
+        &chain.array_to_array,
+        held,
+        shape,
+        data_type,
+        fill_value,
     )?;
+    let inside = Form {
+        shape: &taken.shape,
+        ..form
+    };
+    let below = codec_encode(alloc, &chain.array_to_bytes, chunk, inside)?;
     encode_bytes(alloc, &chain.bytes_to_bytes, below)
 }
 
@@ -81,7 +90,14 @@ pub(crate) fn part_encode<'a, B: BytesToBytesCodecTraits>(
         count kind.now fill.now held.entry result }
 {
     match row_of(alloc, count)? {
-        Some(row) => chain_encode(alloc, chain, held, &row, kind, fill),
+        Some(row) => {
+            let form = Form {
+                shape: &row,
+                data_type: kind,
+                fill_value: fill,
+            };
+            chain_encode(alloc, chain, held, form)
+        }
         None => Ok(CowSlice::Owned(Vec::new(alloc))),
     }
 }

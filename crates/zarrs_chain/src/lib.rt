@@ -11,6 +11,7 @@ mod bytes_decode;
 mod codec_chain;
 mod decode;
 mod encode;
+mod form;
 pub mod laws;
 mod metadata;
 mod optional;

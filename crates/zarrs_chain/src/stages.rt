@@ -11,6 +11,7 @@ ghost use Rattle.zarrs_chain.specs.ChainView.{plain_chain};
 pub use crate::array_to_bytes_codec::codec_decode;
 use crate::codec_chain::CodecChain;
 pub use crate::codec_chain::chain_is_sound;
+use crate::form::Form;
 use crate::representation::taken_form as taken_by;
 pub use crate::sharding::shard_decode::has_span;
 pub use crate::sharding::shard_form::shard_form;
@@ -38,6 +39,11 @@ pub fn taken_form<B: BytesToBytesCodecTraits>(
     ensures map { MapsArrays chain.now data_type.now shape.now result }
     ensures counted { IfOk result (λ _. checked_u64 (product shape.now) ≡ Ok (product shape.now)) }
 {
-    let taken = taken_by(alloc, chain, shape, data_type, fill_value)?;
+    let form = Form {
+        shape,
+        data_type,
+        fill_value,
+    };
+    let taken = taken_by(alloc, chain, form)?;
     Ok((taken.shape, taken.representation))
 }

@@ -75,9 +75,9 @@ decode::chain_decode-returns g t c =
         is =
             let f = g.B.BytesToBytesCodecTraits.functions in
             let chain = plain_chain c.args.chain.now in
-            let sizes = c.args.shape.now in
-            let type = c.args.kind.now in
-            let fill = c.args.fill.now in
+            let sizes = c.args.form.shape.now in
+            let type = c.args.form.data_type.now in
+            let fill = c.args.form.fill_value.now in
             let taken = c.in_ok-taken.taken in
             let opened = subst (λ bs. outer_bytes f bs taken.representation (raw_of c.args.value).items ≡ Ok (raw_of c.in_ok-below.below).items) c.deref.ensures.value c.in_ok-below.ensures.answer.is in
             let found = subst (λ (cs : List ArrayToArrayCodec). IfOk (decoded_chunk (Ok tt) (arrays_map type (map mapping_of cs) sizes) type sizes c.in_ok-chunk.chunk) (λ chunk. AnswersBy memory (Holds type) c.decode_arrays.result (Ok chunk))) c.as_slice-codecs.ensures.value c.decode_arrays.ensures.moved in
@@ -98,16 +98,16 @@ decode::chain_decode-bytes_decode-requires g t c =
     let chain = plain_chain c.args.chain.now in
     let taken = c.in_ok-taken.taken in
     record {
-      taken = takes_behind f chain.array_to_array c.args.chain.now.array_to_bytes c.in-Bytes.codec chain.bytes_to_bytes c.args.shape.now c.args.kind.now c.args.fill.now (taken.shape, taken.representation) c.in-Bytes.is c.in_ok-taken.ensures.map c.in_ok-taken.ensures.answer.is;
+      taken = takes_behind f chain.array_to_array c.args.chain.now.array_to_bytes c.in-Bytes.codec chain.bytes_to_bytes c.args.form.shape.now c.args.form.data_type.now c.args.form.fill_value.now (taken.shape, taken.representation) c.in-Bytes.is c.in_ok-taken.ensures.map c.in_ok-taken.ensures.answer.is;
     }
 
 pub decode::chain_decode-returns-in-Bytes-clause-exact : goal.decode::chain_decode-returns-in-Bytes-clause-exact
 decode::chain_decode-returns-in-Bytes-clause-exact g t c =
     let f = g.B.BytesToBytesCodecTraits.functions in
     let chain = plain_chain c.args.chain.now in
-    let sizes = c.args.shape.now in
-    let type = c.args.kind.now in
-    let fill = c.args.fill.now in
+    let sizes = c.args.form.shape.now in
+    let type = c.args.form.data_type.now in
+    let fill = c.args.form.fill_value.now in
     let taken = c.in_ok-taken.taken in
     let order = c.in-Bytes.codec in
     let below = (raw_of c.in_ok-below.below).items in
@@ -119,7 +119,7 @@ pub decode::chain_decode-returns-in-Bytes-clause-kept : goal.decode::chain_decod
 decode::chain_decode-returns-in-Bytes-clause-kept g t c = λ k.
     given_below c.args.value c.in_ok-below.below c.bytes_decode.result
     (raw_is (c.in_ok-below.ensures.kept (c.deref.ensures.value ∙ k.outer)))
-    (c.bytes_decode.ensures.kept (bytes_kept c.args.chain.now.array_to_bytes c.in-Bytes.codec c.args.kind.now c.in-Bytes.is k.codec)
+    (c.bytes_decode.ensures.kept (bytes_kept c.args.chain.now.array_to_bytes c.in-Bytes.codec c.args.form.data_type.now c.in-Bytes.is k.codec)
     (subst (λ (cs : List ArrayToArrayCodec). list_all hands_on (map mapping_of cs) ≡ true) (sym c.as_slice-codecs.ensures.value) k.arrays))
 
 pub decode::chain_decode-returns-in_err-taken-clause-exact : goal.decode::chain_decode-returns-in_err-taken-clause-exact
@@ -127,7 +127,7 @@ decode::chain_decode-returns-in_err-taken-clause-exact g t c =
     record {
       is =
           let p = err_from_is_err_and c.from_residual.result c.from_residual.ensures.1 in
-          rw (p.1, p.2) (λ quiet. refused_chunk g.B.BytesToBytesCodecTraits.functions (plain_chain c.args.chain.now) c.args.shape.now c.args.kind.now c.args.fill.now (raw_of c.args.value).items c.in_err-taken.field-0.0 (c.in_err-taken.ensures.answer.is quiet));
+          rw (p.1, p.2) (λ quiet. refused_chunk g.B.BytesToBytesCodecTraits.functions (plain_chain c.args.chain.now) c.args.form.shape.now c.args.form.data_type.now c.args.form.fill_value.now (raw_of c.args.value).items c.in_err-taken.field-0.0 (c.in_err-taken.ensures.answer.is quiet));
       no_fault = search rules;
     }
 
@@ -142,7 +142,7 @@ decode::chain_decode-returns-in_err-below-clause-exact g t c =
           let p = err_from_is_err_and c.from_residual-in_err-below.result c.from_residual-in_err-below.ensures.1 in
           rw (p.1, p.2) (λ quiet.
           let h = subst (λ bs. outer_bytes f bs taken.representation value ≡ Err c.in_err-below.field-0.0) c.deref.ensures.value (c.in_err-below.ensures.answer.is quiet) in
-          unopened f chain c.args.shape.now c.args.kind.now c.args.fill.now (taken.shape, taken.representation) value c.in_err-below.field-0.0 c.in_ok-taken.ensures.answer.is h);
+          unopened f chain c.args.form.shape.now c.args.form.data_type.now c.args.form.fill_value.now (taken.shape, taken.representation) value c.in_err-below.field-0.0 c.in_ok-taken.ensures.answer.is h);
       no_fault = search rules;
     }
 
@@ -158,7 +158,7 @@ decode::chain_decode-returns-in_err-chunk g t c =
             let below = (raw_of c.in_ok-below.below).items in
             let opened = subst (λ bs. outer_bytes f bs taken.representation value ≡ Ok below) c.deref.ensures.value c.in_ok-below.ensures.answer.is in
             let p = err_from_is_err_and c.from_residual-in_err-chunk.result c.from_residual-in_err-chunk.ensures.1 in
-            rw (p.1, p.2) (λ quiet. unread f chain c.args.shape.now c.args.kind.now c.args.fill.now (taken.shape, taken.representation) value below c.in_err-chunk.field-0.0 c.in_ok-taken.ensures.answer.is opened (c.in_err-chunk.ensures.answer.is quiet));
+            rw (p.1, p.2) (λ quiet. unread f chain c.args.form.shape.now c.args.form.data_type.now c.args.form.fill_value.now (taken.shape, taken.representation) value below c.in_err-chunk.field-0.0 c.in_ok-taken.ensures.answer.is opened (c.in_err-chunk.ensures.answer.is quiet));
         no_fault = search rules;
       };
       tight = search rules;
@@ -352,19 +352,19 @@ optional::optional_codec::optional_decode-has_room-requires-clause-len g t c =
     let mask_chain = plain_chain (out-OptionalCodec _ c.args.codec.now).mask_codecs.value in
     let part = (raw_of c.in_ok-mask_part.mask_part).items in
     let mask = (raw_of c.in_ok-mask.mask).items in
-    let read : chain_chunk f mask_chain c.args.shape.now flag_type (0 ∷ []) part ≡ Ok (byte_elements mask) = search rules in
-    mask_long f mask_chain c.args.shape.now part mask read
+    let read : chain_chunk f mask_chain c.args.form.shape.now flag_type (0 ∷ []) part ≡ Ok (byte_elements mask) = search rules in
+    mask_long f mask_chain c.args.form.shape.now part mask read
 
 pub sharding::shard_index::index_decode-returns-in_err-rows : goal.sharding::shard_index::index_decode-returns-in_err-rows
 sharding::shard_index::index_decode-returns-in_err-rows g t c =
     let f = g.B.BytesToBytesCodecTraits.functions in
     let counts = c.args.grid.now in
-    let form = index_form counts c.in_ok-shape.shape c.uint64.result c.in_ok-zero.zero c.in_ok-shape.ensures.answer.is c.uint64.ensures.made c.in_ok-zero.ensures.answer.is in
+    let form = index_form counts c.in_ok-shape.shape c.uint64-number_type.result c.in_ok-zero.zero c.in_ok-shape.ensures.answer.is c.uint64-number_type.ensures.made c.in_ok-zero.ensures.answer.is in
     record {
       answer = record {
         is =
             let p = err_from_is_err_and c.from_residual-in_err-rows.result c.from_residual-in_err-rows.ensures.1 in
-            rw (p.1, p.2) (λ ne. numbers_refused f (plain_chain c.args.chain.now) counts c.in_ok-shape.shape c.args.part.now c.uint64.result c.in_ok-zero.zero c.in_err-rows.field-0.0 form (c.in_err-rows.ensures.exact.is ne));
+            rw (p.1, p.2) (λ ne. numbers_refused f (plain_chain c.args.chain.now) counts c.in_ok-shape.shape c.args.part.now c.uint64-number_type.result c.in_ok-zero.zero c.in_err-rows.field-0.0 form (c.in_err-rows.ensures.exact.is ne));
         no_fault = search rules;
       };
       len = search rules;
@@ -374,25 +374,25 @@ pub sharding::shard_index::index_decode-returns-in_err-as_fixed : goal.sharding:
 sharding::shard_index::index_decode-returns-in_err-as_fixed g t c =
     let f = g.B.BytesToBytesCodecTraits.functions in
     let counts = c.args.grid.now in
-    let form = index_form counts c.in_ok-shape.shape c.uint64.result c.in_ok-zero.zero c.in_ok-shape.ensures.answer.is c.uint64.ensures.made c.in_ok-zero.ensures.answer.is in
-    absurd (rows_there f (plain_chain c.args.chain.now) counts c.in_ok-shape.shape c.args.part.now c.uint64.result c.in_ok-zero.zero c.in_ok-rows.rows c.in_err-as_fixed.field-0.0 form c.in_ok-rows.ensures.exact.is c.in_err-as_fixed.ensures.answer)
+    let form = index_form counts c.in_ok-shape.shape c.uint64-number_type.result c.in_ok-zero.zero c.in_ok-shape.ensures.answer.is c.uint64-number_type.ensures.made c.in_ok-zero.ensures.answer.is in
+    absurd (rows_there f (plain_chain c.args.chain.now) counts c.in_ok-shape.shape c.args.part.now c.uint64-number_type.result c.in_ok-zero.zero c.in_ok-rows.rows c.in_err-as_fixed.field-0.0 form c.in_ok-rows.ensures.exact.is c.in_err-as_fixed.ensures.answer)
 
 pub sharding::shard_index::index_decode-returns : goal.sharding::shard_index::index_decode-returns
 sharding::shard_index::index_decode-returns g t c =
     let f = g.B.BytesToBytesCodecTraits.functions in
     let counts = c.args.grid.now in
-    let form = index_form counts c.in_ok-shape.shape c.uint64.result c.in_ok-zero.zero c.in_ok-shape.ensures.answer.is c.uint64.ensures.made c.in_ok-zero.ensures.answer.is in
+    let form = index_form counts c.in_ok-shape.shape c.uint64-number_type.result c.in_ok-zero.zero c.in_ok-shape.ensures.answer.is c.uint64-number_type.ensures.made c.in_ok-zero.ensures.answer.is in
     record {
       answer = record {
-        is = numbers_answered c.offset_numbers.result f (plain_chain c.args.chain.now) counts c.in_ok-shape.shape c.args.part.now c.uint64.result c.in_ok-zero.zero c.in_ok-as_fixed.field-0.now c.in_ok-rows.rows form c.in_ok-rows.ensures.exact.is c.in_ok-as_fixed.ensures.answer c.offset_numbers.ensures.exact.is;
+        is = numbers_answered c.offset_numbers.result f (plain_chain c.args.chain.now) counts c.in_ok-shape.shape c.args.part.now c.uint64-number_type.result c.in_ok-zero.zero c.in_ok-as_fixed.field-0.now c.in_ok-rows.rows form c.in_ok-rows.ensures.exact.is c.in_ok-as_fixed.ensures.answer c.offset_numbers.ensures.exact.is;
         no_fault = search rules;
       };
-      len = numbers_counted c.offset_numbers.result f (plain_chain c.args.chain.now) counts c.in_ok-shape.shape c.args.part.now c.uint64.result c.in_ok-zero.zero c.in_ok-as_fixed.field-0.now c.in_ok-rows.rows form c.in_ok-rows.ensures.exact.is c.in_ok-as_fixed.ensures.answer c.offset_numbers.ensures.exact.is;
+      len = numbers_counted c.offset_numbers.result f (plain_chain c.args.chain.now) counts c.in_ok-shape.shape c.args.part.now c.uint64-number_type.result c.in_ok-zero.zero c.in_ok-as_fixed.field-0.now c.in_ok-rows.rows form c.in_ok-rows.ensures.exact.is c.in_ok-as_fixed.ensures.answer c.offset_numbers.ensures.exact.is;
     }
 
 pub sharding::shard_decode::read_inner-with_inner-requires-clause-content_valid : goal.sharding::shard_decode::read_inner-with_inner-requires-clause-content_valid
 sharding::shard_decode::read_inner-with_inner-requires-clause-content_valid g t c =
-    let read = inner_read g.B.BytesToBytesCodecTraits.functions (plain_chain c.args.chain.now) c.args.inner.now c.args.data_type.now c.args.fill.now c.args.value.now c.in_ok-bytes_at.field-0.now c.args.span c.in_ok-content.content (sym c.in_ok-bytes_at.ensures.answer) c.in_ok-content.ensures.exact.is in
+    let read = inner_read g.B.BytesToBytesCodecTraits.functions (plain_chain c.args.chain.now) c.args.inner.now c.args.form.data_type.now c.args.form.fill_value.now c.args.value.now c.in_ok-bytes_at.field-0.now c.args.span c.in_ok-content.content (sym c.in_ok-bytes_at.ensures.answer) c.in_ok-content.ensures.exact.is in
     read.1
 
 pub sharding::shard_decode::read_inner-returns-clause-answer : goal.sharding::shard_decode::read_inner-returns-clause-answer
@@ -400,18 +400,18 @@ sharding::shard_decode::read_inner-returns-clause-answer g t c =
     let f = g.B.BytesToBytesCodecTraits.functions in
     let chain = plain_chain c.args.chain.now in
     let shape = c.args.inner.now in
-    let type = c.args.data_type.now in
-    let fill = c.args.fill.now in
+    let type = c.args.form.data_type.now in
+    let fill = c.args.form.fill_value.now in
     let value = c.args.value.now in
     let read = inner_read f chain shape type fill value c.in_ok-bytes_at.field-0.now c.args.span c.in_ok-content.content (sym c.in_ok-bytes_at.ensures.answer) c.in_ok-content.ensures.exact.is in
-    one_replaced (chain_chunk f chain) shape c.args.shape.now type fill value c.args.number c.args.span c.args.elements c.in_ok-content.content c.with_inner.result read.0 c.with_inner.ensures.answer
+    one_replaced (chain_chunk f chain) shape c.args.form.shape.now type fill value c.args.number c.args.span c.args.elements c.in_ok-content.content c.with_inner.result read.0 c.with_inner.ensures.answer
 
 pub sharding::shard_decode::read_next-returns-then-not-has_span-clause-answer : goal.sharding::shard_decode::read_next-returns-then-not-has_span-clause-answer
 sharding::shard_decode::read_next-returns-then-not-has_span-clause-answer g t c =
     let decode = chain_chunk g.B.BytesToBytesCodecTraits.functions (plain_chain c.args.chain.now) in
     let e : is_stored c.args.span ≡ false = search rules in
     record {
-      is = not_stored decode c.args.inner.now c.args.shape.now c.args.data_type.now c.args.fill.now c.args.value.now c.args.number c.args.span (is_stored c.args.span) c.args.elements c.requires.valid e;
+      is = not_stored decode c.args.inner.now c.args.form.shape.now c.args.form.data_type.now c.args.form.fill_value.now c.args.value.now c.args.number c.args.span (is_stored c.args.span) c.args.elements c.requires.valid e;
       no_fault = refl;
     }
 
@@ -420,9 +420,9 @@ sharding::shard_decode::read_all-loop-number-init g t c =
     let f = g.B.BytesToBytesCodecTraits.functions in
     let chain = plain_chain c.args.chain.now in
     let shape = c.args.inner.now in
-    let sizes = c.args.shape.now in
-    let type = c.args.data_type.now in
-    let fill = c.args.fill.now in
+    let sizes = c.args.form.shape.now in
+    let type = c.args.form.data_type.now in
+    let fill = c.args.form.fill_value.now in
     let form = c.requires.form in
     let count = count_is (product sizes) c.in_ok-count.count form.counted c.in_ok-count.ensures.answer in
     let positive = subst (All (λ size. 0 < size)) c.as_slice.ensures.value c.as_slice.ensures.positive in
@@ -439,7 +439,7 @@ sharding::shard_decode::read_all-loop-number-preserved g t c =
     let number = c.loop-number.number in
     let inside : number * 2 + 1 < length numbers = omega arith in
     record {
-      walk = walk_goes_on decode c.args.inner.now c.args.shape.now c.args.data_type.now c.args.fill.now c.args.value.now numbers number (get_or numbers (number * 2) 0, get_or numbers (number * 2 + 1) 0) c.loop-number.elements c.in_ok-elements-2.elements _ c.loop-number.invariant.walk inside refl c.in_ok-elements-2.ensures.answer.is;
+      walk = walk_goes_on decode c.args.inner.now c.args.form.shape.now c.args.form.data_type.now c.args.form.fill_value.now c.args.value.now numbers number (get_or numbers (number * 2) 0, get_or numbers (number * 2 + 1) 0) c.loop-number.elements c.in_ok-elements-2.elements _ c.loop-number.invariant.walk inside refl c.in_ok-elements-2.ensures.answer.is;
       tight = c.in_ok-elements-2.ensures.tight;
     }
 
@@ -447,7 +447,7 @@ pub sharding::shard_decode::shard_decode-returns-clause-answer : goal.sharding::
 sharding::shard_decode::shard_decode-returns-clause-answer g t c =
     let o = out-ShardingCodec _ c.args.codec.now in
     let form = c.shard_form.ensures.form in
-    shard_answered g.B.BytesToBytesCodecTraits.functions o.codecs.value o.index_codecs.value c.deref-5.result.now c.deref-3.result.now c.deref-4.result.now o.chunk_shape c.args.shape.now c.in_ok-grid.grid (is_index_at_end o.index_location) c.is_at_end.result c.args.data_type.now c.args.fill.now c.args.value.now c.in_ok-part.part.now c.in_ok-numbers.numbers.items c.as_slice-numbers.result.now c.in_ok-size.size c.read_chunk.result
+    shard_answered g.B.BytesToBytesCodecTraits.functions o.codecs.value o.index_codecs.value c.deref-5.result.now c.deref-3.result.now c.deref-4.result.now o.chunk_shape c.args.form.shape.now c.in_ok-grid.grid (is_index_at_end o.index_location) c.is_at_end.result c.args.form.data_type.now c.args.form.fill_value.now c.args.value.now c.in_ok-part.part.now c.in_ok-numbers.numbers.items c.as_slice-numbers.result.now c.in_ok-size.size c.read_chunk.result
     c.deref-5.ensures c.deref-3.ensures c.deref-4.ensures form.divided c.in_ok-grid.ensures.answer.is c.in_ok-size.ensures.answer.is c.is_at_end.ensures.value c.in_ok-part.ensures.answer c.in_ok-numbers.ensures.answer.is c.as_slice-numbers.ensures.value c.read_chunk.ensures.answer
 
 -- ---- row by row
@@ -455,25 +455,25 @@ sharding::shard_decode::shard_decode-returns-clause-answer g t c =
 pub sharding::shard_rows::read_stored_bytes-returns : goal.sharding::shard_rows::read_stored_bytes-returns
 sharding::shard_rows::read_stored_bytes-returns g t c =
     let f = g.B.BytesToBytesCodecTraits.functions in
-    let type = c.args.data_type.now in
-    let read = inner_read f (plain_chain c.args.chain.now) c.args.inner.now type c.args.fill.now c.args.value.now c.in_ok-bytes_at.field-0.now c.args.span c.in_ok-content.content (sym c.in_ok-bytes_at.ensures.answer) c.in_ok-content.ensures.exact.is in
+    let type = c.args.form.data_type.now in
+    let read = inner_read f (plain_chain c.args.chain.now) c.args.form.shape.now type c.args.form.fill_value.now c.args.value.now c.in_ok-bytes_at.field-0.now c.args.span c.in_ok-content.content (sym c.in_ok-bytes_at.ensures.answer) c.in_ok-content.ensures.exact.is in
     record {
-      answer = content_read type (product c.args.inner.now) c.in_ok-content.content _ c.into_fixed.result c.requires.fixed read.0 read.1 c.into_fixed.ensures.answer;
-      whole = content_whole type (product c.args.inner.now) c.in_ok-content.content c.into_fixed.result read.1 c.into_fixed.ensures.answer;
+      answer = content_read type (product c.args.form.shape.now) c.in_ok-content.content _ c.into_fixed.result c.requires.fixed read.0 read.1 c.into_fixed.ensures.answer;
+      whole = content_whole type (product c.args.form.shape.now) c.in_ok-content.content c.into_fixed.result read.1 c.into_fixed.ensures.answer;
     }
 
 pub sharding::shard_rows::read_inner_bytes-returns-then-not-has_span : goal.sharding::shard_rows::read_inner_bytes-returns-then-not-has_span
 sharding::shard_rows::read_inner_bytes-returns-then-not-has_span g t c =
     let decode = chain_chunk g.B.BytesToBytesCodecTraits.functions (plain_chain c.args.chain.now) in
     let e : is_stored c.args.span ≡ false = search rules in
-    let read = blank_read decode c.args.inner.now c.args.data_type.now c.args.fill.now c.args.value.now c.args.blank.now c.args.span (is_stored c.args.span) e c.requires.blank in
+    let read = blank_read decode c.args.form.shape.now c.args.form.data_type.now c.args.form.fill_value.now c.args.value.now c.args.blank.now c.args.span (is_stored c.args.span) e c.requires.blank in
     record { answer = record { is = read.0; no_fault = refl }; whole = read.1 }
 
 pub sharding::shard_rows::read_all_bytes-loop-number-init : goal.sharding::shard_rows::read_all_bytes-loop-number-init
 sharding::shard_rows::read_all_bytes-loop-number-init g t c =
     let decode = chain_chunk g.B.BytesToBytesCodecTraits.functions (plain_chain c.args.chain.now) in
     record {
-      walk = reads_begin decode c.args.inner.now c.args.data_type.now c.args.fill.now c.args.value.now c.args.numbers.now _ (ap (chunks_in c.args.data_type.now (product c.args.inner.now)) c.in_ok-contents.ensures.items);
+      walk = reads_begin decode c.args.form.shape.now c.args.form.data_type.now c.args.form.fill_value.now c.args.value.now c.args.numbers.now _ (ap (chunks_in c.args.form.data_type.now (product c.args.form.shape.now)) c.in_ok-contents.ensures.items);
       all = search rules;
       whole = search rules;
     }
@@ -483,14 +483,14 @@ sharding::shard_rows::read_all_bytes-loop-number-preserved g t c =
     let decode = chain_chunk g.B.BytesToBytesCodecTraits.functions (plain_chain c.args.chain.now) in
     let numbers = c.args.numbers.now in
     let number = c.loop-number.number in
-    let type = c.args.data_type.now in
-    let count = product c.args.inner.now in
+    let type = c.args.form.data_type.now in
+    let count = product c.args.form.shape.now in
     let inside : number * 2 + 1 < length numbers = omega arith in
     let old = c.loop-number.contents.items in
     let content = c.in_ok-content.content in
     let more = chunks_more type count old _ content c.in_ok-push.ensures.items in
     record {
-      walk = reads_on decode c.args.inner.now type c.args.fill.now c.args.value.now numbers number (get_or numbers (number * 2) 0, get_or numbers (number * 2 + 1) 0) (chunks_in type count old) c.loop-number.invariant.walk inside refl (elements type count (flen (raw_of content))) _ c.in_ok-content.ensures.answer.is more;
+      walk = reads_on decode c.args.form.shape.now type c.args.form.fill_value.now c.args.value.now numbers number (get_or numbers (number * 2) 0, get_or numbers (number * 2 + 1) 0) (chunks_in type count old) c.loop-number.invariant.walk inside refl (elements type count (flen (raw_of content))) _ c.in_ok-content.ensures.answer.is more;
       all = long_more old _ content number c.in_ok-push.ensures.items c.loop-number.invariant.all;
       whole = whole_more (λ (x : CowSlice ℕ Global). validity type count (flen (raw_of x)) ≡ Ok tt) old _ content c.in_ok-push.ensures.items c.loop-number.invariant.whole c.in_ok-content.ensures.whole;
     }
@@ -500,7 +500,7 @@ sharding::shard_rows::read_all_bytes-returns g t c =
     let decode = chain_chunk g.B.BytesToBytesCodecTraits.functions (plain_chain c.args.chain.now) in
     let end : c.loop-number.number ≡ length c.args.numbers.now / 2 = omega arith in
     record {
-      answer = record { is = reads_end decode c.args.inner.now c.args.data_type.now c.args.fill.now c.args.value.now c.args.numbers.now c.loop-number.number _ c.loop-number.invariant.walk end; no_fault = refl };
+      answer = record { is = reads_end decode c.args.form.shape.now c.args.form.data_type.now c.args.form.fill_value.now c.args.value.now c.args.numbers.now c.loop-number.number _ c.loop-number.invariant.walk end; no_fault = refl };
       all = c.loop-number.invariant.all ∙ end;
       whole = c.loop-number.invariant.whole;
     }
@@ -509,26 +509,26 @@ pub sharding::shard_rows::read_rows-blank_inner_chunk-requires-clause-room : goa
 sharding::shard_rows::read_rows-blank_inner_chunk-requires-clause-room g t c =
     let parts_positive = subst (All (λ size. 0 < size)) c.as_slice.ensures.value c.as_slice.ensures.positive in
     let positive = subst (All (λ size. 0 < size)) c.as_slice-2.ensures.value c.as_slice-2.ensures.positive in
-    less_room c.args.data_type.now c.args.size (product c.args.inner.now) (product c.args.shape.now) c.requires.fixed (inner_smaller c.args.inner.now c.args.shape.now parts_positive positive c.requires.form.divided) c.requires.form.room
+    less_room c.args.form.data_type.now c.args.size (product c.args.inner.now) (product c.args.form.shape.now) c.requires.fixed (inner_smaller c.args.inner.now c.args.form.shape.now parts_positive positive c.requires.form.divided) c.requires.form.room
 
 pub sharding::shard_rows::read_rows-returns-in_err-bytes : goal.sharding::shard_rows::read_rows-returns-in_err-bytes
 sharding::shard_rows::read_rows-returns-in_err-bytes g t c =
-    let s : is_none (fixed_size_of c.args.data_type.now) ≡ false = ap is_none c.requires.fixed in
-    absurd (items_there c.args.data_type.now c.in_ok-blank.blank _ c.in_err-bytes.field-0.0 s c.in_ok-blank.ensures.answer.is (sym c.in_err-bytes.ensures.answer))
+    let s : is_none (fixed_size_of c.args.form.data_type.now) ≡ false = ap is_none c.requires.fixed in
+    absurd (items_there c.args.form.data_type.now c.in_ok-blank.blank _ c.in_err-bytes.field-0.0 s c.in_ok-blank.ensures.answer.is (sym c.in_err-bytes.ensures.answer))
 
 pub sharding::shard_rows::read_rows-read_all_bytes-requires : goal.sharding::shard_rows::read_rows-read_all_bytes-requires
 sharding::shard_rows::read_rows-read_all_bytes-requires g t c =
-    let s : is_none (fixed_size_of c.args.data_type.now) ≡ false = ap is_none c.requires.fixed in
-    let h : Holds c.args.data_type.now (flen (lent_bytes c.in_ok-bytes.bytes.now)) (missing_chunk c.args.inner.now c.args.data_type.now c.args.fill.now) =
-    lent_holds c.args.data_type.now c.in_ok-blank.blank c.in_ok-bytes.bytes.now _ (sym c.in_ok-bytes.ensures.answer) c.in_ok-blank.ensures.answer.is in
+    let s : is_none (fixed_size_of c.args.form.data_type.now) ≡ false = ap is_none c.requires.fixed in
+    let h : Holds c.args.form.data_type.now (flen (lent_bytes c.in_ok-bytes.bytes.now)) (missing_chunk c.args.inner.now c.args.form.data_type.now c.args.form.fill_value.now) =
+    lent_holds c.args.form.data_type.now c.in_ok-blank.blank c.in_ok-bytes.bytes.now _ (sym c.in_ok-bytes.ensures.answer) c.in_ok-blank.ensures.answer.is in
     search (rules, s, h)
 
 pub sharding::shard_rows::read_rows-returns-clause-answer : goal.sharding::shard_rows::read_rows-returns-clause-answer
 sharding::shard_rows::read_rows-returns-clause-answer g t c =
     let shape = c.args.inner.now in
-    let sizes = c.args.shape.now in
-    let read = c.in_ok-contents.ensures.answer.is ∙ ap (λ (cs : List (CowSlice ℕ Global)). ok (chunks_in c.args.data_type.now (product shape) cs)) (sym c.as_slice-3.ensures.value) in
-    chunk_joined (joined_inner_chunks shape sizes) (Holds c.args.data_type.now) _ _ c.joined_rows.result read c.joined_rows.ensures.answer
+    let sizes = c.args.form.shape.now in
+    let read = c.in_ok-contents.ensures.answer.is ∙ ap (λ (cs : List (CowSlice ℕ Global)). ok (chunks_in c.args.form.data_type.now (product shape) cs)) (sym c.as_slice-3.ensures.value) in
+    chunk_joined (joined_inner_chunks shape sizes) (Holds c.args.form.data_type.now) _ _ c.joined_rows.result read c.joined_rows.ensures.answer
 
 pub sharding::shard_rows::read_all_bytes-returns-in_err-content : goal.sharding::shard_rows::read_all_bytes-returns-in_err-content
 sharding::shard_rows::read_all_bytes-returns-in_err-content g t c =
@@ -540,7 +540,7 @@ sharding::shard_rows::read_all_bytes-returns-in_err-content g t c =
       answer = record {
         is =
             let p = err_from_is_err_and c.from_residual-in_err-content.result c.from_residual-in_err-content.ensures.1 in
-            rw (p.1, p.2) (λ ne. reads_refused decode c.args.inner.now c.args.data_type.now c.args.fill.now c.args.value.now numbers number (get_or numbers (number * 2) 0, get_or numbers (number * 2 + 1) 0) _ c.loop-number.invariant.walk inside refl c.in_err-content.field-0.0 (c.in_err-content.ensures.answer.is ne));
+            rw (p.1, p.2) (λ ne. reads_refused decode c.args.form.shape.now c.args.form.data_type.now c.args.form.fill_value.now c.args.value.now numbers number (get_or numbers (number * 2) 0, get_or numbers (number * 2 + 1) 0) _ c.loop-number.invariant.walk inside refl c.in_err-content.field-0.0 (c.in_err-content.ensures.answer.is ne));
         no_fault = search rules;
       };
       all = search rules;
@@ -549,9 +549,9 @@ sharding::shard_rows::read_all_bytes-returns-in_err-content g t c =
 
 pub sharding::shard_rows::read_rows-joined_rows-requires : goal.sharding::shard_rows::read_rows-joined_rows-requires
 sharding::shard_rows::read_rows-joined_rows-requires g t c =
-    let type = c.args.data_type.now in
+    let type = c.args.form.data_type.now in
     let shape = c.args.inner.now in
-    let sizes = c.args.shape.now in
+    let sizes = c.args.form.shape.now in
     let form = c.requires.form in
     record {
       valid = record {
@@ -571,18 +571,18 @@ pub sharding::shard_bands::read_elements-returns-then-not-has_span : goal.shardi
 sharding::shard_bands::read_elements-returns-then-not-has_span g t c =
     let decode = chain_chunk g.B.BytesToBytesCodecTraits.functions (plain_chain c.args.chain.now) in
     let e : is_stored c.args.span ≡ false = search rules in
-    let read = blank_cloned decode c.args.inner.now c.args.data_type.now c.args.fill.now c.args.value.now c.args.span (is_stored c.args.span) c.args.blank.now c.clone.result e c.requires.missing c.requires.blank_tight c.clone.ensures.copy in
+    let read = blank_cloned decode c.args.form.shape.now c.args.form.data_type.now c.args.form.fill_value.now c.args.value.now c.args.span (is_stored c.args.span) c.args.blank.now c.clone.result e c.requires.missing c.requires.blank_tight c.clone.ensures.copy in
     record { answer = read.answer; whole = read.whole; tight = read.tight }
 
 pub sharding::shard_bands::read_elements-returns : goal.sharding::shard_bands::read_elements-returns
 sharding::shard_bands::read_elements-returns g t c =
     let f = g.B.BytesToBytesCodecTraits.functions in
-    let type = c.args.data_type.now in
+    let type = c.args.form.data_type.now in
     let decode = chain_chunk f (plain_chain c.args.chain.now) in
     let e : is_stored c.args.span ≡ true = search rules in
-    let read = inner_read f (plain_chain c.args.chain.now) c.args.inner.now type c.args.fill.now c.args.value.now c.in_ok-bytes_at.field-0.now c.args.span c.in_ok-content.content (sym c.in_ok-bytes_at.ensures.answer) c.in_ok-content.ensures.exact.is in
+    let read = inner_read f (plain_chain c.args.chain.now) c.args.form.shape.now type c.args.form.fill_value.now c.args.value.now c.in_ok-bytes_at.field-0.now c.args.span c.in_ok-content.content (sym c.in_ok-bytes_at.ensures.answer) c.in_ok-content.ensures.exact.is in
     record {
-      answer = record { is = ap (λ b. inner_chunk_at b decode c.args.inner.now type c.args.fill.now c.args.value.now c.args.span) e ∙ read.0; no_fault = refl };
+      answer = record { is = ap (λ b. inner_chunk_at b decode c.args.form.shape.now type c.args.form.fill_value.now c.args.value.now c.args.span) e ∙ read.0; no_fault = refl };
       whole = read.1;
       tight = c.in_ok-content.ensures.tight;
     }
@@ -591,7 +591,7 @@ pub sharding::shard_bands::read_band-loop-number-init : goal.sharding::shard_ban
 sharding::shard_bands::read_band-loop-number-init g t c =
     let decode = chain_chunk g.B.BytesToBytesCodecTraits.functions (plain_chain c.args.chain.now) in
     record {
-      walk = reads_begin decode c.args.inner.now c.args.data_type.now c.args.fill.now c.args.value.now c.args.numbers.now _ (ap (chunks_of c.args.data_type.now (product c.args.inner.now)) c.in_ok-contents.ensures.items);
+      walk = reads_begin decode c.args.form.shape.now c.args.form.data_type.now c.args.form.fill_value.now c.args.value.now c.args.numbers.now _ (ap (chunks_of c.args.form.data_type.now (product c.args.form.shape.now)) c.in_ok-contents.ensures.items);
       all = search rules;
       whole = search rules;
       tight = search rules;
@@ -602,14 +602,14 @@ sharding::shard_bands::read_band-loop-number-preserved g t c =
     let decode = chain_chunk g.B.BytesToBytesCodecTraits.functions (plain_chain c.args.chain.now) in
     let numbers = c.args.numbers.now in
     let number = c.loop-number.number in
-    let type = c.args.data_type.now in
-    let count = product c.args.inner.now in
+    let type = c.args.form.data_type.now in
+    let count = product c.args.form.shape.now in
     let inside : number * 2 + 1 < length numbers = omega arith in
     let old = c.loop-number.contents.items in
     let content = c.in_ok-content.content in
     let more = chunks_on type count old _ content c.in_ok-push.ensures.items in
     record {
-      walk = reads_on decode c.args.inner.now type c.args.fill.now c.args.value.now numbers number (get_or numbers (number * 2) 0, get_or numbers (number * 2 + 1) 0) (chunks_of type count old) c.loop-number.invariant.walk inside refl (elements type count content) _ c.in_ok-content.ensures.answer.is more;
+      walk = reads_on decode c.args.form.shape.now type c.args.form.fill_value.now c.args.value.now numbers number (get_or numbers (number * 2) 0, get_or numbers (number * 2 + 1) 0) (chunks_of type count old) c.loop-number.invariant.walk inside refl (elements type count content) _ c.in_ok-content.ensures.answer.is more;
       all = long_more old _ content number c.in_ok-push.ensures.items c.loop-number.invariant.all;
       whole = whole_more (λ (x : Held). validity type count x ≡ Ok tt) old _ content c.in_ok-push.ensures.items c.loop-number.invariant.whole c.in_ok-content.ensures.whole;
       tight = whole_more (IsTight type) old _ content c.in_ok-push.ensures.items c.loop-number.invariant.tight c.in_ok-content.ensures.tight;
@@ -620,7 +620,7 @@ sharding::shard_bands::read_band-returns g t c =
     let decode = chain_chunk g.B.BytesToBytesCodecTraits.functions (plain_chain c.args.chain.now) in
     let end : c.loop-number.number ≡ length c.args.numbers.now / 2 = omega arith in
     record {
-      answer = record { is = reads_end decode c.args.inner.now c.args.data_type.now c.args.fill.now c.args.value.now c.args.numbers.now c.loop-number.number _ c.loop-number.invariant.walk end; no_fault = refl };
+      answer = record { is = reads_end decode c.args.form.shape.now c.args.form.data_type.now c.args.form.fill_value.now c.args.value.now c.args.numbers.now c.loop-number.number _ c.loop-number.invariant.walk end; no_fault = refl };
       all = c.loop-number.invariant.all ∙ end;
       whole = c.loop-number.invariant.whole;
       tight = c.loop-number.invariant.tight;
@@ -636,7 +636,7 @@ sharding::shard_bands::read_band-returns-in_err-content g t c =
       answer = record {
         is =
             let p = err_from_is_err_and c.from_residual-in_err-content.result c.from_residual-in_err-content.ensures.1 in
-            rw (p.1, p.2) (λ ne. reads_refused decode c.args.inner.now c.args.data_type.now c.args.fill.now c.args.value.now numbers number (get_or numbers (number * 2) 0, get_or numbers (number * 2 + 1) 0) _ c.loop-number.invariant.walk inside refl c.in_err-content.field-0.0 (c.in_err-content.ensures.answer.is ne));
+            rw (p.1, p.2) (λ ne. reads_refused decode c.args.form.shape.now c.args.form.data_type.now c.args.form.fill_value.now c.args.value.now numbers number (get_or numbers (number * 2) 0, get_or numbers (number * 2 + 1) 0) _ c.loop-number.invariant.walk inside refl c.in_err-content.field-0.0 (c.in_err-content.ensures.answer.is ne));
         no_fault = search rules;
       };
       all = search rules;
@@ -649,10 +649,10 @@ sharding::shard_bands::read_bands-band_sizes-requires g t c =
     let f = g.B.BytesToBytesCodecTraits.functions in
     let chain = plain_chain c.args.chain.now in
     let inner : List ℕ = c.args.inner.now in
-    let shape : List ℕ = c.args.shape.now in
+    let shape : List ℕ = c.args.form.shape.now in
     let band : List ℕ = band_of inner shape in
-    let type = c.args.data_type.now in
-    let fill = c.args.fill.now in
+    let type = c.args.form.data_type.now in
+    let fill = c.args.form.fill_value.now in
     let numbers : List ℕ = c.args.numbers.now in
     let form = c.requires.form in
     let parts_positive : All (λ part. 0 < part) inner = subst (All (λ part. 0 < part)) c.as_slice.ensures.value c.as_slice.ensures.positive in
@@ -667,10 +667,10 @@ sharding::shard_bands::read_bands-loop-number-init g t c =
     let f = g.B.BytesToBytesCodecTraits.functions in
     let chain = plain_chain c.args.chain.now in
     let inner : List ℕ = c.args.inner.now in
-    let shape : List ℕ = c.args.shape.now in
+    let shape : List ℕ = c.args.form.shape.now in
     let band : List ℕ = band_of inner shape in
-    let type = c.args.data_type.now in
-    let fill = c.args.fill.now in
+    let type = c.args.form.data_type.now in
+    let fill = c.args.form.fill_value.now in
     let numbers : List ℕ = c.args.numbers.now in
     let form = c.requires.form in
     let parts_positive : All (λ part. 0 < part) inner = subst (All (λ part. 0 < part)) c.as_slice.ensures.value c.as_slice.ensures.positive in
@@ -685,10 +685,10 @@ sharding::shard_bands::read_bands-band_numbers-part-requires g t c =
     let f = g.B.BytesToBytesCodecTraits.functions in
     let chain = plain_chain c.args.chain.now in
     let inner : List ℕ = c.args.inner.now in
-    let shape : List ℕ = c.args.shape.now in
+    let shape : List ℕ = c.args.form.shape.now in
     let band : List ℕ = band_of inner shape in
-    let type = c.args.data_type.now in
-    let fill = c.args.fill.now in
+    let type = c.args.form.data_type.now in
+    let fill = c.args.form.fill_value.now in
     let numbers : List ℕ = c.args.numbers.now in
     let form = c.requires.form in
     let parts_positive : All (λ part. 0 < part) inner = subst (All (λ part. 0 < part)) c.as_slice.ensures.value c.as_slice.ensures.positive in
@@ -707,10 +707,10 @@ sharding::shard_bands::read_bands-join_band-requires g t c =
     let f = g.B.BytesToBytesCodecTraits.functions in
     let chain = plain_chain c.args.chain.now in
     let inner : List ℕ = c.args.inner.now in
-    let shape : List ℕ = c.args.shape.now in
+    let shape : List ℕ = c.args.form.shape.now in
     let band : List ℕ = band_of inner shape in
-    let type = c.args.data_type.now in
-    let fill = c.args.fill.now in
+    let type = c.args.form.data_type.now in
+    let fill = c.args.form.fill_value.now in
     let numbers : List ℕ = c.args.numbers.now in
     let form = c.requires.form in
     let parts_positive : All (λ part. 0 < part) inner = subst (All (λ part. 0 < part)) c.as_slice.ensures.value c.as_slice.ensures.positive in
@@ -737,10 +737,10 @@ sharding::shard_bands::read_bands-overflow_add-done g t c =
     let f = g.B.BytesToBytesCodecTraits.functions in
     let chain = plain_chain c.args.chain.now in
     let inner : List ℕ = c.args.inner.now in
-    let shape : List ℕ = c.args.shape.now in
+    let shape : List ℕ = c.args.form.shape.now in
     let band : List ℕ = band_of inner shape in
-    let type = c.args.data_type.now in
-    let fill = c.args.fill.now in
+    let type = c.args.form.data_type.now in
+    let fill = c.args.form.fill_value.now in
     let numbers : List ℕ = c.args.numbers.now in
     let form = c.requires.form in
     let parts_positive : All (λ part. 0 < part) inner = subst (All (λ part. 0 < part)) c.as_slice.ensures.value c.as_slice.ensures.positive in
@@ -759,10 +759,10 @@ sharding::shard_bands::read_bands-loop-number-preserved g t c =
     let f = g.B.BytesToBytesCodecTraits.functions in
     let chain = plain_chain c.args.chain.now in
     let inner : List ℕ = c.args.inner.now in
-    let shape : List ℕ = c.args.shape.now in
+    let shape : List ℕ = c.args.form.shape.now in
     let band : List ℕ = band_of inner shape in
-    let type = c.args.data_type.now in
-    let fill = c.args.fill.now in
+    let type = c.args.form.data_type.now in
+    let fill = c.args.form.fill_value.now in
     let numbers : List ℕ = c.args.numbers.now in
     let form = c.requires.form in
     let parts_positive : All (λ part. 0 < part) inner = subst (All (λ part. 0 < part)) c.as_slice.ensures.value c.as_slice.ensures.positive in
@@ -793,10 +793,10 @@ sharding::shard_bands::read_bands-returns-in_err-contents g t c =
     let f = g.B.BytesToBytesCodecTraits.functions in
     let chain = plain_chain c.args.chain.now in
     let inner : List ℕ = c.args.inner.now in
-    let shape : List ℕ = c.args.shape.now in
+    let shape : List ℕ = c.args.form.shape.now in
     let band : List ℕ = band_of inner shape in
-    let type = c.args.data_type.now in
-    let fill = c.args.fill.now in
+    let type = c.args.form.data_type.now in
+    let fill = c.args.form.fill_value.now in
     let numbers : List ℕ = c.args.numbers.now in
     let form = c.requires.form in
     let parts_positive : All (λ part. 0 < part) inner = subst (All (λ part. 0 < part)) c.as_slice.ensures.value c.as_slice.ensures.positive in
@@ -824,10 +824,10 @@ sharding::shard_bands::read_bands-returns g t c =
     let f = g.B.BytesToBytesCodecTraits.functions in
     let chain = plain_chain c.args.chain.now in
     let inner : List ℕ = c.args.inner.now in
-    let shape : List ℕ = c.args.shape.now in
+    let shape : List ℕ = c.args.form.shape.now in
     let band : List ℕ = band_of inner shape in
-    let type = c.args.data_type.now in
-    let fill = c.args.fill.now in
+    let type = c.args.form.data_type.now in
+    let fill = c.args.form.fill_value.now in
     let numbers : List ℕ = c.args.numbers.now in
     let form = c.requires.form in
     let parts_positive : All (λ part. 0 < part) inner = subst (All (λ part. 0 < part)) c.as_slice.ensures.value c.as_slice.ensures.positive in

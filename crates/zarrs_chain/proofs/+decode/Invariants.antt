@@ -19,33 +19,33 @@ abbrev pub invariant-sharding::shard_decode::read_all-loop-number : goal.invaria
 invariant-sharding::shard_decode::read_all-loop-number g l =
     let decode = chain_chunk g.B.BytesToBytesCodecTraits.functions (plain_chain l.chain) in
     record {
-      walk : WalksTo decode l.inner l.shape l.data_type l.fill l.value l.numbers l.number l.elements (inner_chunks_at decode l.inner l.data_type l.fill l.value (spans_of l.numbers) >>= λ inner_chunks. Ok (joined_inner_chunks l.inner l.shape inner_chunks));
-      tight : IsTight l.data_type l.elements;
+      walk : WalksTo decode l.inner l.form.shape.now l.form.data_type.now l.form.fill_value.now l.value l.numbers l.number l.elements (inner_chunks_at decode l.inner l.form.data_type.now l.form.fill_value.now l.value (spans_of l.numbers) >>= λ inner_chunks. Ok (joined_inner_chunks l.inner l.form.shape.now inner_chunks));
+      tight : IsTight l.form.data_type.now l.elements;
     }
 
 abbrev pub invariant-sharding::shard_rows::read_all_bytes-loop-number : goal.invariant-sharding::shard_rows::read_all_bytes-loop-number
 invariant-sharding::shard_rows::read_all_bytes-loop-number g l =
     let decode = chain_chunk g.B.BytesToBytesCodecTraits.functions (plain_chain l.chain) in
     record {
-      walk : ReadsTo decode l.inner l.data_type l.fill l.value l.numbers l.number (chunks_in l.data_type (product l.inner) l.contents.items);
+      walk : ReadsTo decode l.form.shape.now l.form.data_type.now l.form.fill_value.now l.value l.numbers l.number (chunks_in l.form.data_type.now (product l.form.shape.now) l.contents.items);
       all : length l.contents.items ≡ l.number;
-      whole : All (λ content. validity l.data_type (product l.inner) (flen (raw_of content)) ≡ Ok tt) l.contents.items;
+      whole : All (λ content. validity l.form.data_type.now (product l.form.shape.now) (flen (raw_of content)) ≡ Ok tt) l.contents.items;
     }
 
 abbrev pub invariant-sharding::shard_bands::read_band-loop-number : goal.invariant-sharding::shard_bands::read_band-loop-number
 invariant-sharding::shard_bands::read_band-loop-number g l =
     let decode = chain_chunk g.B.BytesToBytesCodecTraits.functions (plain_chain l.chain) in
     record {
-      walk : ReadsTo decode l.inner l.data_type l.fill l.value l.numbers l.number (chunks_of l.data_type (product l.inner) l.contents.items);
+      walk : ReadsTo decode l.form.shape.now l.form.data_type.now l.form.fill_value.now l.value l.numbers l.number (chunks_of l.form.data_type.now (product l.form.shape.now) l.contents.items);
       all : length l.contents.items ≡ l.number;
-      whole : All (λ content. validity l.data_type (product l.inner) content ≡ Ok tt) l.contents.items;
-      tight : All (IsTight l.data_type) l.contents.items;
+      whole : All (λ content. validity l.form.data_type.now (product l.form.shape.now) content ≡ Ok tt) l.contents.items;
+      tight : All (IsTight l.form.data_type.now) l.contents.items;
     }
 
 abbrev pub invariant-sharding::shard_bands::read_bands-loop-number : goal.invariant-sharding::shard_bands::read_bands-loop-number
 invariant-sharding::shard_bands::read_bands-loop-number g l =
     let decode = chain_chunk g.B.BytesToBytesCodecTraits.functions (plain_chain l.chain) in
     record {
-      walk : BandsTo decode l.inner (band_of l.inner l.shape) (inner_chunk_count l.inner (band_of l.inner l.shape)) l.data_type l.fill l.value l.numbers l.number l.done l.elements;
-      tight : IsTight l.data_type l.elements;
+      walk : BandsTo decode l.inner (band_of l.inner l.form.shape.now) (inner_chunk_count l.inner (band_of l.inner l.form.shape.now)) l.form.data_type.now l.form.fill_value.now l.value l.numbers l.number l.done l.elements;
+      tight : IsTight l.form.data_type.now l.elements;
     }

@@ -18,6 +18,7 @@ use Rattle.zarrs_chain_meaning.specs.BytesStages.{outer_value, in_memory}
 use Rattle.zarrs_chain_meaning.specs.Chain.{held_value, held_part}
 use Rattle.zarrs_chain_meaning.specs.KeptBytes.{hands_on}
 use Rattle.zarrs_chain.specs.ChainView.{plain_chain, plain_vlen, plain_vlen_at}
+use Rattle.zarrs_chain.specs.FormView.{lent_form}
 use Rattle.zarrs_chain_meaning.specs.vlen.VlenSettings.{is_wide, is_at_end}
 use Rattle.zarrs_chain_meaning.specs.Parts.{byte_elements, byte_type, part_length_bytes}
 use Rattle.zarrs_chain_meaning.specs.CodecMeaning.{chain_value}
@@ -65,7 +66,7 @@ encode::chain_encode-returns-in_err-taken g t c =
       exact = record {
         is =
             let p = err_from_is_err_and c.from_residual.result c.from_residual.ensures.1 in
-            rw (p.1, p.2) (λ quiet. refused_value g.B.BytesToBytesCodecTraits.functions (plain_chain c.args.chain.now) c.args.shape.now c.args.kind.now c.args.fill.now c.args.held c.in_err-taken.field-0.0 (c.in_err-taken.ensures.answer.is quiet));
+            rw (p.1, p.2) (λ quiet. refused_value g.B.BytesToBytesCodecTraits.functions (plain_chain c.args.chain.now) c.args.form.shape.now c.args.form.data_type.now c.args.form.fill_value.now c.args.held c.in_err-taken.field-0.0 (c.in_err-taken.ensures.answer.is quiet));
         no_fault = search rules;
       };
       kept = λ _. search rules;
@@ -78,9 +79,9 @@ encode::chain_encode-returns-in_err-below g t c =
         is =
             let f = g.B.BytesToBytesCodecTraits.functions in
             let chain = plain_chain c.args.chain.now in
-            let sizes = c.args.shape.now in
-            let type = c.args.kind.now in
-            let fill = c.args.fill.now in
+            let sizes = c.args.form.shape.now in
+            let type = c.args.form.data_type.now in
+            let fill = c.args.form.fill_value.now in
             let taken = c.in_ok-taken.taken in
             let found = subst (λ (cs : List ArrayToArrayCodec). IfOk (encoded_chunk (Ok tt) (arrays_map type (map mapping_of cs) sizes) type sizes c.args.held) (λ chunk. Holds type c.in_ok-chunk.chunk chunk)) c.deref.ensures.value c.in_ok-chunk.ensures.moved in
             let p = err_from_is_err_and c.from_residual-in_err-below.result c.from_residual-in_err-below.ensures.1 in
@@ -97,9 +98,9 @@ encode::chain_encode-returns g t c =
         is =
             let f = g.B.BytesToBytesCodecTraits.functions in
             let chain = plain_chain c.args.chain.now in
-            let sizes = c.args.shape.now in
-            let type = c.args.kind.now in
-            let fill = c.args.fill.now in
+            let sizes = c.args.form.shape.now in
+            let type = c.args.form.data_type.now in
+            let fill = c.args.form.fill_value.now in
             let taken = c.in_ok-taken.taken in
             let found = subst (λ (cs : List ArrayToArrayCodec). IfOk (encoded_chunk (Ok tt) (arrays_map type (map mapping_of cs) sizes) type sizes c.args.held) (λ chunk. Holds type c.in_ok-chunk.chunk chunk)) c.deref.ensures.value c.in_ok-chunk.ensures.moved in
             let last = subst (λ bs. Answers memory (λ value. (raw_of value).items) c.encode_bytes.result (outer_value f bs (raw_of c.in_ok-below.below).items)) c.deref-2.ensures.value c.encode_bytes.ensures.answer.is in
@@ -131,7 +132,7 @@ optional::optional_codec::optional_encode-returns-in_err-inner g t c =
       answer = record {
         is =
             let p = err_from_is_err_and c.from_residual.result c.from_residual.ensures.1 in
-            rw (p.1, p.2) (λ ne. inner_refused_at g.B.BytesToBytesCodecTraits.functions c.args.codec.now c.args.shape.now c.args.kind.now c.args.fill.now c.args.held c.in_err-inner.field-0.0 (sym c.in_err-inner.ensures.answer));
+            rw (p.1, p.2) (λ ne. inner_refused_at g.B.BytesToBytesCodecTraits.functions c.args.codec.now c.args.form.shape.now c.args.form.data_type.now c.args.form.fill_value.now c.args.held c.in_err-inner.field-0.0 (sym c.in_err-inner.ensures.answer));
         no_fault = search rules;
       };
     }
@@ -142,7 +143,7 @@ optional::optional_codec::optional_encode-returns-in_err-check_elements g t c =
       answer = record {
         is =
             let p = err_from_is_err_and c.from_residual-in_err-check_elements.result c.from_residual-in_err-check_elements.ensures.1 in
-            rw (p.1, p.2) (λ ne. unfit_at g.B.BytesToBytesCodecTraits.functions c.args.codec.now c.args.shape.now c.args.kind.now c.args.fill.now c.args.held c.in_err-check_elements.field-0.0 c.requires.taken (sym c.in_err-check_elements.ensures.answer));
+            rw (p.1, p.2) (λ ne. unfit_at g.B.BytesToBytesCodecTraits.functions c.args.codec.now c.args.form.shape.now c.args.form.data_type.now c.args.form.fill_value.now c.args.held c.in_err-check_elements.field-0.0 c.requires.taken (sym c.in_err-check_elements.ensures.answer));
         no_fault = search rules;
       };
     }
@@ -235,9 +236,9 @@ vlen::vlen_encode::vlen_encode-returns-in_err-index g t c =
             let content = plain_chain o.data_codecs.value in
             let wide = is_wide o.index_data_type in
             let at_end = is_at_end o.index_location in
-            let sizes = c.args.shape.now in
-            let type = c.args.kind.now in
-            let fill = c.args.fill.now in
+            let sizes = c.args.form.shape.now in
+            let type = c.args.form.data_type.now in
+            let fill = c.args.form.fill_value.now in
             let raw = raw_of c.in_ok-bytes.bytes in
             let offsets = c.in_ok-bytes.offsets in
             let measured : vlen_representation sizes type [] ≡ Ok c.in_ok-vlen_representation.field-0 = search rules in
@@ -267,9 +268,9 @@ vlen::vlen_encode::vlen_encode-returns-in_err-content g t c =
             let content = plain_chain o.data_codecs.value in
             let wide = is_wide o.index_data_type in
             let at_end = is_at_end o.index_location in
-            let sizes = c.args.shape.now in
-            let type = c.args.kind.now in
-            let fill = c.args.fill.now in
+            let sizes = c.args.form.shape.now in
+            let type = c.args.form.data_type.now in
+            let fill = c.args.form.fill_value.now in
             let raw = raw_of c.in_ok-bytes.bytes in
             let offsets = c.in_ok-bytes.offsets in
             let measured : vlen_representation sizes type [] ≡ Ok c.in_ok-vlen_representation.field-0 = search rules in
@@ -300,9 +301,9 @@ vlen::vlen_encode::vlen_encode-returns g t c =
             let content = plain_chain o.data_codecs.value in
             let wide = is_wide o.index_data_type in
             let at_end = is_at_end o.index_location in
-            let sizes = c.args.shape.now in
-            let type = c.args.kind.now in
-            let fill = c.args.fill.now in
+            let sizes = c.args.form.shape.now in
+            let type = c.args.form.data_type.now in
+            let fill = c.args.form.fill_value.now in
             let raw = raw_of c.in_ok-bytes.bytes in
             let offsets = c.in_ok-bytes.offsets in
             let measured : vlen_representation sizes type [] ≡ Ok c.in_ok-vlen_representation.field-0 = search rules in
@@ -326,11 +327,11 @@ sharding::shard_index::index_encode-returns-in_err-part g t c =
     let chain = c.args.chain.now in
     let counts = c.args.grid.now in
     let numbers = c.args.numbers.now in
-    let form = index_form counts c.in_ok-shape.shape c.uint64.result c.in_ok-zero.zero c.in_ok-shape.ensures.answer.is c.uint64.ensures.made c.in_ok-zero.ensures.answer.is in
+    let form = index_form counts c.in_ok-shape.shape c.uint64-number_type.result c.in_ok-zero.zero c.in_ok-shape.ensures.answer.is c.uint64-number_type.ensures.made c.in_ok-zero.ensures.answer.is in
     let raw = owned_bytes c.in_ok-items.items.items in
     let small : length raw.items < 2 ^ 64 = omega arith in
     let rows : IsIndexRows numbers c.new_flen-rows.result raw = record { made = c.new_flen-rows.ensures.made; items = c.in_ok-items.ensures.value; small = small } in
-    let asked = value_of_rows f (plain_chain chain) counts numbers c.in_ok-shape.shape c.uint64.result c.in_ok-zero.zero c.new_flen-rows.result raw form rows c.requires.len in
+    let asked = value_of_rows f (plain_chain chain) counts numbers c.in_ok-shape.shape c.uint64-number_type.result c.in_ok-zero.zero c.new_flen-rows.result raw form rows c.requires.len in
     record {
       long = search rules;
       answer = record {
@@ -347,11 +348,11 @@ sharding::shard_index::index_encode-returns-in_err-check_numbers g t c =
     let chain = c.args.chain.now in
     let counts = c.args.grid.now in
     let numbers = c.args.numbers.now in
-    let form = index_form counts c.in_ok-shape.shape c.uint64.result c.in_ok-zero.zero c.in_ok-shape.ensures.answer.is c.uint64.ensures.made c.in_ok-zero.ensures.answer.is in
+    let form = index_form counts c.in_ok-shape.shape c.uint64-number_type.result c.in_ok-zero.zero c.in_ok-shape.ensures.answer.is c.uint64-number_type.ensures.made c.in_ok-zero.ensures.answer.is in
     let raw = owned_bytes c.in_ok-items.items.items in
     let small : length raw.items < 2 ^ 64 = omega arith in
     let rows : IsIndexRows numbers c.new_flen-rows.result raw = record { made = c.new_flen-rows.ensures.made; items = c.in_ok-items.ensures.value; small = small } in
-    let asked = value_of_rows f (plain_chain chain) counts numbers c.in_ok-shape.shape c.uint64.result c.in_ok-zero.zero c.new_flen-rows.result raw form rows c.requires.len in
+    let asked = value_of_rows f (plain_chain chain) counts numbers c.in_ok-shape.shape c.uint64-number_type.result c.in_ok-zero.zero c.new_flen-rows.result raw form rows c.requires.len in
     record {
       long = search rules;
       answer = record {
@@ -368,11 +369,11 @@ sharding::shard_index::index_encode-returns g t c =
     let chain = c.args.chain.now in
     let counts = c.args.grid.now in
     let numbers = c.args.numbers.now in
-    let form = index_form counts c.in_ok-shape.shape c.uint64.result c.in_ok-zero.zero c.in_ok-shape.ensures.answer.is c.uint64.ensures.made c.in_ok-zero.ensures.answer.is in
+    let form = index_form counts c.in_ok-shape.shape c.uint64-number_type.result c.in_ok-zero.zero c.in_ok-shape.ensures.answer.is c.uint64-number_type.ensures.made c.in_ok-zero.ensures.answer.is in
     let raw = owned_bytes c.in_ok-items.items.items in
     let small : length raw.items < 2 ^ 64 = omega arith in
     let rows : IsIndexRows numbers c.new_flen-rows.result raw = record { made = c.new_flen-rows.ensures.made; items = c.in_ok-items.ensures.value; small = small } in
-    let asked = value_of_rows f (plain_chain chain) counts numbers c.in_ok-shape.shape c.uint64.result c.in_ok-zero.zero c.new_flen-rows.result raw form rows c.requires.len in
+    let asked = value_of_rows f (plain_chain chain) counts numbers c.in_ok-shape.shape c.uint64-number_type.result c.in_ok-zero.zero c.new_flen-rows.result raw form rows c.requires.len in
     let part = (raw_of c.in_ok-part.part).items in
     let made : chain_value f (plain_chain chain) (counts ++ 2 ∷ []) (offset_type true) (offset_bytes true 0) (offset_elements true numbers) ≡ Ok part = asked ∙ c.in_ok-part.ensures.exact.is in
     record {
@@ -385,9 +386,9 @@ sharding::shard_encode::write_next-returns-in_err-as_fixed g t c =
     let f = g.B.BytesToBytesCodecTraits.functions in
     let chain = c.args.chain.now in
     let inner = c.args.inner.now in
-    let shape = c.args.shape.now in
-    let type = c.args.data_type.now in
-    let fill = c.args.fill.now in
+    let shape = c.args.form.shape.now in
+    let type = c.args.form.data_type.now in
+    let fill = c.args.form.fill_value.now in
     let held = c.args.held.now in
     let runs = c.args.runs.now in
     let places = places_from c.args.start runs in
@@ -402,9 +403,9 @@ sharding::shard_encode::write_next-write_kept-requires-clause-inside g t c =
     let f = g.B.BytesToBytesCodecTraits.functions in
     let chain = c.args.chain.now in
     let inner = c.args.inner.now in
-    let shape = c.args.shape.now in
-    let type = c.args.data_type.now in
-    let fill = c.args.fill.now in
+    let shape = c.args.form.shape.now in
+    let type = c.args.form.data_type.now in
+    let fill = c.args.form.fill_value.now in
     let held = c.args.held.now in
     let runs = c.args.runs.now in
     let places = places_from c.args.start runs in
@@ -417,9 +418,9 @@ sharding::shard_encode::write_next-returns-then-keeps g t c =
     let f = g.B.BytesToBytesCodecTraits.functions in
     let chain = c.args.chain.now in
     let inner = c.args.inner.now in
-    let shape = c.args.shape.now in
-    let type = c.args.data_type.now in
-    let fill = c.args.fill.now in
+    let shape = c.args.form.shape.now in
+    let type = c.args.form.data_type.now in
+    let fill = c.args.form.fill_value.now in
     let held = c.args.held.now in
     let runs = c.args.runs.now in
     let places = places_from c.args.start runs in
@@ -435,9 +436,9 @@ sharding::shard_encode::write_next-extract_runs-requires g t c =
     let f = g.B.BytesToBytesCodecTraits.functions in
     let chain = c.args.chain.now in
     let inner = c.args.inner.now in
-    let shape = c.args.shape.now in
-    let type = c.args.data_type.now in
-    let fill = c.args.fill.now in
+    let shape = c.args.form.shape.now in
+    let type = c.args.form.data_type.now in
+    let fill = c.args.form.fill_value.now in
     let held = c.args.held.now in
     let runs = c.args.runs.now in
     let places = places_from c.args.start runs in
@@ -451,9 +452,9 @@ sharding::shard_encode::write_next-write_inner-requires g t c κs within =
     let f = g.B.BytesToBytesCodecTraits.functions in
     let chain = c.args.chain.now in
     let inner = c.args.inner.now in
-    let shape = c.args.shape.now in
-    let type = c.args.data_type.now in
-    let fill = c.args.fill.now in
+    let shape = c.args.form.shape.now in
+    let type = c.args.form.data_type.now in
+    let fill = c.args.form.fill_value.now in
     let held = c.args.held.now in
     let runs = c.args.runs.now in
     let places = places_from c.args.start runs in
@@ -474,9 +475,9 @@ sharding::shard_encode::write_next-returns g t c =
     let f = g.B.BytesToBytesCodecTraits.functions in
     let chain = c.args.chain.now in
     let inner = c.args.inner.now in
-    let shape = c.args.shape.now in
-    let type = c.args.data_type.now in
-    let fill = c.args.fill.now in
+    let shape = c.args.form.shape.now in
+    let type = c.args.form.data_type.now in
+    let fill = c.args.form.fill_value.now in
     let held = c.args.held.now in
     let runs = c.args.runs.now in
     let places = places_from c.args.start runs in
@@ -494,7 +495,7 @@ sharding::shard_encode::write_next-returns g t c =
 pub sharding::shard_encode::write_all-returns-in_err-number-end : goal.sharding::shard_encode::write_all-returns-in_err-number-end
 sharding::shard_encode::write_all-returns-in_err-number-end g t c =
     let inner = c.args.inner.now in
-    let shape = c.args.shape.now in
+    let shape = c.args.form.shape.now in
     let positive = subst (All (λ size. 0 < size)) c.as_slice-parts.ensures.value c.as_slice-parts.ensures.positive in
     let counted = chunks_counted inner shape c.args.grid.now positive c.requires.form.divided c.requires.form.small c.requires.grid in
     absurd (ok_no_err (inner_chunk_count inner shape) c.in_err-number-end.field-0.0 (sym (c.in_err-number-end.ensures.answer ∙ counted)))
@@ -506,7 +507,7 @@ sharding::shard_encode::write_all-loop-number-init g t c =
 pub sharding::shard_encode::write_all-first_place-start-requires : goal.sharding::shard_encode::write_all-first_place-start-requires
 sharding::shard_encode::write_all-first_place-start-requires g t c =
     let inner = c.args.inner.now in
-    let shape = c.args.shape.now in
+    let shape = c.args.form.shape.now in
     let positive = subst (All (λ size. 0 < size)) c.as_slice-parts.ensures.value c.as_slice-parts.ensures.positive in
     let counted = chunks_counted inner shape c.args.grid.now positive c.requires.form.divided c.requires.form.small c.requires.grid in
     let end : c.in_ok-number-end.number-end ≡ inner_chunk_count inner shape = ok_is c.in_ok-number-end.number-end (inner_chunk_count inner shape) (c.in_ok-number-end.ensures.answer ∙ counted) in
@@ -516,7 +517,7 @@ sharding::shard_encode::write_all-first_place-start-requires g t c =
 pub sharding::shard_encode::write_all-returns-in_err-write_next : goal.sharding::shard_encode::write_all-returns-in_err-write_next
 sharding::shard_encode::write_all-returns-in_err-write_next g t c =
     let inner = c.args.inner.now in
-    let shape = c.args.shape.now in
+    let shape = c.args.form.shape.now in
     let positive = subst (All (λ size. 0 < size)) c.as_slice-parts.ensures.value c.as_slice-parts.ensures.positive in
     let counted = chunks_counted inner shape c.args.grid.now positive c.requires.form.divided c.requires.form.small c.requires.grid in
     let end : c.in_ok-number-end.number-end ≡ inner_chunk_count inner shape = ok_is c.in_ok-number-end.number-end (inner_chunk_count inner shape) (c.in_ok-number-end.ensures.answer ∙ counted) in
@@ -525,7 +526,7 @@ sharding::shard_encode::write_all-returns-in_err-write_next g t c =
     let p = err_from_is_err_and c.from_residual-in_err-write_next.result c.from_residual-in_err-write_next.ensures.1 in
     record {
       answer = record {
-        is = rw (p.1, p.2) (λ quiet. behind_refused _ _ _ _ _ _ _ number _ _ c.in_err-write_next.field-0.0 (omega (arith, end)) c.loop-number.invariant (next_refused g.B.BytesToBytesCodecTraits.functions c.args.chain.now inner shape c.args.data_type.now c.args.fill.now c.args.held.now number (places_from c.first_place-start.result c.as_slice.result.now) c.loop-number.written c.in_err-write_next.field-0.0 next.places (c.in_err-write_next.ensures.answer.is quiet)));
+        is = rw (p.1, p.2) (λ quiet. behind_refused _ _ _ _ _ _ _ number _ _ c.in_err-write_next.field-0.0 (omega (arith, end)) c.loop-number.invariant (next_refused g.B.BytesToBytesCodecTraits.functions c.args.chain.now inner shape c.args.form.data_type.now c.args.form.fill_value.now c.args.held.now number (places_from c.first_place-start.result c.as_slice.result.now) c.loop-number.written c.in_err-write_next.field-0.0 next.places (c.in_err-write_next.ensures.answer.is quiet)));
         no_fault = search rules;
       };
     }
@@ -533,18 +534,18 @@ sharding::shard_encode::write_all-returns-in_err-write_next g t c =
 pub sharding::shard_encode::write_all-loop-number-preserved : goal.sharding::shard_encode::write_all-loop-number-preserved
 sharding::shard_encode::write_all-loop-number-preserved g t c =
     let inner = c.args.inner.now in
-    let shape = c.args.shape.now in
+    let shape = c.args.form.shape.now in
     let positive = subst (All (λ size. 0 < size)) c.as_slice-parts.ensures.value c.as_slice-parts.ensures.positive in
     let counted = chunks_counted inner shape c.args.grid.now positive c.requires.form.divided c.requires.form.small c.requires.grid in
     let end : c.in_ok-number-end.number-end ≡ inner_chunk_count inner shape = ok_is c.in_ok-number-end.number-end (inner_chunk_count inner shape) (c.in_ok-number-end.ensures.answer ∙ counted) in
     let number = c.loop-number.number in
     let next = is_next inner shape c.as_slice-parts.result.now c.as_slice-sizes.result.now number c.first_place-start.result c.in_ok-runs.runs.items c.as_slice.result.now c.as_slice-parts.ensures.value c.as_slice-sizes.ensures.value c.as_slice-parts.ensures.positive c.requires.form.divided (omega (arith, end)) c.in_ok-runs.ensures.answer.is c.as_slice.ensures.value c.first_place-start.ensures.value in
-    behind_more _ _ _ _ _ _ _ number _ _ _ (omega (arith, end)) c.loop-number.invariant (next_numbered g.B.BytesToBytesCodecTraits.functions c.args.chain.now inner shape c.args.data_type.now c.args.fill.now c.args.held.now number (places_from c.first_place-start.result c.as_slice.result.now) c.loop-number.written c.write_next.new.written next.places c.in_ok-write_next.ensures.answer.is)
+    behind_more _ _ _ _ _ _ _ number _ _ _ (omega (arith, end)) c.loop-number.invariant (next_numbered g.B.BytesToBytesCodecTraits.functions c.args.chain.now inner shape c.args.form.data_type.now c.args.form.fill_value.now c.args.held.now number (places_from c.first_place-start.result c.as_slice.result.now) c.loop-number.written c.write_next.new.written next.places c.in_ok-write_next.ensures.answer.is)
 
 pub sharding::shard_encode::write_all-write_next-requires : goal.sharding::shard_encode::write_all-write_next-requires
 sharding::shard_encode::write_all-write_next-requires g t c κs within =
     let inner = c.args.inner.now in
-    let shape = c.args.shape.now in
+    let shape = c.args.form.shape.now in
     let positive = subst (All (λ size. 0 < size)) c.as_slice-parts.ensures.value c.as_slice-parts.ensures.positive in
     let counted = chunks_counted inner shape c.args.grid.now positive c.requires.form.divided c.requires.form.small c.requires.grid in
     let end : c.in_ok-number-end.number-end ≡ inner_chunk_count inner shape = ok_is c.in_ok-number-end.number-end (inner_chunk_count inner shape) (c.in_ok-number-end.ensures.answer ∙ counted) in
@@ -557,7 +558,7 @@ sharding::shard_encode::write_all-write_next-requires g t c κs within =
 pub sharding::shard_encode::write_all-returns : goal.sharding::shard_encode::write_all-returns
 sharding::shard_encode::write_all-returns g t c =
     let inner = c.args.inner.now in
-    let shape = c.args.shape.now in
+    let shape = c.args.form.shape.now in
     let positive = subst (All (λ size. 0 < size)) c.as_slice-parts.ensures.value c.as_slice-parts.ensures.positive in
     let counted = chunks_counted inner shape c.args.grid.now positive c.requires.form.divided c.requires.form.small c.requires.grid in
     let end : c.in_ok-number-end.number-end ≡ inner_chunk_count inner shape = ok_is c.in_ok-number-end.number-end (inner_chunk_count inner shape) (c.in_ok-number-end.ensures.answer ∙ counted) in
@@ -572,9 +573,9 @@ sharding::shard_encode::shard_encode-returns-in_err-write_all g t c =
     let index = o.index_codecs.value in
     let shape = o.chunk_shape in
     let at_end = is_index_at_end o.index_location in
-    let sizes = c.args.shape.now in
-    let type = c.args.kind.now in
-    let fill = c.args.fill.now in
+    let sizes = c.args.form.shape.now in
+    let type = c.args.form.data_type.now in
+    let fill = c.args.form.fill_value.now in
     let chunk = elements type (product sizes) c.args.held.now in
     let size = c.in_ok-size.size in
     let at = first_offset at_end size in
@@ -601,9 +602,9 @@ sharding::shard_encode::shard_encode-index_encode-requires g t c κs within =
     let index = o.index_codecs.value in
     let shape = o.chunk_shape in
     let at_end = is_index_at_end o.index_location in
-    let sizes = c.args.shape.now in
-    let type = c.args.kind.now in
-    let fill = c.args.fill.now in
+    let sizes = c.args.form.shape.now in
+    let type = c.args.form.data_type.now in
+    let fill = c.args.form.fill_value.now in
     let chunk = elements type (product sizes) c.args.held.now in
     let size = c.in_ok-size.size in
     let at = first_offset at_end size in
@@ -630,9 +631,9 @@ sharding::shard_encode::shard_encode-returns-in_err-part g t c =
     let index = o.index_codecs.value in
     let shape = o.chunk_shape in
     let at_end = is_index_at_end o.index_location in
-    let sizes = c.args.shape.now in
-    let type = c.args.kind.now in
-    let fill = c.args.fill.now in
+    let sizes = c.args.form.shape.now in
+    let type = c.args.form.data_type.now in
+    let fill = c.args.form.fill_value.now in
     let chunk = elements type (product sizes) c.args.held.now in
     let size = c.in_ok-size.size in
     let at = first_offset at_end size in
@@ -665,9 +666,9 @@ sharding::shard_encode::shard_encode-place_index-requires-clause-inside g t c =
     let index = o.index_codecs.value in
     let shape = o.chunk_shape in
     let at_end = is_index_at_end o.index_location in
-    let sizes = c.args.shape.now in
-    let type = c.args.kind.now in
-    let fill = c.args.fill.now in
+    let sizes = c.args.form.shape.now in
+    let type = c.args.form.data_type.now in
+    let fill = c.args.form.fill_value.now in
     let chunk = elements type (product sizes) c.args.held.now in
     let size = c.in_ok-size.size in
     let at = first_offset at_end size in
@@ -690,9 +691,9 @@ sharding::shard_encode::shard_encode-returns g t c =
     let index = o.index_codecs.value in
     let shape = o.chunk_shape in
     let at_end = is_index_at_end o.index_location in
-    let sizes = c.args.shape.now in
-    let type = c.args.kind.now in
-    let fill = c.args.fill.now in
+    let sizes = c.args.form.shape.now in
+    let type = c.args.form.data_type.now in
+    let fill = c.args.form.fill_value.now in
     let chunk = elements type (product sizes) c.args.held.now in
     let size = c.in_ok-size.size in
     let at = first_offset at_end size in
@@ -721,6 +722,6 @@ sharding::shard_encode::shard_encode-returns g t c =
 
 pub sharding::shard_encode::sharding_encode-shard_encode-requires : goal.sharding::shard_encode::sharding_encode-shard_encode-requires
 sharding::shard_encode::sharding_encode-shard_encode-requires g t c κs within =
-    let taken : TakesInside g.B.BytesToBytesCodecTraits.functions c.args.codec.now c.args.shape.now c.args.kind.now c.args.fill.now = shard_takes_at g.B.BytesToBytesCodecTraits.functions c.args.codec.now c.args.shape.now c.args.kind.now c.args.fill.now c.requires.taken in
-    let valid : validity c.args.kind.now (product c.args.shape.now) c.args.held ≡ Ok tt = search rules in
+    let taken : TakesInside g.B.BytesToBytesCodecTraits.functions c.args.codec.now (lent_form c.args.form) = shard_takes_at g.B.BytesToBytesCodecTraits.functions c.args.codec.now c.args.form.shape.now c.args.form.data_type.now c.args.form.fill_value.now c.requires.taken in
+    let valid : validity c.args.form.data_type.now (product c.args.form.shape.now) c.args.held ≡ Ok tt = search rules in
     search rules

@@ -5,25 +5,17 @@ use Rattle.std.specs.declared.borrow.CowSlice.{CowSlice}
 use Rattle.zarrs_chunk.specs.declared.codec_error.CodecError.{CodecError}
 use Rattle.zarrs_data_type.specs.ElementType.{ElementType}
 use Rattle.zarrs_data_type.specs.Form.{form_of}
-use Rattle.zarrs_array_bytes.specs.Held.{Held, items_of}
+use Rattle.zarrs_array_bytes.specs.Held.{items_of}
 use Rattle.zarrs_codec.specs.BytesToBytesCodec.{BytesCodecs}
 use Rattle.zarrs_codec.specs.declared.bytes_representation.BytesRepresentation.{BytesRepresentation}
 use Rattle.zarrs_array_bytes.specs.Validity.{sizes_fit}
-use Rattle.zarrs_chain_meaning.specs.CallAnswers.{IsTaken, GivesRepresentation, GivesCodecValue}
+use Rattle.zarrs_chain_meaning.specs.CallAnswers.{GivesRepresentation}
 use Rattle.zarrs_chain.specs.ChainView.{plain_optional}
 use Rattle.zarrs_chain.specs.declared.optional.optional_codec.OptionalCodec.{OptionalCodec}
-
--- the codec takes such chunks
-abbrev pub OptionalAccepts : {B : Type 0} → BytesCodecs B → OptionalCodec B → List ℕ → ElementType → List ℕ → Type 0
-OptionalAccepts f codec sizes type fill = IsTaken f (plain_optional codec) (form_of sizes type fill)
 
 -- an `optional` gives how many bytes the value of such a chunk has, or the first error
 abbrev pub OptionalRepresents : {B : Type 0} → BytesCodecs B → OptionalCodec B → List ℕ → ElementType → List ℕ → Result BytesRepresentation CodecError → Type 0
 OptionalRepresents f codec sizes type fill result = GivesRepresentation f (plain_optional codec) (form_of sizes type fill) result
-
--- the value of the chunk that a container holds, or the first error
-abbrev pub OptionalEncodes : {B : Type 0} → BytesCodecs B → OptionalCodec B → List ℕ → ElementType → List ℕ → Held → Result (CowSlice ℕ Global) CodecError → Type 0
-OptionalEncodes f codec sizes type fill held result = GivesCodecValue f (plain_optional codec) (form_of sizes type fill) held result
 
 -- 64 bits count what as many elements as mask bytes take, where they count the offsets of so many
 abbrev pub HasMaskRoom : ElementType → CowSlice ℕ Global → Type 0

@@ -1,6 +1,6 @@
 -- The chunk of a shard, of elements of any length, by the elements of its inner chunks, band by band.
 use Rattle.std.specs.Prelude.{◌≡◌, ◌<◌, ◌≤◌, ℕ, zero, suc, ◌+◌, ◌*◌, ◌/◌, ◌^◌, true, List, [], ◌∷◌, ◌++◌, get_or, length, map, replicate, Ok, Result, Vec}
-use Rattle.std.specs.List.{All, flat_map, range_with_len}
+use Rattle.std.specs.List.{All, range_with_len}
 use Rattle.std.specs.declared.alloc.Global.{Global}
 use Rattle.zarrs_array_bytes.specs.Blank.{AbsentAreBlank}
 use Rattle.zarrs_array_bytes.specs.Elements.{element_at, elements}
@@ -11,10 +11,11 @@ use Rattle.zarrs_chunk.specs.Answer.{Gives, GivesBy, checked_u64, no_refusal}
 use Rattle.zarrs_chunk.specs.ChunkShape.{product}
 use Rattle.zarrs_chunk.specs.declared.codec_error.CodecError.{CodecError}
 use Rattle.zarrs_codec.specs.BytesToBytesCodec.{BytesCodecs}
-use Rattle.zarrs_data_type.specs.Element.{Chunk, Element, absent}
+use Rattle.zarrs_data_type.specs.Element.{Chunk, absent}
 use Rattle.zarrs_data_type.specs.ElementType.{ElementType}
+use Rattle.zarrs_data_type.specs.Form.{Form}
 use Rattle.zarrs_chain_meaning.specs.CodecMeaning.{chain_chunk}
-use Rattle.zarrs_chain_meaning.specs.sharding.InnerChunks.{inner_chunk_count, is_divided}
+use Rattle.zarrs_chain_meaning.specs.sharding.InnerChunks.{is_divided}
 use Rattle.zarrs_chain_meaning.specs.sharding.Sharding.{Span, inner_chunk_at, inner_chunks_at, is_stored, spans_of}
 use Rattle.zarrs_chain.specs.ChainView.{plain_chain}
 use Rattle.zarrs_chain.specs.declared.codec_chain.CodecChain.{CodecChain}
@@ -97,11 +98,11 @@ band_count _ _ = 1
 -- ---- reading
 
 -- a container of the elements of an inner chunk is given, as the value has it, or of fill elements
-abbrev pub ReadsElements : {B : Type 0} → BytesCodecs B → CodecChain B → List ℕ → ElementType → List ℕ → List ℕ → Span → Result Held CodecError → Type 0
-ReadsElements f chain shape type fill value span result =
-    Gives (λ content. elements type (product shape) content) result (inner_chunk_at (is_stored span) (chain_chunk f (plain_chain chain)) shape type fill value span)
+abbrev pub ReadsElements : {B : Type 0} → BytesCodecs B → CodecChain B → Form → List ℕ → Span → Result Held CodecError → Type 0
+ReadsElements f chain form value span result =
+    Gives (λ content. elements form.type (product form.sizes) content) result (inner_chunk_at (is_stored span) (chain_chunk f (plain_chain chain)) form.sizes form.type form.fill value span)
 
 -- containers of the elements of each inner chunk that these numbers of an index say, in order, or the first error
-abbrev pub ReadsBand : {B : Type 0} → BytesCodecs B → CodecChain B → List ℕ → ElementType → List ℕ → List ℕ → List ℕ → Result (Vec Held Global) CodecError → Type 0
-ReadsBand f chain shape type fill value numbers result =
-    Gives (λ contents. chunks_of type (product shape) contents.items) result (inner_chunks_at (chain_chunk f (plain_chain chain)) shape type fill value (spans_of numbers))
+abbrev pub ReadsBand : {B : Type 0} → BytesCodecs B → CodecChain B → Form → List ℕ → List ℕ → Result (Vec Held Global) CodecError → Type 0
+ReadsBand f chain form value numbers result =
+    Gives (λ contents. chunks_of form.type (product form.sizes) contents.items) result (inner_chunks_at (chain_chunk f (plain_chain chain)) form.sizes form.type form.fill value (spans_of numbers))

@@ -11,6 +11,7 @@ use Rattle.zarrs_chunk.specs.declared.codec_error.CodecError.{CodecError}
 use Rattle.zarrs_codec.specs.BytesToBytesCodec.{BytesCodecs}
 use Rattle.zarrs_data_type.specs.Element.{Chunk}
 use Rattle.zarrs_data_type.specs.ElementType.{ElementType, fixed_size_of}
+use Rattle.zarrs_data_type.specs.Form.{Form}
 use Rattle.zarrs_chunk.specs.ChunkShape.{product}
 use Rattle.zarrs_chain_meaning.specs.sharding.InnerChunks.{is_divided, inner_chunk_count, inner_chunk_of, place_inside}
 use Rattle.zarrs_chain_meaning.specs.CodecMeaning.{chain_chunk}
@@ -59,16 +60,16 @@ pub record AreContents (type : ElementType) (size : ℕ) (contents : List (CowSl
   pub whole : All (λ content. validity type (product shape) (flen (raw_of content)) ≡ Ok tt) contents
 
 -- the bytes of an inner chunk that is stored, as the value has it, or the error
-abbrev pub ReadsStoredBytes : {B : Type 0} → BytesCodecs B → CodecChain B → List ℕ → ElementType → List ℕ → List ℕ → Span → Result (CowSlice ℕ Global) CodecError → Type 0
-ReadsStoredBytes f chain shape type fill value span result =
-    Gives (λ content. elements type (product shape) (flen (raw_of content))) result (inner_chunk_at true (chain_chunk f (plain_chain chain)) shape type fill value span)
+abbrev pub ReadsStoredBytes : {B : Type 0} → BytesCodecs B → CodecChain B → Form → List ℕ → Span → Result (CowSlice ℕ Global) CodecError → Type 0
+ReadsStoredBytes f chain form value span result =
+    Gives (λ content. elements form.type (product form.sizes) (flen (raw_of content))) result (inner_chunk_at true (chain_chunk f (plain_chain chain)) form.sizes form.type form.fill value span)
 
 -- the same of an inner chunk that may not be stored
-abbrev pub ReadsInnerBytes : {B : Type 0} → BytesCodecs B → CodecChain B → List ℕ → ElementType → List ℕ → List ℕ → Span → Result (CowSlice ℕ Global) CodecError → Type 0
-ReadsInnerBytes f chain shape type fill value span result =
-    Gives (λ content. elements type (product shape) (flen (raw_of content))) result (inner_chunk_at (is_stored span) (chain_chunk f (plain_chain chain)) shape type fill value span)
+abbrev pub ReadsInnerBytes : {B : Type 0} → BytesCodecs B → CodecChain B → Form → List ℕ → Span → Result (CowSlice ℕ Global) CodecError → Type 0
+ReadsInnerBytes f chain form value span result =
+    Gives (λ content. elements form.type (product form.sizes) (flen (raw_of content))) result (inner_chunk_at (is_stored span) (chain_chunk f (plain_chain chain)) form.sizes form.type form.fill value span)
 
 -- the bytes of each inner chunk that these numbers of an index say, in order, or the first error
-abbrev pub ReadsAllBytes : {B : Type 0} → BytesCodecs B → CodecChain B → List ℕ → ElementType → List ℕ → List ℕ → List ℕ → Result (Vec (CowSlice ℕ Global) Global) CodecError → Type 0
-ReadsAllBytes f chain shape type fill value numbers result =
-    Gives (λ contents. chunks_in type (product shape) contents.items) result (inner_chunks_at (chain_chunk f (plain_chain chain)) shape type fill value (spans_of numbers))
+abbrev pub ReadsAllBytes : {B : Type 0} → BytesCodecs B → CodecChain B → Form → List ℕ → List ℕ → Result (Vec (CowSlice ℕ Global) Global) CodecError → Type 0
+ReadsAllBytes f chain form value numbers result =
+    Gives (λ contents. chunks_in form.type (product form.sizes) contents.items) result (inner_chunks_at (chain_chunk f (plain_chain chain)) form.sizes form.type form.fill value (spans_of numbers))

@@ -13,6 +13,7 @@ use Rattle.zarrs_chunk.specs.declared.codec_error.CodecError.{CodecError}
 use Rattle.zarrs_codec.specs.BytesToBytesCodec.{BytesCodecs}
 use Rattle.zarrs_data_type.specs.Element.{Chunk}
 use Rattle.zarrs_data_type.specs.ElementType.{ElementType}
+use Rattle.zarrs_data_type.specs.Form.{Form}
 use Rattle.zarrs_chain_meaning.specs.CodecMeaning.{chain_chunk, chain_value, codec_normal_element}
 use Rattle.zarrs_chain_meaning.specs.ArrayStages.{IsMapWhere}
 use Rattle.zarrs_chain_meaning.specs.Chain.{taken_form}
@@ -72,19 +73,19 @@ written_behind f chain shape type fill (inner_chunk ∷ inner_chunks) so_far = d
   written_behind f chain shape type fill inner_chunks (written_with so_far part)
 
 -- an inner chunk is written that a container holds
-abbrev pub WritesInner : {B : Type 0} → BytesCodecs B → CodecChain B → List ℕ → ElementType → List ℕ → Held → WrittenShard → WrittenShard → Result (Unit {0}) CodecError → Type 0
-WritesInner f chain shape type fill held old new result =
-    Gives (λ _. written_seen new) result (seen (written_with (written_seen old)) (inner_part f chain shape type fill (elements type (product shape) held)))
+abbrev pub WritesInner : {B : Type 0} → BytesCodecs B → CodecChain B → Form → Held → WrittenShard → WrittenShard → Result (Unit {0}) CodecError → Type 0
+WritesInner f chain form held old new result =
+    Gives (λ _. written_seen new) result (seen (written_with (written_seen old)) (inner_part f chain form.sizes form.type form.fill (elements form.type (product form.sizes) held)))
 
 -- the inner chunk at these places is written of the chunk that a container holds
-abbrev pub WritesInnerAt : {B : Type 0} → BytesCodecs B → CodecChain B → List ℕ → List ℕ → ElementType → List ℕ → List ℕ → Held → WrittenShard → WrittenShard → Result (Unit {0}) CodecError → Type 0
-WritesInnerAt f chain shape sizes type fill places held old new result =
-    Gives (λ _. written_seen new) result (seen (written_with (written_seen old)) (inner_part f chain shape type fill (select (elements type (product sizes) held) places)))
+abbrev pub WritesInnerAt : {B : Type 0} → BytesCodecs B → CodecChain B → List ℕ → Form → List ℕ → Held → WrittenShard → WrittenShard → Result (Unit {0}) CodecError → Type 0
+WritesInnerAt f chain shape form places held old new result =
+    Gives (λ _. written_seen new) result (seen (written_with (written_seen old)) (inner_part f chain shape form.type form.fill (select (elements form.type (product form.sizes) held) places)))
 
 -- all inner chunks are written of the chunk that a container holds
-abbrev pub WritesAll : {B : Type 0} → BytesCodecs B → CodecChain B → List ℕ → List ℕ → ElementType → List ℕ → Held → WrittenShard → WrittenShard → Result (Unit {0}) CodecError → Type 0
-WritesAll f chain shape sizes type fill held old new result =
-    Gives (λ _. written_seen new) result (written_behind f chain shape type fill (inner_chunks_of shape sizes (elements type (product sizes) held)) (written_seen old))
+abbrev pub WritesAll : {B : Type 0} → BytesCodecs B → CodecChain B → List ℕ → Form → Held → WrittenShard → WrittenShard → Result (Unit {0}) CodecError → Type 0
+WritesAll f chain shape form held old new result =
+    Gives (λ _. written_seen new) result (written_behind f chain shape form.type form.fill (inner_chunks_of shape form.sizes (elements form.type (product form.sizes) held)) (written_seen old))
 
 -- the index part in the place of the first bytes, or behind all of them
 abbrev pub with_index : Bool → ℕ → List ℕ → List ℕ → List ℕ
@@ -113,16 +114,16 @@ ReplacesInner shape sizes type number held content result =
     GivesBy (Holds type) result (Ok (update (elements type (product sizes) held) (inner_chunk_places shape sizes number) (elements type (product shape) content)))
 
 -- a container is given of the chunk with an inner chunk as the value has it
-abbrev pub ReadsInner : {B : Type 0} → BytesCodecs B → CodecChain B → List ℕ → List ℕ → ElementType → List ℕ → List ℕ → ℕ → Span → Held → Result Held CodecError → Type 0
-ReadsInner f chain shape sizes type fill value number span held result =
-    GivesBy (Holds type) result (chunk_with (chain_chunk f (plain_chain chain)) shape sizes type fill value number true span (elements type (product sizes) held))
+abbrev pub ReadsInner : {B : Type 0} → BytesCodecs B → CodecChain B → List ℕ → Form → List ℕ → ℕ → Span → Held → Result Held CodecError → Type 0
+ReadsInner f chain shape form value number span held result =
+    GivesBy (Holds form.type) result (chunk_with (chain_chunk f (plain_chain chain)) shape form.sizes form.type form.fill value number true span (elements form.type (product form.sizes) held))
 
 -- the same of an inner chunk that may not be stored
-abbrev pub ReadsNextInner : {B : Type 0} → BytesCodecs B → CodecChain B → List ℕ → List ℕ → ElementType → List ℕ → List ℕ → ℕ → Span → Held → Result Held CodecError → Type 0
-ReadsNextInner f chain shape sizes type fill value number span held result =
-    GivesBy (Holds type) result (chunk_with (chain_chunk f (plain_chain chain)) shape sizes type fill value number (is_stored span) span (elements type (product sizes) held))
+abbrev pub ReadsNextInner : {B : Type 0} → BytesCodecs B → CodecChain B → List ℕ → Form → List ℕ → ℕ → Span → Held → Result Held CodecError → Type 0
+ReadsNextInner f chain shape form value number span held result =
+    GivesBy (Holds form.type) result (chunk_with (chain_chunk f (plain_chain chain)) shape form.sizes form.type form.fill value number (is_stored span) span (elements form.type (product form.sizes) held))
 
 -- a container of the chunk is given that these numbers of an index say
-abbrev pub ReadsAll : {B : Type 0} → BytesCodecs B → CodecChain B → List ℕ → List ℕ → ElementType → List ℕ → List ℕ → List ℕ → Result Held CodecError → Type 0
-ReadsAll f chain shape sizes type fill value numbers result =
-    GivesBy (Holds type) result (inner_chunks_at (chain_chunk f (plain_chain chain)) shape type fill value (spans_of numbers) >>= λ inner_chunks. Ok (joined_inner_chunks shape sizes inner_chunks))
+abbrev pub ReadsAll : {B : Type 0} → BytesCodecs B → CodecChain B → List ℕ → Form → List ℕ → List ℕ → Result Held CodecError → Type 0
+ReadsAll f chain shape form value numbers result =
+    GivesBy (Holds form.type) result (inner_chunks_at (chain_chunk f (plain_chain chain)) shape form.type form.fill value (spans_of numbers) >>= λ inner_chunks. Ok (joined_inner_chunks shape form.sizes inner_chunks))

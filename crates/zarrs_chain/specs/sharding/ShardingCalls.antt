@@ -1,4 +1,4 @@
--- What calls give that are asked of a `sharding_indexed` about chunks, whose sizes, type and fill value come one by one, and what its steps give.
+-- What calls give that are asked of a `sharding_indexed` about chunks, and what its steps give.
 use Rattle.std.specs.Bool.{nat_eq}
 use Rattle.std.specs.Cmp.Lexicographic.{pointwise}
 use Rattle.std.specs.List.{list_all}
@@ -12,7 +12,7 @@ use Rattle.zarrs_chunk.specs.declared.codec_error.CodecError.TheVariants.{Offset
 use Rattle.zarrs_data_type.specs.Element.{Chunk, Element, fill_element}
 use Rattle.zarrs_data_type.specs.ElementType.{ElementType}
 use Rattle.zarrs_data_type.specs.FillValue.{fill_fits}
-use Rattle.zarrs_data_type.specs.Form.{form_of}
+use Rattle.zarrs_data_type.specs.Form.{Form, form_of}
 use Rattle.zarrs_array_bytes.specs.Elements.{elements}
 use Rattle.zarrs_array_bytes.specs.Held.{Held, items_of}
 use Rattle.zarrs_array_bytes.specs.Pieces.{pieces}
@@ -21,7 +21,7 @@ use Rattle.zarrs_codec.specs.BytesToBytesCodec.{BytesCodecs}
 use Rattle.zarrs_codec.specs.declared.bytes_representation.BytesRepresentation.{BytesRepresentation}
 use Rattle.zarrs_packbits.specs.NormalForm.{normal_chunk}
 use Rattle.zarrs_packbits.specs.PackBitsSettings.{PackBitsSettings}
-use Rattle.zarrs_chain_meaning.specs.CallAnswers.{IsTaken, GivesRepresentation, GivesCodecValue, GivesCodecChunk, GivesTakenChunk}
+use Rattle.zarrs_chain_meaning.specs.CallAnswers.{GivesRepresentation}
 use Rattle.zarrs_chain_meaning.specs.CodecMeaning.{chain_chunk, chain_representation, chain_value, codec_normal_element, normal_form}
 use Rattle.zarrs_chain_meaning.specs.Meaning.{Measure}
 use Rattle.zarrs_chain_meaning.specs.PlainChain.{PlainCodec}
@@ -34,27 +34,9 @@ use Rattle.zarrs_chain.specs.declared.array_to_bytes_codec.ArrayToBytesCodec.{Ar
 use Rattle.zarrs_chain.specs.declared.codec_chain.CodecChain.{CodecChain}
 use Rattle.zarrs_chain.specs.declared.sharding.sharding_codec.ShardingCodec.{ShardingCodec, out-ShardingCodec}
 
--- the codec takes such chunks
-abbrev pub ShardingAccepts : {B : Type 0} → BytesCodecs B → ShardingCodec B → List ℕ → ElementType → List ℕ → Type 0
-ShardingAccepts f codec sizes type fill = IsTaken f (plain_sharding codec) (form_of sizes type fill)
-
 -- a `sharding_indexed` gives how many bytes the value of such a chunk has, or the first error
 abbrev pub ShardingRepresents : {B : Type 0} → BytesCodecs B → ShardingCodec B → List ℕ → ElementType → List ℕ → Result BytesRepresentation CodecError → Type 0
 ShardingRepresents f codec sizes type fill result = GivesRepresentation f (plain_sharding codec) (form_of sizes type fill) result
-
--- the value of the chunk that a container holds, or the first error
-abbrev pub ShardingEncodes : {B : Type 0} → BytesCodecs B → ShardingCodec B → List ℕ → ElementType → List ℕ → Held → Result (CowSlice ℕ Global) CodecError → Type 0
-ShardingEncodes f codec sizes type fill held result = GivesCodecValue f (plain_sharding codec) (form_of sizes type fill) held result
-
--- a container of the chunk that a value stands for, of a codec that takes such chunks; or the first error
-abbrev pub ShardingDecodes : {B : Type 0} → BytesCodecs B → ShardingCodec B → List ℕ → ElementType → List ℕ → CowSlice ℕ Global → Result Held CodecError → Type 0
-ShardingDecodes f codec sizes type fill value result =
-    GivesCodecChunk f (plain_sharding codec) (form_of sizes type fill) (items_of value) result
-
--- of any codec, whose representation rejects first
-abbrev pub ShardingDecodesAny : {B : Type 0} → BytesCodecs B → ShardingCodec B → List ℕ → ElementType → List ℕ → CowSlice ℕ Global → Result Held CodecError → Type 0
-ShardingDecodesAny f codec sizes type fill value result =
-    GivesTakenChunk f (plain_sharding codec) (form_of sizes type fill) (items_of value) result
 
 -- ---- the same, by the two chains inside, that of inner chunks and that of the index
 
@@ -80,19 +62,19 @@ ReadsShard f inner index shape at_end sizes type fill value result =
 -- ---- the same, by what a codec has inside
 
 -- such chunks are taken
-abbrev pub TakesInside : {B : Type 0} → BytesCodecs B → ShardingCodec B → List ℕ → ElementType → List ℕ → Type 0
-TakesInside f codec sizes type fill =
-    TakesShard f (out-ShardingCodec _ codec).codecs.value (out-ShardingCodec _ codec).index_codecs.value (out-ShardingCodec _ codec).chunk_shape sizes type fill
+abbrev pub TakesInside : {B : Type 0} → BytesCodecs B → ShardingCodec B → Form → Type 0
+TakesInside f codec form =
+    TakesShard f (out-ShardingCodec _ codec).codecs.value (out-ShardingCodec _ codec).index_codecs.value (out-ShardingCodec _ codec).chunk_shape form.sizes form.type form.fill
 
 -- the value of the chunk that a container of as many elements holds, or the first error
-abbrev pub WritesInside : {B : Type 0} → BytesCodecs B → ShardingCodec B → List ℕ → ElementType → List ℕ → Held → Result (CowSlice ℕ Global) CodecError → Type 0
-WritesInside f codec sizes type fill held result =
-    WritesShard f (out-ShardingCodec _ codec).codecs.value (out-ShardingCodec _ codec).index_codecs.value (out-ShardingCodec _ codec).chunk_shape (is_index_at_end (out-ShardingCodec _ codec).index_location) sizes type fill held result
+abbrev pub WritesInside : {B : Type 0} → BytesCodecs B → ShardingCodec B → Form → Held → Result (CowSlice ℕ Global) CodecError → Type 0
+WritesInside f codec form held result =
+    WritesShard f (out-ShardingCodec _ codec).codecs.value (out-ShardingCodec _ codec).index_codecs.value (out-ShardingCodec _ codec).chunk_shape (is_index_at_end (out-ShardingCodec _ codec).index_location) form.sizes form.type form.fill held result
 
 -- a container of the chunk that a value stands for, or the first error
-abbrev pub ReadsInside : {B : Type 0} → BytesCodecs B → ShardingCodec B → List ℕ → ElementType → List ℕ → List ℕ → Result Held CodecError → Type 0
-ReadsInside f codec sizes type fill value result =
-    ReadsShard f (out-ShardingCodec _ codec).codecs.value (out-ShardingCodec _ codec).index_codecs.value (out-ShardingCodec _ codec).chunk_shape (is_index_at_end (out-ShardingCodec _ codec).index_location) sizes type fill value result
+abbrev pub ReadsInside : {B : Type 0} → BytesCodecs B → ShardingCodec B → Form → List ℕ → Result Held CodecError → Type 0
+ReadsInside f codec form value result =
+    ReadsShard f (out-ShardingCodec _ codec).codecs.value (out-ShardingCodec _ codec).index_codecs.value (out-ShardingCodec _ codec).chunk_shape (is_index_at_end (out-ShardingCodec _ codec).index_location) form.sizes form.type form.fill value result
 
 -- What calls need to know of a chunk of these sizes and its inner chunks: they divide it, 64 bits count its elements and their bytes, and those of an inner chunk; and the fill value fits.
 pub record IsShardForm (shape sizes : List ℕ) (type : ElementType) (fill : List ℕ) : Type 0 where

@@ -10,19 +10,22 @@ ghost use Rattle.zarrs_data_type.specs.Form.{form_of};
 ghost use Rattle.zarrs_codec.specs.Grammar.{Encodes, Decodes};
 ghost use Rattle.zarrs_chain.specs.ChainGrammar.{codec_grammar};
 ghost use Rattle.zarrs_chain.specs.ChainView.{plain_chain, plain_optional, optional_of};
-ghost use Rattle.zarrs_chain_meaning.specs.CallAnswers.{GivesCodecChunk, GivesTakenChunk, GivesPartValue};
+ghost use Rattle.zarrs_chain_meaning.specs.CallAnswers.{GivesCodecChunk, GivesTakenChunk, GivesPartValue, IsTaken, GivesRepresentation, GivesCodecValue};
 ghost use Rattle.zarrs_chain_meaning.specs.CodecMeaning.{HasMappings, chain_value, chain_chunk};
 ghost use Rattle.zarrs_chain_meaning.specs.Parts.{byte_elements};
 ghost use Rattle.zarrs_chain_meaning.specs.optional.Optional.{flag_type, blank_fill as blank_fill_of};
 ghost use Rattle.zarrs_chain_meaning.specs.MadeAgain.{HasRanges};
-ghost use Rattle.zarrs_chain_meaning.specs.optional.OptionalParts.{optional_inner, optional_content, GivesPresent};
+ghost use Rattle.zarrs_chain_meaning.specs.optional.OptionalParts.{optional_content, GivesPresent};
 ghost use Rattle.zarrs_chain_meaning.specs.WrittenMetadata.{codec_configuration};
-ghost use Rattle.zarrs_chain.specs.optional.OptionalCalls.{OptionalAccepts, OptionalRepresents, OptionalEncodes, HasMaskRoom};
+ghost use Rattle.zarrs_chain.specs.optional.OptionalCalls.{OptionalRepresents, HasMaskRoom};
+ghost use Rattle.zarrs_chain.specs.FormView.{lent_form};
 
 use crate::codec_chain::{CodecChain, chain_has_ranges, chain_is_sound};
 use crate::decode::{chain_decode, part_decode};
 use crate::encode::{chain_encode, check_elements, part_encode};
+use crate::form::Form;
 use crate::metadata::write_chain::chain_written;
+use crate::optional::mask_room::has_room;
 use crate::representation::chain_representation;
 use std::alloc::Global;
 use zarrs_array_bytes::{ArrayBytes, ArrayBytesRaw, count_present};
@@ -106,13 +109,16 @@ pub(crate) fn optional_written<B: BytesToBytesCodecTraits>(
 pub(crate) fn optional_representation<B: BytesToBytesCodecTraits>(
     alloc: Global,
     codec: &OptionalCodec<B>,
-    shape: &ChunkShape,
-    data_type: &DataType,
-    fill_value: &FillValue,
+    form: Form<'_>,
 ) -> Result<BytesRepresentation, CodecError>
-    ensures answer { OptionalRepresents B.functions codec.now
-        shape.now data_type.now fill_value.now result }
+    ensures answer { GivesRepresentation B.functions (plain_optional codec.now)
+        (lent_form form.entry) result }
 {
+    let Form {
+        shape,
+        data_type,
+        fill_value,
+    } = form;
     let inner = inner_type(data_type)?;
     if !fill_value.fits(data_type) {
         return Err(CodecError::InvalidFillValue);
@@ -120,9 +126,19 @@ pub(crate) fn optional_representation<B: BytesToBytesCodecTraits>(
     shape.num_elements()?;
     let flag = DataType::bool();
     let zero = blank_fill(alloc, &flag)?;
-    let mask = chain_representation(alloc, &codec.mask_codecs, shape, &flag, &zero)?;
+    let mask_form = Form {
+        shape,
+        data_type: &flag,
+        fill_value: &zero,
+    };
+    let mask = chain_representation(alloc, &codec.mask_codecs, mask_form)?;
     let blank = blank_fill(alloc, inner)?;
-    let content = chain_representation(alloc, &codec.data_codecs, shape, inner, &blank)?;
+    let data_form = Form {
+        shape,
+        data_type: inner,
+        fill_value: &blank,
+    };
+    let content = chain_representation(alloc, &codec.data_codecs, data_form)?;
     Ok(both_representations(&mask, &content))
 }
 
@@ -142,14 +158,12 @@ fn mask_encode<'a, B: BytesToBytesCodecTraits>(
 {
     let flag = DataType::bool();
     let zero = blank_fill(alloc, &flag)?;
-    chain_encode(
-        alloc,
-        chain,
-        ArrayBytes::new_flen(mask),
+    let form = Form {
         shape,
-        &flag,
-        &zero,
-    )
+        data_type: &flag,
+        fill_value: &zero,
+    };
+    chain_encode(alloc, chain, ArrayBytes::new_flen(mask), form)
 }
 
 /// What the chain writes of a row of so many present elements. Errors: those of `chain_encode`.
@@ -199,17 +213,15 @@ pub(crate) fn optional_encode<'a, B: BytesToBytesCodecTraits>(
     alloc: Global,
     codec: &OptionalCodec<B>,
     held: ArrayBytes<'a>,
-    shape: &ChunkShape,
-    kind: &DataType,
-    fill: &FillValue,
+    form: Form<'_>,
 ) -> Result<ArrayBytesRaw<'a>, CodecError>
-    requires taken { OptionalAccepts B.functions codec.now shape.now kind.now fill.now }
-    ensures answer { OptionalEncodes B.functions codec.now
-        shape.now kind.now fill.now held.entry result }
+    requires taken { IsTaken B.functions (plain_optional codec.now) (lent_form form) }
+    ensures answer { GivesCodecValue B.functions (plain_optional codec.now) (lent_form form.entry)
+        held.entry result }
 {
-    let inner = inner_type(kind)?;
-    check_elements(&held, shape, kind)?;
-    content_encode(alloc, codec, held, shape, inner)
+    let inner = inner_type(form.data_type)?;
+    check_elements(&held, form.shape, form.data_type)?;
+    content_encode(alloc, codec, held, form.shape, inner)
 }
 
 /// The value of the chunk that `held` holds. Errors: those of `OptionalCodec::encode`.
@@ -217,15 +229,13 @@ fn optional_taken_encode<'a, B: BytesToBytesCodecTraits>(
     alloc: Global,
     codec: &OptionalCodec<B>,
     held: ArrayBytes<'a>,
-    shape: &ChunkShape,
-    kind: &DataType,
-    fill: &FillValue,
+    form: Form<'_>,
 ) -> Result<ArrayBytesRaw<'a>, CodecError>
-    ensures answer { OptionalEncodes B.functions codec.now
-        shape.now kind.now fill.now held.entry result }
+    ensures answer { GivesCodecValue B.functions (plain_optional codec.now) (lent_form form.entry)
+        held.entry result }
 {
-    optional_representation(alloc, codec, shape, kind, fill)?;
-    optional_encode(alloc, codec, held, shape, kind, fill)
+    optional_representation(alloc, codec, form)?;
+    optional_encode(alloc, codec, held, form)
 }
 
 /// The mask bytes of the chunk of flags that a part stands for. Errors: those of `chain_decode`.
@@ -242,7 +252,12 @@ fn mask_decode<'a, B: BytesToBytesCodecTraits>(
 {
     let flag = DataType::bool();
     let zero = blank_fill(alloc, &flag)?;
-    chain_decode(alloc, chain, part, shape, &flag, &zero)?.into_fixed()
+    let form = Form {
+        shape,
+        data_type: &flag,
+        fill_value: &zero,
+    };
+    chain_decode(alloc, chain, part, form)?.into_fixed()
 }
 
 /// The elements of this inner type that a part stands for, put back under the mask, with blank ones
@@ -268,25 +283,6 @@ fn present_decode<'a, B: BytesToBytesCodecTraits>(
     present.expand_present(alloc, mask, data_type)
 }
 
-/// A codec that takes a chunk has room for its elements under the mask. The call does nothing; its
-/// contract is for proofs.
-fn has_room<B: BytesToBytesCodecTraits>(
-    codec: &OptionalCodec<B>,
-    shape: &ChunkShape,
-    data_type: &DataType,
-    fill_value: &FillValue,
-    inner: &DataType,
-    mask: &ArrayBytesRaw<'_>,
-)
-    requires taken { OptionalAccepts B.functions codec.now shape.now data_type.now fill_value.now }
-    requires inner { optional_inner data_type.now ≡ Ok inner.now }
-    requires len { length (items_of mask.now) ≡ product shape.now }
-    ensures room { HasMaskRoom inner.now mask.now }
-{
-    optional_is_sound(codec);
-    shape.as_slice();
-}
-
 /// The chunk that a value stands for, where the codec takes such chunks. Errors: those of
 /// `OptionalCodec::decode` behind those of `encoded_representation`.
 #[cycle(decode)]
@@ -295,19 +291,17 @@ pub(crate) fn optional_decode<'a, B: BytesToBytesCodecTraits>(
     alloc: Global,
     codec: &OptionalCodec<B>,
     value: ArrayBytesRaw<'a>,
-    shape: &ChunkShape,
-    kind: &DataType,
-    fill: &FillValue,
+    form: Form<'_>,
 ) -> Result<ArrayBytes<'a>, CodecError>
-    requires taken { OptionalAccepts B.functions codec.now shape.now kind.now fill.now }
+    requires taken { IsTaken B.functions (plain_optional codec.now) (lent_form form) }
     ensures answer { GivesCodecChunk B.functions (plain_optional codec.now)
-        (form_of shape.now kind.now fill.now) (items_of value.entry) result }
-    ensures tight { IfOk result (IsTight kind.now) }
+        (lent_form form.entry) (items_of value.entry) result }
+    ensures tight { IfOk result (IsTight form.entry.data_type.now) }
 {
-    let inner = inner_type(kind)?;
+    let inner = inner_type(form.data_type)?;
     let (mask_part, data_part) = split_value(alloc, value)?;
-    let mask = mask_decode(alloc, &codec.mask_codecs, mask_part, shape)?;
-    has_room(codec, shape, kind, fill, inner, &mask);
+    let mask = mask_decode(alloc, &codec.mask_codecs, mask_part, form.shape)?;
+    has_room(codec, form, inner, &mask);
     present_decode(alloc, &codec.data_codecs, mask, data_part, inner)
 }
 
@@ -317,16 +311,14 @@ fn optional_taken_decode<'a, B: BytesToBytesCodecTraits>(
     alloc: Global,
     codec: &OptionalCodec<B>,
     value: ArrayBytesRaw<'a>,
-    shape: &ChunkShape,
-    kind: &DataType,
-    fill: &FillValue,
+    form: Form<'_>,
 ) -> Result<ArrayBytes<'a>, CodecError>
     ensures exact { GivesTakenChunk B.functions (plain_optional codec.now)
-        (form_of shape.now kind.now fill.now) (items_of value.entry) result }
-    ensures tight { IfOk result (IsTight kind.now) }
+        (lent_form form.entry) (items_of value.entry) result }
+    ensures tight { IfOk result (IsTight form.entry.data_type.now) }
 {
-    optional_representation(alloc, codec, shape, kind, fill)?;
-    optional_decode(alloc, codec, value, shape, kind, fill)
+    optional_representation(alloc, codec, form)?;
+    optional_decode(alloc, codec, value, form)
 }
 
 impl<B: BytesToBytesCodecTraits> OptionalCodec<B> {
@@ -345,7 +337,12 @@ impl<B: BytesToBytesCodecTraits> OptionalCodec<B> {
         ensures answer { OptionalRepresents B.functions self.now
             shape.now data_type.now fill_value.now result }
     {
-        optional_representation(alloc, self, shape, data_type, fill_value)
+        let form = Form {
+            shape,
+            data_type,
+            fill_value,
+        };
+        optional_representation(alloc, self, form)
     }
 
     /// The value that is written for the chunk that `elements` hold. Errors, the first that holds,
@@ -364,7 +361,12 @@ impl<B: BytesToBytesCodecTraits> OptionalCodec<B> {
     {
         optional_is_sound(self);
         shape.as_slice();
-        optional_taken_encode(alloc, self, elements, shape, data_type, fill_value)
+        let form = Form {
+            shape,
+            data_type,
+            fill_value,
+        };
+        optional_taken_encode(alloc, self, elements, form)
     }
 
     /// The chunk that a value stands for. Errors, the first that holds, `OutOfMemory` aside: those
@@ -389,6 +391,11 @@ impl<B: BytesToBytesCodecTraits> OptionalCodec<B> {
     {
         optional_is_sound(self);
         shape.as_slice();
-        optional_taken_decode(alloc, self, value, shape, data_type, fill_value)
+        let form = Form {
+            shape,
+            data_type,
+            fill_value,
+        };
+        optional_taken_decode(alloc, self, value, form)
     }
 }

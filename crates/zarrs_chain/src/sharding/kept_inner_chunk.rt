@@ -6,30 +6,29 @@ ghost use Rattle.zarrs_chain.specs.sharding.InnerPlaces.{places_from};
 ghost use Rattle.zarrs_chain.specs.sharding.ShardWalk.{KeepsInner, WritesPart, kept_part};
 
 use crate::codec_chain::CodecChain;
+use crate::form::Form;
 use crate::representation::taken_form;
 use crate::sharding::fill_elements::repeats;
 use crate::sharding::kept_bytes::keeps_bytes;
 use crate::sharding::written_shard::WrittenShard;
 use std::alloc::{AllocError, Global};
-use zarrs_chunk::{ChunkShape, CodecError};
+use zarrs_chunk::CodecError;
 use zarrs_codec::BytesToBytesCodecTraits;
-use zarrs_data_type::{DataType, FillValue};
 
 /// Whether the chain takes such chunks and hands on the bytes of their elements as they are.
 pub(crate) fn keeps_inner<B: BytesToBytesCodecTraits>(
     alloc: Global,
     chain: &CodecChain<B>,
-    inner: &ChunkShape,
-    data_type: &DataType,
-    fill: &FillValue,
+    form: Form<'_>,
 ) -> bool
     ensures kept { result ≡ true
-        → KeepsInner B.functions chain.now inner.now data_type.now fill.now }
+        → KeepsInner B.functions chain.now form.entry.shape.now form.entry.data_type.now
+        form.entry.fill_value.now }
 {
-    if fill.as_ne_bytes().is_empty() || !keeps_bytes(chain, data_type) {
+    if form.fill_value.as_ne_bytes().is_empty() || !keeps_bytes(chain, form.data_type) {
         return false;
     }
-    match taken_form(alloc, chain, inner, data_type, fill) {
+    match taken_form(alloc, chain, form) {
         Ok(_) => true,
         Err(_) => false,
     }

@@ -2,21 +2,22 @@
 ghost use Rattle.std.specs.Prelude.{◌≡◌, true, Ok};
 ghost use Rattle.zarrs_chunk.specs.ChunkShape.{product};
 ghost use Rattle.zarrs_array_bytes.specs.Validity.{validity};
-ghost use Rattle.zarrs_data_type.specs.Form.{form_of};
 ghost use Rattle.zarrs_chain_meaning.specs.vlen.VlenSteps.{IsPackable};
 ghost use Rattle.zarrs_chain.specs.ChainView.{plain_codec, plain_optional, plain_vlen};
 ghost use Rattle.zarrs_chain.specs.sharding.ShardingCalls.{KeepsAll, GivesNormal, GivesPackedNormal, is_overflow};
+ghost use Rattle.zarrs_chain.specs.FormView.{lent_form};
 
 use crate::array_to_bytes_codec::ArrayToBytesCodec;
 use crate::encode::row_of;
+use crate::form::Form;
 use crate::optional::optional_codec::OptionalCodec;
 use crate::vlen::vlen_codec::VlenCodec;
 use std::alloc::Global;
 use zarrs_array_bytes::ArrayBytes;
 use zarrs_chain_meaning::optional::optional_parts::{blank_fill, masked_parts};
 use zarrs_chain_meaning::vlen::vlen_parts::variable_parts;
-use zarrs_chunk::{ChunkShape, CodecError};
-use zarrs_data_type::{DataType, FillValue};
+use zarrs_chunk::CodecError;
+use zarrs_data_type::DataType;
 use zarrs_packbits::PackBitsCodec;
 
 /// Whether the codec keeps each element as it is, whatever it is: `packbits` alone may leave out
@@ -40,18 +41,21 @@ fn packed_row<'a>(
     alloc: Global,
     codec: &PackBitsCodec,
     elements: ArrayBytes<'a>,
-    row: &ChunkShape,
-    data_type: &DataType,
-    fill: &FillValue,
+    form: Form<'_>,
 ) -> Result<ArrayBytes<'a>, CodecError>
-    requires valid { validity data_type.now (product row.now) elements ≡ Ok tt }
-    requires taken { IsPackable codec.now (form_of row.now data_type.now fill.now) }
+    requires valid { validity form.data_type.now (product form.shape.now) elements ≡ Ok tt }
+    requires taken { IsPackable codec.now (lent_form form) }
     // Wide: the count, the type and the container.
     ensures answer { GivesPackedNormal codec.now
-        (product row.now) data_type.now elements.entry result }
+        (product form.entry.shape.now) form.entry.data_type.now elements.entry result }
 {
-    let value = codec.encode(alloc, elements, row, data_type, fill)?;
-    codec.decode(alloc, value, row, data_type, fill)
+    let Form {
+        shape,
+        data_type,
+        fill_value,
+    } = form;
+    let value = codec.encode(alloc, elements, shape, data_type, fill_value)?;
+    codec.decode(alloc, value, shape, data_type, fill_value)
 }
 
 /// Whether 64 bits don't count what is asked for.
@@ -80,7 +84,14 @@ fn packed_normal<'a>(
     };
     let fill = blank_fill(alloc, data_type)?;
     match codec.encoded_representation(&row, data_type, &fill) {
-        Ok(_) => packed_row(alloc, codec, elements, &row, data_type, &fill),
+        Ok(_) => {
+            let form = Form {
+                shape: &row,
+                data_type,
+                fill_value: &fill,
+            };
+            packed_row(alloc, codec, elements, form)
+        }
         Err(cause) => {
             // No memory has room for as many elements twice.
             if is_too_many(cause) {

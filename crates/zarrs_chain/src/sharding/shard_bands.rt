@@ -12,9 +12,11 @@ ghost use Rattle.zarrs_chain.specs.sharding.ShardBands.{AreJoinable, Extends, Is
 ghost use Rattle.zarrs_chain.specs.sharding.BandSizes.{GivesBandSizes};
 ghost use Rattle.zarrs_chain.specs.sharding.ShardWalk.{ReadsAll};
 ghost use Rattle.zarrs_chain.specs.sharding.ShardingCalls.{IsShardForm};
+ghost use Rattle.zarrs_chain.specs.FormView.{lent_form};
 
 use crate::codec_chain::CodecChain;
 use crate::decode::chain_decode;
+use crate::form::Form;
 use crate::sharding::chunk_room::{empty_chunk, text_room};
 use crate::sharding::joined_bands::append_band;
 use crate::sharding::shard_decode::has_span;
@@ -26,7 +28,7 @@ use zarrs_chain_meaning::sharding::inner_chunks::inner_chunk_grid;
 use zarrs_chain_meaning::sharding::shard_parts::bytes_at;
 use zarrs_chunk::{ChunkShape, CodecError};
 use zarrs_codec::BytesToBytesCodecTraits;
-use zarrs_data_type::{DataType, FillValue};
+use zarrs_data_type::DataType;
 
 /// The elements of an inner chunk: what the value has of it, or `blank` where it isn't stored. Errors:
 /// `InvalidByteRange`; those of the chain.
@@ -34,28 +36,26 @@ use zarrs_data_type::{DataType, FillValue};
 fn read_elements<'a, B: BytesToBytesCodecTraits>(
     alloc: Global,
     chain: &CodecChain<B>,
-    inner: &ChunkShape,
+    form: Form<'_>,
     value: &'a [u8],
     span: (usize, usize),
     blank: &ArrayBytes<'a>,
-    data_type: &DataType,
-    fill: &FillValue,
 ) -> Result<ArrayBytes<'a>, CodecError>
-    requires missing { Holds data_type.now blank.now
-        (missing_chunk inner.now data_type.now fill.now) }
-    requires blank_tight { IsTight data_type.now blank.now }
-    // Wide: the three parameters of an inner chunk, the value and the span.
-    ensures answer { ReadsElements B.functions chain.now inner.now data_type.now fill.now
+    requires missing { Holds form.data_type.now blank.now
+        (missing_chunk form.shape.now form.data_type.now form.fill_value.now) }
+    requires blank_tight { IsTight form.data_type.now blank.now }
+    // Wide: the form of an inner chunk, the value and the span.
+    ensures answer { ReadsElements B.functions chain.now (lent_form form.entry)
         value.now span result }
     ensures whole { IfOk result (λ content.
-        validity data_type.now (product inner.now) content ≡ Ok tt) }
-    ensures tight { IfOk result (IsTight data_type.now) }
+        validity form.entry.data_type.now (product form.entry.shape.now) content ≡ Ok tt) }
+    ensures tight { IfOk result (IsTight form.entry.data_type.now) }
 {
     if !has_span(span) {
         return blank.clone();
     }
     let part = CowSlice::Borrowed(bytes_at(value, span.0, span.1)?);
-    let content = chain_decode(alloc, chain, part, inner, data_type, fill)?;
+    let content = chain_decode(alloc, chain, part, form)?;
     Ok(content)
 }
 
@@ -65,28 +65,28 @@ fn read_elements<'a, B: BytesToBytesCodecTraits>(
 fn read_band<'a, B: BytesToBytesCodecTraits>(
     alloc: Global,
     chain: &CodecChain<B>,
-    inner: &ChunkShape,
+    form: Form<'_>,
     value: &'a [u8],
     numbers: &[usize],
     blank: &ArrayBytes<'a>,
-    data_type: &DataType,
-    fill: &FillValue,
 ) -> Result<Vec<ArrayBytes<'a>>, CodecError>
-    requires missing { Holds data_type.now blank.now
-        (missing_chunk inner.now data_type.now fill.now) }
-    requires blank_tight { IsTight data_type.now blank.now }
-    // Wide: the three parameters of an inner chunk, the value and the numbers.
-    ensures answer { ReadsBand B.functions chain.now inner.now data_type.now fill.now
+    requires missing { Holds form.data_type.now blank.now
+        (missing_chunk form.shape.now form.data_type.now form.fill_value.now) }
+    requires blank_tight { IsTight form.data_type.now blank.now }
+    // Wide: the form of an inner chunk, the value and the numbers.
+    ensures answer { ReadsBand B.functions chain.now (lent_form form.entry)
         value.now numbers.now result }
     ensures all { IfOk result (λ contents. length contents.items ≡ length numbers.now / 2) }
     ensures whole { IfOk result (λ contents. All (λ content.
-        validity data_type.now (product inner.now) content ≡ Ok tt) contents.items) }
-    ensures tight { IfOk result (λ contents. All (IsTight data_type.now) contents.items) }
+        validity form.entry.data_type.now (product form.entry.shape.now) content ≡ Ok tt)
+        contents.items) }
+    ensures tight { IfOk result (λ contents. All (IsTight form.entry.data_type.now)
+        contents.items) }
 {
     let mut contents = Vec::with_capacity(alloc, numbers.len() / 2)?;
     for number in 0..numbers.len() / 2 {
         let span = (numbers[number * 2], numbers[number * 2 + 1]);
-        let content = read_elements(alloc, chain, inner, value, span, blank, data_type, fill)?;
+        let content = read_elements(alloc, chain, form, value, span, blank)?;
         contents.push(content)?;
     }
     Ok(contents)
@@ -132,18 +132,22 @@ fn band_shape(
 fn blank_chunk<'b>(
     alloc: Global,
     inner: &ChunkShape,
-    shape: &ChunkShape,
-    data_type: &DataType,
-    fill: &FillValue,
+    form: Form<'_>,
 ) -> Result<ArrayBytes<'b>, CodecError>
-    requires form { IsShardForm inner.now shape.now data_type.now fill.now }
-    ensures answer { GivesBy (Holds data_type.now) result
-        (Ok (missing_chunk inner.now data_type.now fill.now)) }
-    ensures tight { IfOk result (IsTight data_type.now) }
+    requires form { IsShardForm inner.now form.shape.now form.data_type.now form.fill_value.now }
+    ensures answer { GivesBy (Holds form.entry.data_type.now) result
+        (Ok (missing_chunk inner.now form.entry.data_type.now form.entry.fill_value.now)) }
+    ensures tight { IfOk result (IsTight form.entry.data_type.now) }
 {
     inner.as_slice();
-    shape.as_slice();
-    blank_inner_chunk(alloc, inner, data_type, fill)
+    form.shape.as_slice();
+    blank_inner_chunk(
+        alloc,
+        Form {
+            shape: inner,
+            ..form
+        },
+    )
 }
 
 /// How many inner chunks and elements a band has, and how many bands there are.
@@ -252,27 +256,30 @@ pub(crate) fn read_bands<'a, B: BytesToBytesCodecTraits>(
     inner: &ChunkShape,
     value: &[u8],
     numbers: &[usize],
-    shape: &ChunkShape,
-    data_type: &DataType,
-    fill: &FillValue,
+    form: Form<'_>,
 ) -> Result<ArrayBytes<'a>, CodecError>
-    requires form { IsShardForm inner.now shape.now data_type.now fill.now }
-    requires len { length numbers.now ≡ inner_chunk_count inner.now shape.now * 2 }
-    // Wide: the three parameters of a form, the value, and the numbers of its index.
-    ensures answer { ReadsAll B.functions chain.now inner.now shape.now data_type.now fill.now
+    requires form { IsShardForm inner.now form.shape.now form.data_type.now form.fill_value.now }
+    requires len { length numbers.now ≡ inner_chunk_count inner.now form.shape.now * 2 }
+    // Wide: the form, the value, and the numbers of its index.
+    ensures answer { ReadsAll B.functions chain.now inner.now (lent_form form.entry)
         value.now numbers.now result }
-    ensures tight { IfOk result (IsTight data_type.now) }
+    ensures tight { IfOk result (IsTight form.entry.data_type.now) }
 {
+    let (shape, data_type) = (form.shape, form.data_type);
     inner.as_slice();
     shape.as_slice();
     let band = band_shape(alloc, inner, shape)?;
     let sizes = band_sizes(alloc, inner, shape, &band, numbers.len() / 2)?;
-    let blank = blank_chunk(alloc, inner, shape, data_type, fill)?;
+    let blank = blank_chunk(alloc, inner, form)?;
+    let inner_form = Form {
+        shape: inner,
+        ..form
+    };
     let mut elements = empty_chunk(alloc, 0, 0, data_type)?;
     let mut done = 0;
     for number in 0..sizes.count {
         let part = band_numbers(numbers, sizes.chunks, number);
-        let contents = read_band(alloc, chain, inner, value, part, &blank, data_type, fill)?;
+        let contents = read_band(alloc, chain, inner_form, value, part, &blank)?;
         elements = join_band(
             alloc,
             elements,

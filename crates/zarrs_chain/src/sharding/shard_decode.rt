@@ -6,11 +6,17 @@ ghost use Rattle.zarrs_array_bytes.specs.Tight.{IsTight};
 ghost use Rattle.zarrs_array_bytes.specs.Validity.{validity};
 ghost use Rattle.zarrs_chain_meaning.specs.sharding.InnerChunks.{grid as grid_of, inner_chunk_count, is_divided};
 ghost use Rattle.zarrs_chain_meaning.specs.sharding.Sharding.{is_stored};
-ghost use Rattle.zarrs_chain.specs.sharding.ShardingCalls.{IsShardForm, ShardingAccepts, TakesInside, ShardingDecodes, ReadsInside};
+ghost use Rattle.zarrs_chain.specs.sharding.ShardingCalls.{IsShardForm, TakesInside, ReadsInside};
 ghost use Rattle.zarrs_chain.specs.sharding.ShardWalk.{ReplacesInner, ReadsInner, ReadsNextInner, ReadsAll};
+ghost use Rattle.zarrs_chain.specs.FormView.{lent_form};
+ghost use Rattle.zarrs_chain_meaning.specs.CallAnswers.{IsTaken};
+ghost use Rattle.zarrs_chain_meaning.specs.CallAnswers.{GivesCodecChunk};
+ghost use Rattle.zarrs_array_bytes.specs.Held.{items_of};
+ghost use Rattle.zarrs_chain.specs.ChainView.{plain_sharding};
 
 use crate::codec_chain::CodecChain;
 use crate::decode::chain_decode;
+use crate::form::Form;
 use crate::sharding::kept_bytes::keeps_bytes;
 use crate::sharding::shard_bands::read_bands;
 use crate::sharding::shard_form::shard_form;
@@ -24,7 +30,7 @@ use zarrs_chain_meaning::sharding::inner_chunks::{inner_chunk_grid, inner_chunk_
 use zarrs_chain_meaning::sharding::shard_parts::{bytes_at, index_part};
 use zarrs_chunk::{ChunkShape, CodecError};
 use zarrs_codec::BytesToBytesCodecTraits;
-use zarrs_data_type::{DataType, FillValue};
+use zarrs_data_type::DataType;
 
 /// The elements with those of the inner chunk of a number replaced by these. Errors: `OutOfMemory`.
 fn with_inner<'a>(
@@ -66,26 +72,39 @@ fn read_inner<'a, B: BytesToBytesCodecTraits>(
     value: &[u8],
     span: (usize, usize),
     elements: ArrayBytes<'a>,
-    shape: &ChunkShape,
+    form: Form<'_>,
     grid: &ChunkShape,
     number: u64,
-    data_type: &DataType,
-    fill: &FillValue,
 ) -> Result<ArrayBytes<'a>, CodecError>
-    requires form { IsShardForm inner.now shape.now data_type.now fill.now }
-    requires grid { grid.now ≡ grid_of inner.now shape.now }
-    requires below { number < inner_chunk_count inner.now shape.now }
-    requires valid { validity data_type.now (product shape.now) elements ≡ Ok tt }
-    requires tight { IsTight data_type.now elements }
-    // Wide: the three parameters of a form, the value, the number, its span and the container.
-    ensures answer { ReadsInner B.functions chain.now inner.now shape.now data_type.now fill.now
+    requires form { IsShardForm inner.now form.shape.now form.data_type.now form.fill_value.now }
+    requires grid { grid.now ≡ grid_of inner.now form.shape.now }
+    requires below { number < inner_chunk_count inner.now form.shape.now }
+    requires valid { validity form.data_type.now (product form.shape.now) elements ≡ Ok tt }
+    requires tight { IsTight form.data_type.now elements }
+    // Wide: the form, the value, the number, its span and the container.
+    ensures answer { ReadsInner B.functions chain.now inner.now (lent_form form.entry)
         value.now number span elements.entry result }
-    ensures tight { IfOk result (IsTight data_type.now) }
+    ensures tight { IfOk result (IsTight form.entry.data_type.now) }
 {
     let part = CowSlice::Borrowed(bytes_at(value, span.0, span.1)?);
-    let content = chain_decode(alloc, chain, part, inner, data_type, fill)?;
+    let content = chain_decode(
+        alloc,
+        chain,
+        part,
+        Form {
+            shape: inner,
+            ..form
+        },
+    )?;
     with_inner(
-        alloc, inner, &content, elements, shape, grid, number, data_type,
+        alloc,
+        inner,
+        &content,
+        elements,
+        form.shape,
+        grid,
+        number,
+        form.data_type,
     )
 }
 
@@ -107,27 +126,25 @@ fn read_next<'a, B: BytesToBytesCodecTraits>(
     value: &[u8],
     span: (usize, usize),
     elements: ArrayBytes<'a>,
-    shape: &ChunkShape,
+    form: Form<'_>,
     grid: &ChunkShape,
     number: u64,
-    data_type: &DataType,
-    fill: &FillValue,
 ) -> Result<ArrayBytes<'a>, CodecError>
-    requires form { IsShardForm inner.now shape.now data_type.now fill.now }
-    requires grid { grid.now ≡ grid_of inner.now shape.now }
-    requires below { number < inner_chunk_count inner.now shape.now }
-    requires valid { validity data_type.now (product shape.now) elements ≡ Ok tt }
-    requires tight { IsTight data_type.now elements }
-    // Wide: the three parameters of a form, the value, the number, its span and the container.
-    ensures answer { ReadsNextInner B.functions chain.now inner.now shape.now data_type.now fill.now
+    requires form { IsShardForm inner.now form.shape.now form.data_type.now form.fill_value.now }
+    requires grid { grid.now ≡ grid_of inner.now form.shape.now }
+    requires below { number < inner_chunk_count inner.now form.shape.now }
+    requires valid { validity form.data_type.now (product form.shape.now) elements ≡ Ok tt }
+    requires tight { IsTight form.data_type.now elements }
+    // Wide: the form, the value, the number, its span and the container.
+    ensures answer { ReadsNextInner B.functions chain.now inner.now (lent_form form.entry)
         value.now number span elements.entry result }
-    ensures tight { IfOk result (IsTight data_type.now) }
+    ensures tight { IfOk result (IsTight form.entry.data_type.now) }
 {
     if !has_span(span) {
         return Ok(elements);
     }
     read_inner(
-        alloc, chain, inner, value, span, elements, shape, grid, number, data_type, fill,
+        alloc, chain, inner, value, span, elements, form, grid, number,
     )
 }
 
@@ -140,22 +157,25 @@ fn read_all<'a, B: BytesToBytesCodecTraits>(
     inner: &ChunkShape,
     value: &[u8],
     numbers: &[usize],
-    shape: &ChunkShape,
+    form: Form<'_>,
     grid: &ChunkShape,
-    data_type: &DataType,
-    fill: &FillValue,
 ) -> Result<ArrayBytes<'a>, CodecError>
-    requires form { IsShardForm inner.now shape.now data_type.now fill.now }
-    requires grid { grid.now ≡ grid_of inner.now shape.now }
-    requires len { length numbers.now ≡ inner_chunk_count inner.now shape.now * 2 }
-    // Wide: the three parameters of a form, the value, and the numbers of its index.
-    ensures answer { ReadsAll B.functions chain.now inner.now shape.now data_type.now fill.now
+    requires form { IsShardForm inner.now form.shape.now form.data_type.now form.fill_value.now }
+    requires grid { grid.now ≡ grid_of inner.now form.shape.now }
+    requires len { length numbers.now ≡ inner_chunk_count inner.now form.shape.now * 2 }
+    // Wide: the form, the value, and the numbers of its index.
+    ensures answer { ReadsAll B.functions chain.now inner.now (lent_form form.entry)
         value.now numbers.now result }
-    ensures tight { IfOk result (IsTight data_type.now) }
+    ensures tight { IfOk result (IsTight form.entry.data_type.now) }
 {
+    let Form {
+        shape,
+        data_type,
+        fill_value,
+    } = form;
     inner.as_slice();
     let count = shape.num_elements()?;
-    let mut elements = ArrayBytes::new_fill_value(alloc, data_type, count, fill)?;
+    let mut elements = ArrayBytes::new_fill_value(alloc, data_type, count, fill_value)?;
     for number in 0..numbers.len() / 2 {
         let span = (numbers[number * 2], numbers[number * 2 + 1]);
         elements = read_next(
@@ -165,11 +185,9 @@ fn read_all<'a, B: BytesToBytesCodecTraits>(
             value,
             span,
             elements,
-            shape,
+            form,
             grid,
             number as u64,
-            data_type,
-            fill,
         )?;
     }
     Ok(elements)
@@ -187,32 +205,27 @@ fn read_chunk<'a, B: BytesToBytesCodecTraits>(
     inner: &ChunkShape,
     value: &[u8],
     numbers: &[usize],
-    shape: &ChunkShape,
+    form: Form<'_>,
     grid: &ChunkShape,
-    data_type: &DataType,
-    fill: &FillValue,
 ) -> Result<ArrayBytes<'a>, CodecError>
-    requires form { IsShardForm inner.now shape.now data_type.now fill.now }
-    requires grid { grid.now ≡ grid_of inner.now shape.now }
-    requires len { length numbers.now ≡ inner_chunk_count inner.now shape.now * 2 }
-    // Wide: the three parameters of a form, the value, and the numbers of its index.
-    ensures answer { ReadsAll B.functions chain.now inner.now shape.now data_type.now fill.now
+    requires form { IsShardForm inner.now form.shape.now form.data_type.now form.fill_value.now }
+    requires grid { grid.now ≡ grid_of inner.now form.shape.now }
+    requires len { length numbers.now ≡ inner_chunk_count inner.now form.shape.now * 2 }
+    // Wide: the form, the value, and the numbers of its index.
+    ensures answer { ReadsAll B.functions chain.now inner.now (lent_form form.entry)
         value.now numbers.now result }
-    ensures tight { IfOk result (IsTight data_type.now) }
+    ensures tight { IfOk result (IsTight form.entry.data_type.now) }
 {
+    let data_type = form.data_type;
     if let Some(size) = data_type.fixed_size() {
         if keeps_bytes(chain, data_type) {
-            return read_rows(
-                alloc, chain, inner, value, numbers, shape, size, data_type, fill,
-            );
+            return read_rows(alloc, chain, inner, value, numbers, form, size);
         }
     }
     if data_type.fixed_size().is_some() {
-        return read_all(
-            alloc, chain, inner, value, numbers, shape, grid, data_type, fill,
-        );
+        return read_all(alloc, chain, inner, value, numbers, form, grid);
     }
-    read_bands(alloc, chain, inner, value, numbers, shape, data_type, fill)
+    read_bands(alloc, chain, inner, value, numbers, form)
 }
 
 /// The chunk that a value stands for, where the codec takes such chunks. Errors:
@@ -222,15 +235,17 @@ fn shard_decode<'a, B: BytesToBytesCodecTraits>(
     alloc: Global,
     codec: &ShardingCodec<B>,
     value: &[u8],
-    shape: &ChunkShape,
-    data_type: &DataType,
-    fill: &FillValue,
+    form: Form<'_>,
 ) -> Result<ArrayBytes<'a>, CodecError>
-    requires taken { TakesInside B.functions codec.now shape.now data_type.now fill.now }
-    ensures answer { ReadsInside B.functions codec.now
-        shape.now data_type.now fill.now value.now result }
-    ensures tight { IfOk result (IsTight data_type.now) }
+    requires taken { TakesInside B.functions codec.now (lent_form form) }
+    ensures answer { ReadsInside B.functions codec.now (lent_form form.entry) value.now result }
+    ensures tight { IfOk result (IsTight form.entry.data_type.now) }
 {
+    let Form {
+        shape,
+        data_type,
+        fill_value,
+    } = form;
     let inner = &codec.chunk_shape;
     shard_form(
         &codec.codecs,
@@ -238,7 +253,7 @@ fn shard_decode<'a, B: BytesToBytesCodecTraits>(
         inner,
         shape,
         data_type,
-        fill,
+        fill_value,
     );
     let grid = inner_chunk_grid(alloc, shape, inner)?;
     let size = index_size(alloc, &codec.index_codecs, &grid)?;
@@ -246,9 +261,7 @@ fn shard_decode<'a, B: BytesToBytesCodecTraits>(
     let numbers = index_decode(alloc, &codec.index_codecs, part, &grid)?;
     let numbers = numbers.as_slice();
     let chain = &codec.codecs;
-    read_chunk(
-        alloc, chain, inner, value, numbers, shape, &grid, data_type, fill,
-    )
+    read_chunk(alloc, chain, inner, value, numbers, form, &grid)
 }
 
 /// The chunk that a value stands for, where the codec takes such chunks. Errors: those of
@@ -259,13 +272,12 @@ pub(crate) fn sharding_decode<'a, B: BytesToBytesCodecTraits>(
     alloc: Global,
     codec: &ShardingCodec<B>,
     value: ArrayBytesRaw<'a>,
-    shape: &ChunkShape,
-    kind: &DataType,
-    fill: &FillValue,
+    form: Form<'_>,
 ) -> Result<ArrayBytes<'a>, CodecError>
-    requires taken { ShardingAccepts B.functions codec.now shape.now kind.now fill.now }
-    ensures answer { ShardingDecodes B.functions codec.now shape.now kind.now fill.now value.entry result }
-    ensures tight { IfOk result (IsTight kind.now) }
+    requires taken { IsTaken B.functions (plain_sharding codec.now) (lent_form form) }
+    ensures answer { GivesCodecChunk B.functions (plain_sharding codec.now) (lent_form form.entry)
+        (items_of value.entry) result }
+    ensures tight { IfOk result (IsTight form.entry.data_type.now) }
 {
-    shard_decode(alloc, codec, value.as_slice(), shape, kind, fill)
+    shard_decode(alloc, codec, value.as_slice(), form)
 }

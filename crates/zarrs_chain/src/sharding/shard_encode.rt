@@ -6,12 +6,17 @@ ghost use Rattle.zarrs_chunk.specs.ChunkShape.{product};
 ghost use Rattle.zarrs_array_bytes.specs.Validity.{validity};
 ghost use Rattle.zarrs_data_type.specs.FillValue.{fill_fits};
 ghost use Rattle.zarrs_chain_meaning.specs.sharding.InnerChunks.{grid as grid_of};
-ghost use Rattle.zarrs_chain.specs.sharding.ShardingCalls.{IsNormalFill, IsShardForm, ShardingAccepts, TakesInside, ShardingEncodes, WritesInside};
+ghost use Rattle.zarrs_chain.specs.sharding.ShardingCalls.{IsNormalFill, IsShardForm, TakesInside, WritesInside};
 ghost use Rattle.zarrs_chain.specs.sharding.InnerPlaces.{places_from};
 ghost use Rattle.zarrs_chain.specs.sharding.ShardWalk.{KeepsInner, WritesAll, WritesInner, WritesInnerAt};
+ghost use Rattle.zarrs_chain.specs.FormView.{lent_form};
+ghost use Rattle.zarrs_chain_meaning.specs.CallAnswers.{IsTaken};
+ghost use Rattle.zarrs_chain_meaning.specs.CallAnswers.{GivesCodecValue};
+ghost use Rattle.zarrs_chain.specs.ChainView.{plain_sharding};
 
 use crate::codec_chain::CodecChain;
 use crate::encode::{chain_encode, check_elements};
+use crate::form::Form;
 use crate::sharding::inner_places::{first_place, first_runs, moved_runs};
 use crate::sharding::kept_inner_chunk::{keeps_inner, write_kept};
 use crate::sharding::left_out::is_left_out;
@@ -26,7 +31,6 @@ use zarrs_array_bytes::{ArrayBytes, ArrayBytesRaw};
 use zarrs_chain_meaning::sharding::inner_chunks::inner_chunk_grid;
 use zarrs_chunk::{ChunkShape, CodecError};
 use zarrs_codec::BytesToBytesCodecTraits;
-use zarrs_data_type::{DataType, FillValue};
 
 /// Writes the inner chunk of this shape that a container holds, unless it is left out. Errors:
 /// those of the chain.
@@ -34,26 +38,29 @@ use zarrs_data_type::{DataType, FillValue};
 fn write_inner<B: BytesToBytesCodecTraits>(
     alloc: Global,
     chain: &CodecChain<B>,
-    inner: &ChunkShape,
+    form: Form<'_>,
     elements: ArrayBytes<'_>,
-    data_type: &DataType,
-    fill: &FillValue,
     written: &mut WrittenShard,
 ) -> Result<(), CodecError>
-    requires counted { checked_u64 (product inner.now) ≡ Ok (product inner.now) }
-    requires valid { validity data_type.now (product inner.now) elements ≡ Ok tt }
-    requires filling { fill_fits data_type.now fill.now ≡ true }
-    requires normal { IsNormalFill chain.now.array_to_bytes data_type.now fill.now }
-    // Wide: the three parameters of a form, the container, and what was written before and after.
-    ensures answer { WritesInner B.functions chain.now inner.now data_type.now fill.now
+    requires counted { checked_u64 (product form.shape.now) ≡ Ok (product form.shape.now) }
+    requires valid { validity form.data_type.now (product form.shape.now) elements ≡ Ok tt }
+    requires filling { fill_fits form.data_type.now form.fill_value.now ≡ true }
+    requires normal { IsNormalFill chain.now.array_to_bytes form.data_type.now form.fill_value.now }
+    // Wide: the form, the container, and what was written before and after.
+    ensures answer { WritesInner B.functions chain.now (lent_form form.entry)
         elements.entry written.old written.new result }
 {
-    let count = inner.num_elements()?;
+    let Form {
+        shape,
+        data_type,
+        fill_value,
+    } = form;
+    let count = shape.num_elements()?;
     let codec = &chain.array_to_bytes;
-    if is_left_out(alloc, codec, &elements, count, data_type, fill)? {
+    if is_left_out(alloc, codec, &elements, count, data_type, fill_value)? {
         return written.leave_out();
     }
-    let value = chain_encode(alloc, chain, elements, inner, data_type, fill)?;
+    let value = chain_encode(alloc, chain, elements, form)?;
     written.append(value.as_slice())
 }
 
@@ -66,32 +73,45 @@ fn write_next<B: BytesToBytesCodecTraits>(
     chain: &CodecChain<B>,
     inner: &ChunkShape,
     held: &ArrayBytes<'_>,
-    shape: &ChunkShape,
+    form: Form<'_>,
     start: u64,
     runs: &[(u64, u64)],
     keeps: bool,
-    data_type: &DataType,
-    fill: &FillValue,
     written: &mut WrittenShard,
 ) -> Result<(), CodecError>
-    requires form { IsShardForm inner.now shape.now data_type.now fill.now }
-    requires normal { IsNormalFill chain.now.array_to_bytes data_type.now fill.now }
-    requires valid { validity data_type.now (product shape.now) held.now ≡ Ok tt }
+    requires form { IsShardForm inner.now form.shape.now form.data_type.now form.fill_value.now }
+    requires normal { IsNormalFill chain.now.array_to_bytes form.data_type.now form.fill_value.now }
+    requires valid { validity form.data_type.now (product form.shape.now) held.now ≡ Ok tt }
     requires count { length (joined_runs runs.now) ≡ product inner.now }
-    requires inside { All (λ run. start + (run.0 + run.1) ≤ product shape.now) runs.now }
+    requires inside { All (λ run. start + (run.0 + run.1) ≤ product form.shape.now) runs.now }
     requires kept { keeps ≡ true
-        → KeepsInner B.functions chain.now inner.now data_type.now fill.now }
-    // Wide: the three parameters of a form, the places, the container, and what was written.
-    ensures answer { WritesInnerAt B.functions chain.now inner.now shape.now data_type.now fill.now
+        → KeepsInner B.functions chain.now inner.now form.data_type.now form.fill_value.now }
+    // Wide: the form, the places, the container, and what was written.
+    ensures answer { WritesInnerAt B.functions chain.now inner.now (lent_form form.entry)
         (places_from start runs.now) held.now written.old written.new result }
 {
     if keeps {
-        return write_kept(held.as_fixed()?, fill.as_ne_bytes(), start, runs, written);
+        return write_kept(
+            held.as_fixed()?,
+            form.fill_value.as_ne_bytes(),
+            start,
+            runs,
+            written,
+        );
     }
-    let count = shape.num_elements()?;
+    let count = form.shape.num_elements()?;
     let moved = moved_runs(alloc, runs, start)?;
-    let elements = held.extract_runs(alloc, moved.as_slice(), count, data_type)?;
-    write_inner(alloc, chain, inner, elements, data_type, fill, written)
+    let elements = held.extract_runs(alloc, moved.as_slice(), count, form.data_type)?;
+    write_inner(
+        alloc,
+        chain,
+        Form {
+            shape: inner,
+            ..form
+        },
+        elements,
+        written,
+    )
 }
 
 /// Writes all inner chunks of the chunk that `held` holds, in order. Errors: those of the chain, of
@@ -102,25 +122,30 @@ fn write_all<B: BytesToBytesCodecTraits>(
     chain: &CodecChain<B>,
     inner: &ChunkShape,
     held: &ArrayBytes<'_>,
-    shape: &ChunkShape,
+    form: Form<'_>,
     grid: &ChunkShape,
-    data_type: &DataType,
-    fill: &FillValue,
     written: &mut WrittenShard,
 ) -> Result<(), CodecError>
-    requires form { IsShardForm inner.now shape.now data_type.now fill.now }
-    requires normal { IsNormalFill chain.now.array_to_bytes data_type.now fill.now }
-    requires grid { grid.now ≡ grid_of inner.now shape.now }
-    requires valid { validity data_type.now (product shape.now) held.now ≡ Ok tt }
-    // Wide: the three parameters of a form, the container, and what was written before and after.
-    ensures answer { WritesAll B.functions chain.now inner.now shape.now data_type.now fill.now
+    requires form { IsShardForm inner.now form.shape.now form.data_type.now form.fill_value.now }
+    requires normal { IsNormalFill chain.now.array_to_bytes form.data_type.now form.fill_value.now }
+    requires grid { grid.now ≡ grid_of inner.now form.shape.now }
+    requires valid { validity form.data_type.now (product form.shape.now) held.now ≡ Ok tt }
+    // Wide: the form, the container, and what was written before and after.
+    ensures answer { WritesAll B.functions chain.now inner.now (lent_form form.entry)
         held.now written.old written.new result }
 {
-    let sizes = shape.as_slice();
+    let sizes = form.shape.as_slice();
     let parts = inner.as_slice();
     let counts = grid.as_slice();
-    let keeps = keeps_inner(alloc, chain, inner, data_type, fill);
-    let runs = first_runs(alloc, shape, inner)?;
+    let keeps = keeps_inner(
+        alloc,
+        chain,
+        Form {
+            shape: inner,
+            ..form
+        },
+    );
+    let runs = first_runs(alloc, form.shape, inner)?;
     for number in 0..grid.num_elements()? {
         let start = first_place(sizes, parts, counts, number);
         write_next(
@@ -128,12 +153,10 @@ fn write_all<B: BytesToBytesCodecTraits>(
             chain,
             inner,
             held,
-            shape,
+            form,
             start,
             runs.as_slice(),
             keeps,
-            data_type,
-            fill,
             written,
         )?;
     }
@@ -148,33 +171,32 @@ fn shard_encode<'a, B: BytesToBytesCodecTraits>(
     alloc: Global,
     codec: &ShardingCodec<B>,
     held: &ArrayBytes<'_>,
-    shape: &ChunkShape,
-    kind: &DataType,
-    fill: &FillValue,
+    form: Form<'_>,
 ) -> Result<ArrayBytesRaw<'a>, CodecError>
-    requires taken { TakesInside B.functions codec.now shape.now kind.now fill.now }
-    requires valid { validity kind.now (product shape.now) held.now ≡ Ok tt }
-    ensures answer { WritesInside B.functions codec.now
-        shape.now kind.now fill.now held.now result }
+    requires taken { TakesInside B.functions codec.now (lent_form form) }
+    requires valid { validity form.data_type.now (product form.shape.now) held.now ≡ Ok tt }
+    ensures answer { WritesInside B.functions codec.now (lent_form form.entry) held.now result }
 {
+    let Form {
+        shape,
+        data_type,
+        fill_value,
+    } = form;
     let inner = &codec.chunk_shape;
-    shard_form(&codec.codecs, &codec.index_codecs, inner, shape, kind, fill);
+    shard_form(
+        &codec.codecs,
+        &codec.index_codecs,
+        inner,
+        shape,
+        data_type,
+        fill_value,
+    );
     let grid = inner_chunk_grid(alloc, shape, inner)?;
     let size = index_size(alloc, &codec.index_codecs, &grid)? as usize;
     let front = first_offset(size, codec.index_location);
-    let room = value_room(alloc, held, inner, shape, &grid, fill).saturating_add(size);
+    let room = value_room(alloc, held, inner, shape, &grid, fill_value).saturating_add(size);
     let mut written = WrittenShard::new(alloc, front, room)?;
-    write_all(
-        alloc,
-        &codec.codecs,
-        inner,
-        held,
-        shape,
-        &grid,
-        kind,
-        fill,
-        &mut written,
-    )?;
+    write_all(alloc, &codec.codecs, inner, held, form, &grid, &mut written)?;
     let WrittenShard { bytes, numbers } = written;
     let part = index_encode(alloc, &codec.index_codecs, numbers.as_slice(), &grid)?;
     let value = place_index(bytes, part.as_slice(), size, codec.index_location)?;
@@ -189,13 +211,12 @@ pub(crate) fn sharding_encode<'a, B: BytesToBytesCodecTraits>(
     alloc: Global,
     codec: &ShardingCodec<B>,
     held: ArrayBytes<'a>,
-    shape: &ChunkShape,
-    kind: &DataType,
-    fill: &FillValue,
+    form: Form<'_>,
 ) -> Result<ArrayBytesRaw<'a>, CodecError>
-    requires taken { ShardingAccepts B.functions codec.now shape.now kind.now fill.now }
-    ensures answer { ShardingEncodes B.functions codec.now shape.now kind.now fill.now held.entry result }
+    requires taken { IsTaken B.functions (plain_sharding codec.now) (lent_form form) }
+    ensures answer { GivesCodecValue B.functions (plain_sharding codec.now) (lent_form form.entry)
+        held.entry result }
 {
-    check_elements(&held, shape, kind)?;
-    shard_encode(alloc, codec, &held, shape, kind, fill)
+    check_elements(&held, form.shape, form.data_type)?;
+    shard_encode(alloc, codec, &held, form)
 }

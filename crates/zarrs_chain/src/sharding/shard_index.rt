@@ -8,6 +8,7 @@ use crate::array_to_bytes_codec::ArrayToBytesCodec;
 use crate::codec_chain::{CodecChain, chain_is_sound};
 use crate::decode::chain_decode;
 use crate::encode::chain_encode;
+use crate::form::Form;
 use crate::representation::chain_representation;
 use crate::sharding::normal_form::{keeps_all, normal_elements};
 use crate::vlen::vlen_kept::holds_items;
@@ -33,7 +34,13 @@ pub fn index_size<B: BytesToBytesCodecTraits>(
 {
     let shape = index_shape(alloc, grid)?;
     let zero = offset_fill(alloc, VlenIndexDataType::UInt64)?;
-    match chain_representation(alloc, chain, &shape, &DataType::uint64(), &zero)? {
+    let number_type = DataType::uint64();
+    let form = Form {
+        shape: &shape,
+        data_type: &number_type,
+        fill_value: &zero,
+    };
+    match chain_representation(alloc, chain, form)? {
         BytesRepresentation::FixedSize(size) => Ok(size),
         _ => Err(CodecError::IndexNotFixed),
     }
@@ -91,7 +98,13 @@ pub(crate) fn index_encode<'a, B: BytesToBytesCodecTraits>(
     let zero = offset_fill(alloc, VlenIndexDataType::UInt64)?;
     let items = number_items(alloc, numbers)?;
     let rows = ArrayBytes::new_flen(CowSlice::Owned(items));
-    let part = chain_encode(alloc, chain, rows, &shape, &DataType::uint64(), &zero)?;
+    let number_type = DataType::uint64();
+    let form = Form {
+        shape: &shape,
+        data_type: &number_type,
+        fill_value: &zero,
+    };
+    let part = chain_encode(alloc, chain, rows, form)?;
     check_numbers(alloc, &chain.array_to_bytes, numbers)?;
     Ok(part)
 }
@@ -110,6 +123,12 @@ pub fn index_decode<B: BytesToBytesCodecTraits>(
     let shape = index_shape(alloc, grid)?;
     let zero = offset_fill(alloc, VlenIndexDataType::UInt64)?;
     let part = CowSlice::Borrowed(part);
-    let rows = chain_decode(alloc, chain, part, &shape, &DataType::uint64(), &zero)?;
+    let number_type = DataType::uint64();
+    let form = Form {
+        shape: &shape,
+        data_type: &number_type,
+        fill_value: &zero,
+    };
+    let rows = chain_decode(alloc, chain, part, form)?;
     offset_numbers(alloc, rows.as_fixed()?, VlenIndexDataType::UInt64)
 }

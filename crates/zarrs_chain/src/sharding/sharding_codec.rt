@@ -11,9 +11,14 @@ ghost use Rattle.zarrs_chain_meaning.specs.CodecMeaning.{HasMappings};
 ghost use Rattle.zarrs_chain_meaning.specs.MadeAgain.{HasRanges};
 ghost use Rattle.zarrs_chain_meaning.specs.sharding.ShardingSettings.{is_index_at_end};
 ghost use Rattle.zarrs_chain_meaning.specs.WrittenMetadata.{codec_configuration};
-ghost use Rattle.zarrs_chain.specs.sharding.ShardingCalls.{ShardingRepresents, ShardingEncodes, ShardingDecodesAny};
+ghost use Rattle.zarrs_chain.specs.sharding.ShardingCalls.{ShardingRepresents};
+ghost use Rattle.zarrs_chain.specs.FormView.{lent_form};
+ghost use Rattle.zarrs_chain_meaning.specs.CallAnswers.{GivesRepresentation};
+ghost use Rattle.zarrs_chain_meaning.specs.CallAnswers.{GivesCodecValue};
+ghost use Rattle.zarrs_chain_meaning.specs.CallAnswers.{GivesTakenChunk};
 
 use crate::codec_chain::{CodecChain, chain_has_ranges, chain_is_sound};
+use crate::form::Form;
 use crate::metadata::write_chain::chain_written;
 use crate::representation::chain_representation;
 use crate::sharding::left_out::is_fill_kept;
@@ -139,18 +144,29 @@ pub(crate) fn is_at_end(location: ShardingIndexLocation) -> bool
 pub(crate) fn sharding_representation<B: BytesToBytesCodecTraits>(
     alloc: Global,
     codec: &ShardingCodec<B>,
-    shape: &ChunkShape,
-    data_type: &DataType,
-    fill_value: &FillValue,
+    form: Form<'_>,
 ) -> Result<BytesRepresentation, CodecError>
-    ensures answer { ShardingRepresents B.functions codec.now shape.now data_type.now fill_value.now result }
+    ensures answer { GivesRepresentation B.functions (plain_sharding codec.now)
+        (lent_form form.entry) result }
 {
+    let Form {
+        shape,
+        data_type,
+        fill_value,
+    } = form;
     shape.as_slice();
     let inner = &codec.chunk_shape;
     inner.as_slice();
     let grid = inner_chunk_grid(alloc, shape, inner)?;
     check_room(shape.num_elements()?, data_type)?;
-    let size = chain_representation(alloc, &codec.codecs, inner, data_type, fill_value)?;
+    let size = chain_representation(
+        alloc,
+        &codec.codecs,
+        Form {
+            shape: inner,
+            ..form
+        },
+    )?;
     if !is_fill_kept(alloc, &codec.codecs.array_to_bytes, data_type, fill_value)? {
         return Err(CodecError::InvalidFillValue);
     }
@@ -163,14 +179,13 @@ fn sharding_taken_encode<'a, B: BytesToBytesCodecTraits>(
     alloc: Global,
     codec: &ShardingCodec<B>,
     held: ArrayBytes<'a>,
-    shape: &ChunkShape,
-    kind: &DataType,
-    fill: &FillValue,
+    form: Form<'_>,
 ) -> Result<ArrayBytesRaw<'a>, CodecError>
-    ensures answer { ShardingEncodes B.functions codec.now shape.now kind.now fill.now held.entry result }
+    ensures answer { GivesCodecValue B.functions (plain_sharding codec.now) (lent_form form.entry)
+        held.entry result }
 {
-    sharding_representation(alloc, codec, shape, kind, fill)?;
-    sharding_encode(alloc, codec, held, shape, kind, fill)
+    sharding_representation(alloc, codec, form)?;
+    sharding_encode(alloc, codec, held, form)
 }
 
 /// The chunk that a value stands for. Errors: those of `ShardingCodec::decode`.
@@ -178,15 +193,14 @@ fn sharding_taken_decode<'a, B: BytesToBytesCodecTraits>(
     alloc: Global,
     codec: &ShardingCodec<B>,
     value: ArrayBytesRaw<'a>,
-    shape: &ChunkShape,
-    kind: &DataType,
-    fill: &FillValue,
+    form: Form<'_>,
 ) -> Result<ArrayBytes<'a>, CodecError>
-    ensures exact { ShardingDecodesAny B.functions codec.now shape.now kind.now fill.now value.entry result }
-    ensures tight { IfOk result (IsTight kind.now) }
+    ensures exact { GivesTakenChunk B.functions (plain_sharding codec.now) (lent_form form.entry)
+        (items_of value.entry) result }
+    ensures tight { IfOk result (IsTight form.entry.data_type.now) }
 {
-    sharding_representation(alloc, codec, shape, kind, fill)?;
-    sharding_decode(alloc, codec, value, shape, kind, fill)
+    sharding_representation(alloc, codec, form)?;
+    sharding_decode(alloc, codec, value, form)
 }
 
 impl<B: BytesToBytesCodecTraits> ShardingCodec<B> {
@@ -207,7 +221,12 @@ impl<B: BytesToBytesCodecTraits> ShardingCodec<B> {
     ) -> Result<BytesRepresentation, CodecError>
         ensures answer { ShardingRepresents B.functions self.now shape.now data_type.now fill_value.now result }
     {
-        sharding_representation(alloc, self, shape, data_type, fill_value)
+        let form = Form {
+            shape,
+            data_type,
+            fill_value,
+        };
+        sharding_representation(alloc, self, form)
     }
 
     /// The value that is written for the chunk that `elements` hold. Errors, the first that holds,
@@ -228,7 +247,12 @@ impl<B: BytesToBytesCodecTraits> ShardingCodec<B> {
     {
         sharding_is_sound(self);
         shape.as_slice();
-        sharding_taken_encode(alloc, self, elements, shape, data_type, fill_value)
+        let form = Form {
+            shape,
+            data_type,
+            fill_value,
+        };
+        sharding_taken_encode(alloc, self, elements, form)
     }
 
     /// The chunk that a value stands for. Errors, the first that holds, `OutOfMemory` aside: those
@@ -252,6 +276,11 @@ impl<B: BytesToBytesCodecTraits> ShardingCodec<B> {
     {
         sharding_is_sound(self);
         shape.as_slice();
-        sharding_taken_decode(alloc, self, value, shape, data_type, fill_value)
+        let form = Form {
+            shape,
+            data_type,
+            fill_value,
+        };
+        sharding_taken_decode(alloc, self, value, form)
     }
 }

@@ -7,9 +7,9 @@ ghost use Rattle.zarrs_metadata.specs.MetadataV3.{Writes};
 ghost use Rattle.zarrs_data_type.specs.Form.{form_of};
 ghost use Rattle.zarrs_codec.specs.Grammar.{Encodes, Decodes};
 ghost use Rattle.zarrs_chain.specs.ChainGrammar.{codec_grammar};
-ghost use Rattle.zarrs_chain.specs.ChainView.{plain_chain, plain_vlen, vlen_of};
+ghost use Rattle.zarrs_chain.specs.ChainView.{plain_chain, plain_vlen, vlen_of, plain_codec};
 ghost use Rattle.zarrs_chain.specs.vlen.DefaultVlen.{bytes_chain};
-ghost use Rattle.zarrs_chain_meaning.specs.CallAnswers.{GivesTakenChunk};
+ghost use Rattle.zarrs_chain_meaning.specs.CallAnswers.{GivesTakenChunk, GivesRepresentation, codec_represented};
 ghost use Rattle.zarrs_chain_meaning.specs.PlainChain.{vlen_codec_of, with_location};
 ghost use Rattle.zarrs_chain_meaning.specs.vlen.VlenSettings.{is_at_end};
 ghost use Rattle.zarrs_chain_meaning.specs.CodecMeaning.{HasMappings};
@@ -18,9 +18,11 @@ ghost use Rattle.zarrs_chain_meaning.specs.MadeAgain.{HasRanges};
 ghost use Rattle.zarrs_chain_meaning.specs.vlen.PlainVlen.{plain_form, plain_form_of};
 ghost use Rattle.zarrs_chain_meaning.specs.WrittenMetadata.{codec_configuration};
 ghost use Rattle.zarrs_chain.specs.vlen.VlenCalls.{VlenRepresents, Says};
+ghost use Rattle.zarrs_chain.specs.FormView.{lent_form};
 
 use crate::array_to_bytes_codec::ArrayToBytesCodec;
 use crate::codec_chain::{CodecChain, chain_has_ranges, chain_is_sound};
+use crate::form::Form;
 use crate::metadata::write_chain::chain_written;
 use crate::vlen::plain_form::{form_of_parts, lone_bytes};
 use crate::vlen::vlen_decode::vlen_decode;
@@ -194,15 +196,14 @@ pub(crate) fn vlen_representation(
 #[tactic(auto, using(crate::proofs::CodecSteps::vlen_measured, crate::proofs::CodecSteps::vlen_measured_exactly))]
 fn vlen_measure<B: BytesToBytesCodecTraits>(
     codec: &VlenCodec<B>,
-    shape: &ChunkShape,
-    data_type: &DataType,
-    fill_value: &FillValue,
+    form: Form<'_>,
 ) -> Result<BytesRepresentation, CodecError>
-    ensures answer { VlenRepresents B.functions codec.now
-        shape.now data_type.now fill_value.now result }
-    ensures in_place { Says B.functions codec.now shape.now data_type.now fill_value.now result }
+    ensures answer { GivesRepresentation B.functions (plain_vlen codec.now) (lent_form form.entry)
+        result }
+    ensures in_place { result
+        ≡ codec_represented B.functions (plain_vlen codec.now) (lent_form form.entry) }
 {
-    vlen_representation(shape, data_type)
+    vlen_representation(form.shape, form.data_type)
 }
 
 /// The chunk that a value stands for, where the codec takes such chunks. Errors: those of
@@ -211,16 +212,21 @@ fn vlen_taken_decode<'a, B: BytesToBytesCodecTraits>(
     alloc: Global,
     codec: &VlenCodec<B>,
     value: ArrayBytesRaw<'a>,
-    shape: &ChunkShape,
-    kind: &DataType,
-    fill: &FillValue,
+    form: Form<'_>,
 ) -> Result<ArrayBytes<'a>, CodecError>
     ensures exact { GivesTakenChunk B.functions (plain_vlen codec.now)
-        (form_of shape.now kind.now fill.now) (items_of value.entry) result }
-    ensures tight { IfOk result (IsTight kind.now) }
+        (lent_form form.entry) (items_of value.entry) result }
+    ensures tight { IfOk result (IsTight form.entry.data_type.now) }
 {
-    vlen_measure(codec, shape, kind, fill)?;
-    vlen_decode(alloc, codec, value, shape, kind, fill)
+    vlen_measure(codec, form)?;
+    vlen_decode(
+        alloc,
+        codec,
+        value,
+        form.shape,
+        form.data_type,
+        form.fill_value,
+    )
 }
 
 impl<B: BytesToBytesCodecTraits> VlenCodec<B> {
@@ -236,7 +242,12 @@ impl<B: BytesToBytesCodecTraits> VlenCodec<B> {
         ensures answer { VlenRepresents B.functions self.now shape.now data_type.now fill_value.now result }
         ensures in_place { Says B.functions self.now shape.now data_type.now fill_value.now result }
     {
-        vlen_measure(self, shape, data_type, fill_value)
+        let form = Form {
+            shape,
+            data_type,
+            fill_value,
+        };
+        vlen_measure(self, form)
     }
 
     /// The value that is written for the chunk that `elements` hold. Errors, the first that holds,
@@ -257,7 +268,12 @@ impl<B: BytesToBytesCodecTraits> VlenCodec<B> {
     {
         vlen_is_sound(self);
         shape.as_slice();
-        vlen_encode(alloc, self, elements, shape, data_type, fill_value)
+        let form = Form {
+            shape,
+            data_type,
+            fill_value,
+        };
+        vlen_encode(alloc, self, elements, form)
     }
 
     /// The chunk that a value stands for. Errors, the first that holds, `OutOfMemory` aside: those
@@ -282,6 +298,11 @@ impl<B: BytesToBytesCodecTraits> VlenCodec<B> {
     {
         vlen_is_sound(self);
         shape.as_slice();
-        vlen_taken_decode(alloc, self, value, shape, data_type, fill_value)
+        let form = Form {
+            shape,
+            data_type,
+            fill_value,
+        };
+        vlen_taken_decode(alloc, self, value, form)
     }
 }

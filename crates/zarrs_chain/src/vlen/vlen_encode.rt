@@ -1,7 +1,6 @@
 //! The value of a chunk through `vlen`: the index part and the data part, joined.
 ghost use Rattle.std.specs.Prelude.{◌≡◌, [], ◌∷◌, true};
 ghost use Rattle.zarrs_chunk.specs.Answer.{Gives};
-ghost use Rattle.zarrs_data_type.specs.Form.{form_of};
 ghost use Rattle.zarrs_array_bytes.specs.Held.{items_of};
 ghost use Rattle.zarrs_array_bytes.specs.Offsets.{is_offsets};
 ghost use Rattle.zarrs_chain_meaning.specs.CallAnswers.{GivesCodecValue};
@@ -11,9 +10,11 @@ ghost use Rattle.zarrs_chain_meaning.specs.Parts.{byte_elements, byte_type};
 ghost use Rattle.zarrs_chain_meaning.specs.vlen.VlenSettings.{is_wide};
 ghost use Rattle.zarrs_chain_meaning.specs.vlen.VlenSteps.{index_part};
 ghost use Rattle.zarrs_chain.specs.ChainView.{plain_chain, plain_vlen};
+ghost use Rattle.zarrs_chain.specs.FormView.{lent_form};
 
 use crate::codec_chain::{CodecChain, chain_is_sound};
 use crate::encode::{check_elements, part_encode};
+use crate::form::Form;
 use crate::vlen::vlen_codec::{VlenCodec, vlen_representation};
 use crate::vlen::vlen_kept::check_kept;
 use std::alloc::Global;
@@ -21,7 +22,7 @@ use std::borrow::CowSlice;
 use zarrs_array_bytes::{ArrayBytes, ArrayBytesRaw};
 use zarrs_chain_meaning::vlen::vlen_offsets::{index_elements, offset_fill, offset_type};
 use zarrs_chain_meaning::vlen::vlen_parts::{behind, join, variable_parts};
-use zarrs_chunk::{ChunkShape, CodecError};
+use zarrs_chunk::CodecError;
 use zarrs_codec::BytesToBytesCodecTraits;
 use zarrs_data_type::{DataType, FillValue};
 use zarrs_metadata::VlenIndexDataType;
@@ -85,15 +86,13 @@ pub(crate) fn vlen_encode<'a, B: BytesToBytesCodecTraits>(
     alloc: Global,
     codec: &VlenCodec<B>,
     held: ArrayBytes<'a>,
-    shape: &ChunkShape,
-    kind: &DataType,
-    fill: &FillValue,
+    form: Form<'_>,
 ) -> Result<ArrayBytesRaw<'a>, CodecError>
     ensures answer { GivesCodecValue B.functions (plain_vlen codec.now)
-        (form_of shape.now kind.now fill.now) held.entry result }
+        (lent_form form.entry) held.entry result }
 {
-    vlen_representation(shape, kind)?;
-    check_elements(&held, shape, kind)?;
+    vlen_representation(form.shape, form.data_type)?;
+    check_elements(&held, form.shape, form.data_type)?;
     let (bytes, offsets) = variable_parts(held)?;
     let offsets = offsets.as_slice();
     let index = index_encode(alloc, &codec.index_codecs, offsets, codec.index_data_type)?;

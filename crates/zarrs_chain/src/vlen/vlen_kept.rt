@@ -3,7 +3,6 @@ ghost use Rattle.zarrs_chunk.specs.Answer.{GivesValue, demand, is_fault, seen};
 ghost use Rattle.zarrs_chunk.specs.declared.codec_error.CodecError.TheVariants.{OffsetNotKept};
 ghost use Rattle.std.specs.Bool.{nat_eq};
 ghost use Rattle.std.specs.Cmp.Lexicographic.{pointwise};
-ghost use Rattle.zarrs_data_type.specs.Form.{form_of};
 ghost use Rattle.std.specs.Prelude.{◌≡◌, ℕ, Ok, false, length, true};
 ghost use Rattle.zarrs_array_bytes.specs.Offsets.{is_offsets};
 ghost use Rattle.zarrs_array_bytes.specs.Parts.{fixed_part};
@@ -11,16 +10,17 @@ ghost use Rattle.zarrs_chain_meaning.specs.PlainChain.{packbits_codec};
 ghost use Rattle.zarrs_chain.specs.ChainView.{plain_codec};
 ghost use Rattle.zarrs_chain_meaning.specs.vlen.VlenSettings.{is_wide};
 ghost use Rattle.zarrs_chain_meaning.specs.vlen.VlenSteps.{offsets_fit, keeps_offsets, TakesOffsets, IsPackable, offsets_form, TellsKept};
+ghost use Rattle.zarrs_chain.specs.FormView.{lent_form};
 
 use crate::array_to_bytes_codec::ArrayToBytesCodec;
 use crate::encode::row_of;
+use crate::form::Form;
 use crate::sharding::normal_form::{keeps_all, normal_elements};
 use std::alloc::Global;
 use std::borrow::CowSlice;
 use zarrs_array_bytes::ArrayBytes;
 use zarrs_chain_meaning::vlen::vlen_offsets::{offset_fill, offset_items, offset_type};
-use zarrs_chunk::{ChunkShape, CodecError};
-use zarrs_data_type::{DataType, FillValue};
+use zarrs_chunk::CodecError;
 use zarrs_metadata::VlenIndexDataType;
 use zarrs_packbits::PackBitsCodec;
 
@@ -29,14 +29,18 @@ fn keeps_items(
     alloc: Global,
     codec: &PackBitsCodec,
     items: &[u8],
-    shape: &ChunkShape,
-    data_type: &DataType,
-    fill_value: &FillValue,
+    form: Form<'_>,
 ) -> Result<bool, CodecError>
-    requires taken { IsPackable codec.now (form_of shape.now data_type.now fill_value.now) }
-    ensures answer { TellsKept codec.now shape.now data_type.now items.now result }
+    requires taken { IsPackable codec.now (lent_form form) }
+    ensures answer { TellsKept codec.now form.entry.shape.now form.entry.data_type.now items.now
+        result }
     ensures no_fault { is_fault result ≡ false }
 {
+    let Form {
+        shape,
+        data_type,
+        fill_value,
+    } = form;
     let elements = ArrayBytes::new_flen(CowSlice::Borrowed(items));
     let value = codec.encode(alloc, elements, shape, data_type, fill_value)?;
     let kept = codec.decode(alloc, value, shape, data_type, fill_value)?;
@@ -68,14 +72,15 @@ fn packs_offsets(
     let items = offset_items(alloc, offsets, data_type)?;
     let fill_value = offset_fill(alloc, data_type)?;
     match row_of(alloc, offsets.len() as u64)? {
-        Some(row) => keeps_items(
-            alloc,
-            codec,
-            &items,
-            &row,
-            &offset_type(data_type),
-            &fill_value,
-        ),
+        Some(row) => {
+            let kind = offset_type(data_type);
+            let form = Form {
+                shape: &row,
+                data_type: &kind,
+                fill_value: &fill_value,
+            };
+            keeps_items(alloc, codec, &items, form)
+        }
         None => Ok(true),
     }
 }

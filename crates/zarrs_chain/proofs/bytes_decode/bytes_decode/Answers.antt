@@ -20,9 +20,9 @@ pub returns : goal.returns
 returns c =
     let order = c.args.codec.now in
     let arrays = map mapping_of c.args.codecs.now in
-    let sizes = c.args.shape.now in
-    let type = c.args.kind.now in
-    let fill = c.args.fill.now in
+    let sizes = c.args.form.shape.now in
+    let type = c.args.form.data_type.now in
+    let fill = c.args.form.fill_value.now in
     let value = (raw_of c.args.value).items in
     let read = subst (λ (o : Option Endianness). AnswersBy memory (Holds type) (Ok c.in_ok-stored.stored) (bytes_chunk o (form_of sizes type fill) value)) c.little.ensures.made c.in_ok-stored.ensures.decodes.exact in
     let positive = subst (All (λ size. 0 < size)) c.as_slice.ensures.value c.as_slice.ensures.positive in

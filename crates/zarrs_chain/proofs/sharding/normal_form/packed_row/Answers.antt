@@ -8,12 +8,12 @@ use Rattle.zarrs_chain.proofs.sharding.normal_form.packed_row.Goals as goal
 
 pub returns : goal.returns
 returns c =
-    let type = c.args.data_type.now in
-    let count = product c.args.row.now in
+    let type = c.args.form.data_type.now in
+    let count = product c.args.form.shape.now in
     record {
       answer = record {
         is =
-            kept_of c.args.codec.now c.args.row.now type c.args.fill.now c.args.elements (raw_of c.in_ok-value.value).items c.decode.result (elements type count c.args.elements) (holds_elements type count c.args.elements c.requires.valid) (length-elements type count c.args.elements) c.in_ok-value.ensures.encodes.found c.decode.ensures.decodes.only;
+            kept_of c.args.codec.now c.args.form.shape.now type c.args.form.fill_value.now c.args.elements (raw_of c.in_ok-value.value).items c.decode.result (elements type count c.args.elements) (holds_elements type count c.args.elements c.requires.valid) (length-elements type count c.args.elements) c.in_ok-value.ensures.encodes.found c.decode.ensures.decodes.only;
         no_fault = c.decode.ensures.decodes.no_fault;
       };
     }

@@ -9,8 +9,8 @@ returns-in-Some c =
     record {
       answer = record {
         is =
-            let answer = rw c.deref.ensures.value at c.keeps_items-in-Some.ensures.answer in
-            packed_answer c.args.codec.now (is_wide c.args.data_type) c.args.offsets.now c.in_ok-items.items.items c.in-Some.row c.offset_type.result c.keeps_items-in-Some.result c.in_ok-items.ensures.exact.is (omega arith) c.offset_type.ensures.value (c.in_ok-row.ensures.answer.is ∙ ap ok c.in-Some.is) answer;
+            let answer = rw c.deref.ensures.value at c.keeps_items.ensures.answer in
+            packed_answer c.args.codec.now (is_wide c.args.data_type) c.args.offsets.now c.in_ok-items.items.items c.in-Some.row c.offset_type-kind.result c.keeps_items.result c.in_ok-items.ensures.exact.is (omega arith) c.offset_type-kind.ensures.value (c.in_ok-row.ensures.answer.is ∙ ap ok c.in-Some.is) answer;
         no_fault = search rules;
       };
     }
