@@ -1,13 +1,12 @@
 -- A run of the elements of a container, as a container of its own.
-use Rattle.std.proofs.Common.{◌≡◌, ℕ, zero, suc, ◌+◌, ◌-◌, ◌*◌, ◌<◌, ◌≤◌, ◌^◌, nat_eq, nat_le, nat_lt, Bool, true, false, None, Some, List, [], ◌∷◌, length, get_or, map, take, drop, Result, Ok, Err, IfOk, arith, refl, ap, ap₂, sym, subst, ◌∙◌}
+use Rattle.std.proofs.Common.{◌≡◌, ℕ, zero, suc, ◌+◌, ◌-◌, ◌*◌, ◌<◌, ◌≤◌, nat_eq, nat_le, nat_lt, Bool, true, None, Some, List, [], ◌∷◌, length, map, take, drop, Result, Ok, Err, arith, refl, ap, ap₂, sym, subst, ◌∙◌}
 use Rattle.std.specs.List.{between, list_all, range_with_len}
 use Rattle.std.specs.Prelude.{slice_index}
 use Rattle.std.proofs.Math.Nat.{mul-le-mul_right}
-use Rattle.std.proofs.lemmas.List.{drop-drop, drop-take, get_or-drop, get_or-take, length-drop, length-take}
+use Rattle.std.proofs.lemmas.List.{drop-drop, length-take}
 use Rattle.std.proofs.lemmas.List.Edits.{get_or-between, length-between}
 use Rattle.std.proofs.lemmas.Bool.{and_from, eq-eqb}
 use Rattle.std.proofs.lemmas.Nat.{row_fits}
-use Rattle.zarrs_array_bytes.specs.Blank.{AbsentAreBlank, IsOverBlanks}
 use Rattle.zarrs_array_bytes.specs.Elements.{cut, element_at, elements, piece, under_flag}
 use Rattle.zarrs_array_bytes.specs.Held.{Held, Raw, flen, vlen, masked}
 use Rattle.zarrs_array_bytes.specs.Offsets.{is_offsets, last_of}
@@ -16,7 +15,7 @@ use Rattle.zarrs_array_bytes.specs.Validity.{HasElements, levels_fit, sizes_fit,
 use Rattle.zarrs_codec.proofs.Fences.{second_true}
 use Rattle.zarrs_array_bytes.proofs.Pieces.{take-drop-take}
 use Rattle.zarrs_array_bytes.proofs.RunLemmas.{rising_between}
-use Rattle.zarrs_array_bytes.proofs.ValidLemmas.{both_ok, fixed_fits, inner_fits, length_due, length_found, masked_fits, then_ok, variable_fits}
+use Rattle.zarrs_array_bytes.proofs.ValidLemmas.{both_ok, fixed_fits, length_due, masked_fits, then_ok, variable_fits}
 use Rattle.zarrs_chunk.specs.declared.codec_error.CodecError.{CodecError}
 use Rattle.zarrs_chunk.specs.declared.codec_error.CodecError.TheVariants.{InvalidBytesLength}
 use Rattle.zarrs_data_type.specs.Element.{Element, plain}

@@ -2,8 +2,8 @@
 use Rattle.std.proofs.Common.{◌≡◌, ℕ, zero, suc, ◌+◌, ◌-◌, ◌*◌, ◌/◌, ◌%◌, ◌<◌, ◌≤◌, ◌^◌, nat_eq, Bool, true, false, List, [], ◌∷◌, ◌++◌, length, map, take, drop, get_or, replicate, Result, Ok, Err, IfOk, arith, refl, ap, ap₂, sym, subst, ◌∙◌, length-drop}
 use Rattle.std.specs.Cmp.Lexicographic.{pointwise, same_text}
 use Rattle.std.specs.List.{All, flat_map, range_with_len}
-use Rattle.std.proofs.lemmas.List.{append-nil, append_assoc, drop-drop, get_or-append-add, get_or-map, get_or-replicate, get_or_append_left, length-append, length-map, length-replicate, length-take, map-append}
-use Rattle.std.proofs.lemmas.List.Concat.{flat_map-append, flat_map_single}
+use Rattle.std.proofs.lemmas.List.{append-nil, append_assoc, drop-drop, get_or-append-add, get_or-map, get_or-replicate, get_or_append_left, length-append, length-replicate, length-take, map-append}
+use Rattle.std.proofs.lemmas.List.Concat.{flat_map_single}
 use Rattle.std.proofs.lemmas.Bool.{and_from, eq-eqb}
 use Rattle.std.proofs.lemmas.List.Elements.{All-cons, All-head, All-nil, All-tail}
 use Rattle.std.proofs.Math.Nat.{div-eq_of_lt, mod-eq_of_lt}
@@ -20,7 +20,7 @@ use Rattle.zarrs_chunk.proofs.Products.{product_positive}
 use Rattle.zarrs_chunk.specs.declared.codec_error.CodecError.{CodecError}
 use Rattle.zarrs_data_type.specs.Element.{Chunk, Element, absent, fill_element}
 use Rattle.zarrs_data_type.specs.ElementType.{ElementType}
-use Rattle.zarrs_chain_meaning.specs.sharding.InnerChunks.{grid, inner_chunk_count, inner_chunk_of, is_divided, joined_inner_chunks, place_inside, IsCut}
+use Rattle.zarrs_chain_meaning.specs.sharding.InnerChunks.{inner_chunk_count, inner_chunk_of, is_divided, joined_inner_chunks, place_inside, IsCut}
 use Rattle.zarrs_chain_meaning.specs.Meaning.{Decoder}
 use Rattle.zarrs_chain_meaning.specs.sharding.Sharding.{Span, inner_chunk_at, inner_chunks_at, is_stored, missing_chunk, spans_of}
 use Rattle.zarrs_bytes.proofs.Coding.{ok}
@@ -29,11 +29,11 @@ use Rattle.zarrs_array_to_array.proofs.Refusals.{no_fault_from}
 use Rattle.zarrs_chain_meaning.proofs.ArraySteps.{ok_is, ok_no_err}
 use Rattle.zarrs_chain_meaning.proofs.NestedStages.{is_positive}
 use Rattle.zarrs_chain_meaning.proofs.ShardSizes.{cut_count}
-use Rattle.zarrs_chain.specs.sharding.ShardRows.{IsPart, found_in_part}
+use Rattle.zarrs_chain.specs.sharding.ShardRows.{found_in_part}
 use Rattle.zarrs_chain.specs.sharding.ShardingCalls.{IsShardForm}
-use Rattle.zarrs_chain.specs.sharding.ShardBands.{AreJoinable, Extends, IsBandForm, IsElementPart, band_count, band_of, chunks_of, inner_element, part_elements, run_elements}
+use Rattle.zarrs_chain.specs.sharding.ShardBands.{AreJoinable, IsBandForm, IsElementPart, band_count, band_of, chunks_of, inner_element, part_elements, run_elements}
 use Rattle.zarrs_chain.proofs.InnerBytes.{ReadsTo, halved, reads_begin, reads_end}
-use Rattle.zarrs_chain.proofs.ShardRows.{along_some, axis_found, first_divides, more_rows, next_part, of_some, row_found, rows_from_first, same_along}
+use Rattle.zarrs_chain.proofs.ShardRows.{axis_found, first_divides, more_rows, next_part, of_some, row_found, rows_from_first, same_along}
 
 -- ---- elements behind others
 

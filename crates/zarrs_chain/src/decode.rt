@@ -34,10 +34,10 @@ pub(crate) fn chain_decode<'a, B: BytesToBytesCodecTraits>(
     value: ArrayBytesRaw<'a>,
     form: Form<'_>,
 ) -> Result<ArrayBytes<'a>, CodecError>
-    ensures exact { GivesBy (Holds form.entry.data_type.now) result
-        (chain_chunk B.functions (plain_chain chain.now)
-        form.entry.shape.now form.entry.data_type.now form.entry.fill_value.now
-        (items_of value.entry)) }
+    // Wide: the parts of a form.
+    ensures exact { GivesBy (Holds form.entry.data_type.now) result (chain_chunk B.functions
+        (plain_chain chain.now) form.entry.shape.now form.entry.data_type.now
+        form.entry.fill_value.now (items_of value.entry)) }
     ensures tight { IfOk result (IsTight form.entry.data_type.now) }
     ensures kept { KeepsBytes (plain_chain chain.now) form.entry.data_type.now
         → HoldsGiven value.entry result }

@@ -33,12 +33,13 @@ pub(crate) fn taken_form<B: BytesToBytesCodecTraits>(
     chain: &CodecChain<B>,
     form: Form<'_>,
 ) -> Result<TakenForm, CodecError>
+    // Wide: the parts of a form.
     ensures answer { Gives (λ taken. (taken.shape, taken.representation)) result
-        (taken_form_of B.functions (plain_chain chain.now) form.entry.shape.now
-        form.entry.data_type.now form.entry.fill_value.now) }
+        (taken_form_of B.functions (plain_chain chain.now)
+        form.entry.shape.now form.entry.data_type.now form.entry.fill_value.now) }
     ensures map { MapsArrays chain.now form.entry.data_type.now form.entry.shape.now result }
-    ensures counted { IfOk result (λ _. checked_u64 (product form.entry.shape.now) ≡ Ok
-        (product form.entry.shape.now)) }
+    ensures counted { IfOk result (λ _.
+        checked_u64 (product form.entry.shape.now) ≡ Ok (product form.entry.shape.now)) }
 {
     let encoded = shape_through(alloc, &chain.array_to_array, form.shape, form.data_type)?;
     let inside = Form {

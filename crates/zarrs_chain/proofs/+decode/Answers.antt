@@ -49,12 +49,8 @@ use Rattle.zarrs_chain.proofs.ShardIndex.{index_form, numbers_answered, numbers_
 use Rattle.zarrs_chain_meaning.specs.sharding.Sharding.{is_stored, missing_chunk}
 use Rattle.zarrs_chain_meaning.specs.sharding.ShardingSettings.{is_index_at_end}
 use Rattle.zarrs_chain.specs.declared.sharding.sharding_codec.ShardingCodec.{out-ShardingCodec}
-use Rattle.zarrs_chunk.specs.Runs.{joined_runs, places_in}
-use Rattle.zarrs_chain_meaning.specs.sharding.Sharding.{spans_of}
-use Rattle.zarrs_chain_meaning.proofs.ArraySteps.{ok_is}
 use Rattle.zarrs_chain_meaning.proofs.InnerChunks.{is_cut}
-use Rattle.zarrs_chain_meaning.proofs.ShardReads.{spans_long}
-use Rattle.zarrs_chain.proofs.ShardRead.{answers_long, inner_read, walk_is}
+use Rattle.zarrs_chain.proofs.ShardRead.{inner_read, walk_is}
 use Rattle.zarrs_chain.proofs.ShardReading.{count_is, not_stored, one_replaced, shard_answered, walk_begins, walk_goes_on}
 use Rattle.zarrs_chain.specs.sharding.ShardRows.{chunks_in}
 use Rattle.zarrs_chain_meaning.specs.sharding.InnerChunks.{inner_chunk_count, joined_inner_chunks}

@@ -1,5 +1,5 @@
 -- How many inner chunks and elements a band of a chunk has, and how many bands there are.
-use Rattle.std.specs.Prelude.{◌≡◌, ℕ, List, Ok, Result}
+use Rattle.std.specs.Prelude.{◌≡◌, ℕ, List, Result}
 use Rattle.zarrs_chunk.specs.Answer.{GivesBy, no_refusal}
 use Rattle.zarrs_chunk.specs.ChunkShape.{product}
 use Rattle.zarrs_chunk.specs.declared.codec_error.CodecError.{CodecError}

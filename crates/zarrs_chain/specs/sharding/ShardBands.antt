@@ -1,5 +1,5 @@
 -- The chunk of a shard, of elements of any length, by the elements of its inner chunks, band by band.
-use Rattle.std.specs.Prelude.{◌≡◌, ◌<◌, ◌≤◌, ℕ, zero, suc, ◌+◌, ◌*◌, ◌/◌, ◌^◌, true, List, [], ◌∷◌, ◌++◌, get_or, length, map, replicate, Ok, Result, Vec}
+use Rattle.std.specs.Prelude.{◌≡◌, ◌<◌, ◌≤◌, ℕ, zero, suc, ◌+◌, ◌*◌, ◌/◌, ◌^◌, true, List, [], ◌∷◌, ◌++◌, get_or, map, replicate, Ok, Result, Vec}
 use Rattle.std.specs.List.{All, range_with_len}
 use Rattle.std.specs.declared.alloc.Global.{Global}
 use Rattle.zarrs_array_bytes.specs.Blank.{AbsentAreBlank}

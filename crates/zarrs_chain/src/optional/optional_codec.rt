@@ -305,8 +305,7 @@ pub(crate) fn optional_decode<'a, B: BytesToBytesCodecTraits>(
     present_decode(alloc, &codec.data_codecs, mask, data_part, inner)
 }
 
-/// The chunk that a value stands for, where the codec takes such chunks. Errors: those of
-/// `OptionalCodec::decode`.
+/// The chunk that a value stands for. Errors: those of `OptionalCodec::decode`.
 fn optional_taken_decode<'a, B: BytesToBytesCodecTraits>(
     alloc: Global,
     codec: &OptionalCodec<B>,

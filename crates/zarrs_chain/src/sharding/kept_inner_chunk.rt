@@ -21,9 +21,8 @@ pub(crate) fn keeps_inner<B: BytesToBytesCodecTraits>(
     chain: &CodecChain<B>,
     form: Form<'_>,
 ) -> bool
-    ensures kept { result ≡ true
-        → KeepsInner B.functions chain.now form.entry.shape.now form.entry.data_type.now
-        form.entry.fill_value.now }
+    ensures kept { result ≡ true → KeepsInner B.functions chain.now
+        form.entry.shape.now form.entry.data_type.now form.entry.fill_value.now }
 {
     if form.fill_value.as_ne_bytes().is_empty() || !keeps_bytes(chain, form.data_type) {
         return false;

@@ -77,9 +77,8 @@ fn read_band<'a, B: BytesToBytesCodecTraits>(
     ensures answer { ReadsBand B.functions chain.now (lent_form form.entry)
         value.now numbers.now result }
     ensures all { IfOk result (λ contents. length contents.items ≡ length numbers.now / 2) }
-    ensures whole { IfOk result (λ contents. All (λ content.
-        validity form.entry.data_type.now (product form.entry.shape.now) content ≡ Ok tt)
-        contents.items) }
+    ensures whole { IfOk result (λ contents. All (λ content. validity form.entry.data_type.now
+        (product form.entry.shape.now) content ≡ Ok tt) contents.items) }
     ensures tight { IfOk result (λ contents. All (IsTight form.entry.data_type.now)
         contents.items) }
 {

@@ -39,9 +39,8 @@ fn read_stored_bytes<'a, B: BytesToBytesCodecTraits>(
     requires fixed { is_none (fixed_size_of form.data_type.now) ≡ false }
     ensures answer { ReadsStoredBytes B.functions chain.now (lent_form form.entry)
         value.now span result }
-    ensures whole { IfOk result (λ content.
-        validity form.entry.data_type.now (product form.entry.shape.now) (flen (raw_of content))
-        ≡ Ok tt) }
+    ensures whole { IfOk result (λ content. validity
+        form.entry.data_type.now (product form.entry.shape.now) (flen (raw_of content)) ≡ Ok tt) }
 {
     let part = CowSlice::Borrowed(bytes_at(value, span.0, span.1)?);
     let content = chain_decode(alloc, chain, part, form)?;
@@ -64,9 +63,8 @@ fn read_inner_bytes<'a, B: BytesToBytesCodecTraits>(
         (missing_chunk form.shape.now form.data_type.now form.fill_value.now) }
     ensures answer { ReadsInnerBytes B.functions chain.now (lent_form form.entry)
         value.now span result }
-    ensures whole { IfOk result (λ content.
-        validity form.entry.data_type.now (product form.entry.shape.now) (flen (raw_of content))
-        ≡ Ok tt) }
+    ensures whole { IfOk result (λ content. validity
+        form.entry.data_type.now (product form.entry.shape.now) (flen (raw_of content)) ≡ Ok tt) }
 {
     if !has_span(span) {
         return Ok(CowSlice::Borrowed(blank));
@@ -91,9 +89,8 @@ fn read_all_bytes<'a, B: BytesToBytesCodecTraits>(
     ensures answer { ReadsAllBytes B.functions chain.now (lent_form form.entry)
         value.now numbers.now result }
     ensures all { IfOk result (λ contents. length contents.items ≡ length numbers.now / 2) }
-    ensures whole { IfOk result (λ contents. All (λ content.
-        validity form.entry.data_type.now (product form.entry.shape.now) (flen (raw_of content))
-        ≡ Ok tt) contents.items) }
+    ensures whole { IfOk result (λ contents. All (λ content. validity form.entry.data_type.now
+        (product form.entry.shape.now) (flen (raw_of content)) ≡ Ok tt) contents.items) }
 {
     let mut contents = Vec::with_capacity(alloc, numbers.len() / 2)?;
     for number in 0..numbers.len() / 2 {
@@ -112,9 +109,8 @@ pub(crate) fn blank_inner_chunk<'b>(
     requires filling { fill_fits form.data_type.now form.fill_value.now ≡ true }
     requires counted { checked_u64 (product form.shape.now) ≡ Ok (product form.shape.now) }
     requires room { sizes_fit form.data_type.now (product form.shape.now) ≡ Ok tt }
-    ensures answer { GivesBy (Holds form.entry.data_type.now) result
-        (Ok (missing_chunk form.entry.shape.now form.entry.data_type.now
-        form.entry.fill_value.now)) }
+    ensures answer { GivesBy (Holds form.entry.data_type.now) result (Ok (missing_chunk
+        form.entry.shape.now form.entry.data_type.now form.entry.fill_value.now)) }
     ensures tight { IfOk result (IsTight form.entry.data_type.now) }
 {
     let count = form.shape.num_elements()?;

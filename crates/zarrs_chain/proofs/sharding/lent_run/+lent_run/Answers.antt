@@ -1,4 +1,4 @@
-use Rattle.std.proofs.Common.{rules, ◌≡◌, ◌+◌, ◌*◌, None, Some, length, refl, ap, sym, ◌∙◌}
+use Rattle.std.proofs.Common.{rules, ◌≡◌, ◌+◌, ◌*◌, None, Some, refl}
 use Rattle.std.specs.List.{between}
 use Rattle.zarrs_array_bytes.specs.Parts.{fixed_items}
 use Rattle.zarrs_data_type.specs.ElementType.{fixed_size_of, inner_of}

@@ -1,4 +1,4 @@
-use Rattle.std.proofs.Common.{◌<◌, ◌≡◌, ℕ, subst}
+use Rattle.std.proofs.Common.{◌<◌, subst}
 use Rattle.std.specs.List.{All}
 use Rattle.zarrs_chunk.specs.ChunkShape.{product}
 use Rattle.zarrs_chain.proofs.ShardForms.{fewer_fit, inner_smaller}
