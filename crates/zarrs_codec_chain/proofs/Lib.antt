@@ -14,6 +14,8 @@ pub mod SizeLaw
 pub mod Making
 pub mod ReadLaws
 pub mod OpenedValues
+pub mod IndexLaws
+pub mod IndexReads
 pub mod RegionReads
 pub mod RegionWrites
 pub mod PlannedPlaces
@@ -36,3 +38,4 @@ pub mod SpanChains
 pub mod LeafReads
 pub mod WholeSpans
 pub mod ShardParts
+pub mod StoredIndex

@@ -18,7 +18,7 @@ use Rattle.zarrs_chain_meaning.proofs.ShardNormal.{shard_taken}
 use Rattle.zarrs_chain_meaning.specs.CodecMeaning.{meaning, chain_chunk, chain_representation, codec_normal_element, codec_representation}
 use Rattle.zarrs_chain_meaning.specs.PlainChain.{PlainChain, PlainCodec, sharding_codec_of}
 use Rattle.zarrs_chain_meaning.specs.sharding.InnerChunks.{IsCut, grid, inner_chunk_count}
-use Rattle.zarrs_chain_meaning.specs.sharding.Sharding.{Span, is_stored, spanned_bytes}
+use Rattle.zarrs_chain_meaning.specs.sharding.Sharding.{Span, is_stored, spanned_bytes, spans_of}
 use Rattle.zarrs_chunk.specs.Answer.{◌>>=◌, AnswersBy, GivesBy, demand, memory, memory_or_fault}
 use Rattle.zarrs_chunk.specs.ChunkShape.{product}
 use Rattle.zarrs_chunk.specs.Runs.{joined_runs}
@@ -28,18 +28,20 @@ use Rattle.zarrs_codec.specs.BytesToBytesCodec.{BytesCodecs}
 use Rattle.zarrs_codec.specs.StorageState.{StorageState, are_sure}
 use Rattle.zarrs_codec.specs.declared.bytes_representation.BytesRepresentation.{BytesRepresentation}
 use Rattle.zarrs_codec_chain.proofs.GroupWalks.{groups_below, grouped_count, numbers_below, places_of_groups}
-use Rattle.zarrs_codec_chain.proofs.GroupedReads.{ShardSure, grouped_read, chain_each, moved_sure, shard_sure, span_sure, spans_counted}
+use Rattle.zarrs_codec_chain.proofs.GroupedReads.{grouped_read, grouped_rests, chain_each, moved_sure, shard_sure, span_sure, spans_counted}
 use Rattle.zarrs_codec_chain.proofs.PlaceWrites.{memory_too}
 use Rattle.zarrs_codec_chain.proofs.SpanSeen.{HasValue, IsInside, inside_seen, span_value, stands_value}
 use Rattle.zarrs_codec_chain.specs.ChunkRead.{are_given_sure}
 use Rattle.zarrs_codec_chain.specs.CodecPart.{codec_read, codec_rests_on}
 use Rattle.zarrs_codec_chain.specs.PartRead.{PlaceReader}
-use Rattle.zarrs_codec_chain.specs.ShardRead.{groups_rest, span_read, span_rests, spans_by, spans_read, shard_rests}
+use Rattle.zarrs_codec_chain.specs.KeptIndex.{IsIndex, codec_spans, rests_behind}
+use Rattle.zarrs_codec_chain.specs.ShardRead.{groups_rest, span_read, span_rests, spans_by, spans_read, spans_rest, shard_rests}
 use Rattle.zarrs_codec_chain.specs.SpanReads.{AreInnerRuns, StandsIn, chain_read, chain_rests, inner_span, seen_state, span_parts, stored_groups_read, stored_groups_rest, stored_index_bytes, stored_span_read, stored_span_rests, stored_spans}
 use Rattle.zarrs_codec_chain.specs.declared.sharding.value_span.ValueSpan.{ValueSpan}
 use Rattle.zarrs_data_type.specs.Element.{absent, Chunk}
 use Rattle.zarrs_data_type.specs.ElementType.{ElementType}
 use Rattle.zarrs_shard_runs.specs.GroupedRuns.{AreGroups, IsReadingOrder, group}
+use Rattle.zarrs_shard_runs.specs.PlacesInside.{groups_of}
 use Rattle.zarrs_shard_runs.specs.declared.grouped_runs.InnerRuns.{InnerRuns}
 use Rattle.zarrs_codec_chain.proofs.EditLaws.{found as ok_found}
 
@@ -108,6 +110,36 @@ shard_rests_are : {B : Type 0} (f : BytesCodecs B) (inner index : PlainChain B) 
     → codec_rests_on f (sharding_codec_of inner index shape at_end) sizes type fill (Some value) places ≡ shard_rests shape at_end (chain_representation f index) (chain_chunk f index) (chain_rests f inner) sizes type fill (Some value) places
 unfolding meaning
 shard_rests_are f inner index shape at_end sizes type fill value places = refl
+
+-- where its inner chunks stand, and what is read of them
+pub spans_are : {B : Type 0} (f : BytesCodecs B) (inner index : PlainChain B) (shape : List ℕ) (at_end : Bool) (sizes value : List ℕ)
+    → codec_spans f (sharding_codec_of inner index shape at_end) sizes value ≡ stored_spans f index shape at_end sizes (Some value)
+unfolding meaning
+spans_are f inner index shape at_end sizes value = refl
+
+behind_are : {B : Type 0} (f : BytesCodecs B) (inner index : PlainChain B) (shape : List ℕ) (at_end : Bool) (sizes : List ℕ) (type : ElementType) (fill value places : List ℕ)
+    → rests_behind f (sharding_codec_of inner index shape at_end) sizes type fill (Some value) places ≡ spans_rest (chain_rests f inner) shape sizes type fill value places (stored_spans f index shape at_end sizes (Some value))
+unfolding meaning
+behind_are f inner index shape at_end sizes type fill value places = refl
+
+-- by numbers that are its index
+pub spans_known : {B : Type 0} (f : BytesCodecs B) (codec : PlainCodec B) (inner index : PlainChain B) (shape : List ℕ) (at_end : Bool) (sizes : List ℕ) (stored : Option (List ℕ)) (value numbers : List ℕ)
+    → codec ≡ sharding_codec_of inner index shape at_end → stored ≡ Some value → IsIndex f codec sizes stored numbers → stored_spans f index shape at_end sizes stored ≡ Ok (spans_of numbers)
+spans_known f codec inner index shape at_end sizes stored value numbers is there h =
+    ap (stored_spans f index shape at_end sizes) there
+    ∙ sym (spans_are f inner index shape at_end sizes value)
+    ∙ ap (λ (c : PlainCodec _). codec_spans f c sizes value) (sym is)
+    ∙ subst (λ (s : Option (List ℕ)). IsIndex f codec sizes s numbers) there h
+
+-- and numbers that are read are its index
+pub index_known : {B : Type 0} (f : BytesCodecs B) (codec : PlainCodec B) (inner index : PlainChain B) (shape : List ℕ) (at_end : Bool) (sizes : List ℕ) (stored : Option (List ℕ)) (value numbers : List ℕ)
+    → codec ≡ sharding_codec_of inner index shape at_end → stored ≡ Some value → stored_spans f index shape at_end sizes stored ≡ Ok (spans_of numbers) → IsIndex f codec sizes stored numbers
+index_known f codec inner index shape at_end sizes stored value numbers is there h =
+    subst (λ (s : Option (List ℕ)). IsIndex f codec sizes s numbers) (sym there)
+    (ap (λ (c : PlainCodec _). codec_spans f c sizes value) is
+    ∙ spans_are f inner index shape at_end sizes value
+    ∙ ap (stored_spans f index shape at_end sizes) (sym there)
+    ∙ h)
 
 -- of a chunk that is taken
 shard_form_is : {B : Type 0} (f : BytesCodecs B) (inner index : CodecChain B) (shape : List ℕ) (at_end : Bool) (sizes : List ℕ) (type : ElementType) (fill : List ℕ)
@@ -202,23 +234,20 @@ module _ {B : Type 0} (f : BytesCodecs B) (codec : PlainCodec B) (inner index : 
           weaker (Ok x) expected h = h
           weaker (Err error) expected h = λ unexcused. h (memory_too error unexcused)
 
-      module _ (sure : are_given_sure state.sure (codec_rests_on f codec sizes type fill state.value places) ≡ true) where
-        given : (r : Result (List ℕ) CodecError) → are_given_sure state.sure r ≡ true → (numbers : List ℕ) × (r ≡ Ok numbers) × (are_sure state.sure numbers ≡ true)
-        given (Ok numbers) h = (numbers, refl, h)
-        given (Err error) h = absurd cc
+      behind_grouped : rests_behind f codec sizes type fill state.value places ≡ groups_rest (chain_rests f (plain_chain inner)) shape type fill value spans (groups_of shape sizes places)
+      behind_grouped =
+          (λ i. rests_behind f (is i) sizes type fill (value_is i) places)
+          ∙ behind_are f (plain_chain inner) (plain_chain index) shape at_end sizes type fill value places
+          ∙ ap (spans_rest (chain_rests f (plain_chain inner)) shape sizes type fill value places) (ap (λ (v : Option (List ℕ)). stored_spans f (plain_chain index) shape at_end sizes v) (sym value_is) ∙ at)
+          ∙ grouped_rests (chain_rests f (plain_chain inner)) shape sizes type fill value places spans counted
 
-        all_sure : ShardSure shape at_end (chain_chunk f (plain_chain index)) (chain_rests f (plain_chain inner)) sizes type fill value places state.sure size
-        all_sure =
-            let rests_are : codec_rests_on f codec sizes type fill state.value places ≡ shard_rests shape at_end (chain_representation f (plain_chain index)) (chain_chunk f (plain_chain index)) (chain_rests f (plain_chain inner)) sizes type fill (Some value) places =
-            (λ i. codec_rests_on f (is i) sizes type fill (value_is i) places) ∙ shard_rests_are f (plain_chain inner) (plain_chain index) shape at_end sizes type fill value places in
-            let g = given (codec_rests_on f codec sizes type fill state.value places) sure in
-            shard_sure shape at_end (chain_representation f (plain_chain index)) (chain_chunk f (plain_chain index)) (chain_rests f (plain_chain inner)) sizes type fill value places g.0 state.sure size sized (sym rests_are ∙ g.1) g.2
-
-        pub groups_sure : are_given_sure state.sure groups_rests ≡ true
-        groups_sure =
-            ap (λ (v : Option (List ℕ)). are_given_sure state.sure (stored_groups_rest (chain_rests f (plain_chain inner)) shape type fill v spans (map group groups))) value_is
-            ∙ ap (λ (gs : List (ℕ × List ℕ)). are_given_sure state.sure (groups_rest (chain_rests f (plain_chain inner)) shape type fill value spans gs)) are.groups
-            ∙ all_sure.groups spans spans_at counted
+      -- the bytes are sure that the groups rest on
+      pub groups_sure : are_given_sure state.sure (rests_behind f codec sizes type fill state.value places) ≡ true → are_given_sure state.sure groups_rests ≡ true
+      groups_sure h =
+          ap (λ (v : Option (List ℕ)). are_given_sure state.sure (stored_groups_rest (chain_rests f (plain_chain inner)) shape type fill v spans (map group groups))) value_is
+          ∙ ap (λ (gs : List (ℕ × List ℕ)). are_given_sure state.sure (groups_rest (chain_rests f (plain_chain inner)) shape type fill value spans gs)) are.groups
+          ∙ ap (are_given_sure state.sure) (sym behind_grouped)
+          ∙ h
 
   -- the index's bytes are sure where all are that the read rests on
   pub index_sure : (size : ℕ) → index_size_of f index (grid shape sizes) ≡ Ok size → are_given_sure state.sure (codec_rests_on f codec sizes type fill state.value places) ≡ true → are_sure state.sure (stored_index_bytes at_end size state.value) ≡ true

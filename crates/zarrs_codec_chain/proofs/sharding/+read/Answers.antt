@@ -29,10 +29,11 @@ use Rattle.zarrs_chain_meaning.proofs.OptionalSteps.{counted_small}
 use Rattle.zarrs_chain_meaning.specs.CodecMeaning.{codec_representation}
 use Rattle.zarrs_codec_chain.proofs.GroupWalks.{WalkedTo, count_is, grouped_count, more_valid, next_at, next_is, places_of_groups, span_at, walk_counted, walk_ends, walk_goes_on, walk_refused, walk_valid}
 use Rattle.zarrs_codec_chain.proofs.GroupedReads.{first_sure}
+use Rattle.zarrs_codec_chain.specs.KeptIndex.{IsIndex, rests_behind}
 use Rattle.zarrs_codec_chain.specs.ShardRead.{groups_read, groups_rest, span_read}
 use Rattle.zarrs_shard_runs.specs.GroupedRuns.{AreGroups, IsReadingOrder, group, order_places}
 use Rattle.zarrs_codec_chain.proofs.ShardParts.{chain_count, grid_known, groups_long, index_measured, inner_taken, is_ok_so}
-use Rattle.zarrs_codec_chain.proofs.ShardSpans.{counted, groups_answered, groups_error, groups_found, groups_sure, inner_runs, index_sure, inside_is, inside_sure, is_shard, shard_takes}
+use Rattle.zarrs_codec_chain.proofs.ShardSpans.{counted, index_known, spans_known, groups_answered, groups_error, groups_found, groups_sure, inner_runs, index_sure, inside_is, inside_sure, is_shard, shard_takes}
 use Rattle.zarrs_codec_chain.proofs.SpanSeen.{stands_value}
 use Rattle.zarrs_codec_chain.specs.ChunkRead.{are_given_sure}
 use Rattle.zarrs_codec_chain.specs.SpanReads.{AnswersRuns, StandsIn, TakesForm, chain_read, chain_rests, stored_groups_read, stored_groups_rest, stored_span_read, stored_span_rests, stored_spans, moved_read, moved_rests, seen_state, stored_index_bytes}
@@ -275,6 +276,21 @@ shard_runs::read_group-returns-clause-sure g t c =
     let e : is_stored c.args.place ≡ true = search rules in
     λ s. c.chain_in_span.ensures.sure (inside_sure f (plain_chain c.args.chain.now) c.args.shape.now c.args.kind.now c.args.fill.now c.args.span.now (g.H.BytesPartialDecoderTraits.state c.args.handle.now) c.requires.stands c.args.place (joined_runs c.args.runs.now) c.in_ok-inside.inside e c.in_ok-inside.ensures.answer s)
 
+pub shard_runs::shard_by_index-shard_form-requires : goal.shard_runs::shard_by_index-shard_form-requires
+shard_runs::shard_by_index-shard_form-requires g t c =
+    let f = g.B.BytesToBytesCodecTraits.functions in
+    let P = c.sharding_parts.result in
+    let chain = P.codecs.now in
+    let index = P.index_codecs.now in
+    let shape = P.chunk_shape.now in
+    let sizes = c.args.shape.now in
+    let type = c.args.kind.now in
+    let fill = c.args.fill.now in
+    let codec = plain_sharding c.args.codec.now in
+    let is = c.sharding_parts.ensures.parts in
+    let takes = shard_takes f codec chain index shape P.is_index_at_end sizes type fill is (is_ok_so _ c.requires.taken) in
+    record { taken = takes }
+
 pub shard_runs::shard_in_span-shard_form-requires : goal.shard_runs::shard_in_span-shard_form-requires
 shard_runs::shard_in_span-shard_form-requires g t c =
     let f = g.B.BytesToBytesCodecTraits.functions in
@@ -320,6 +336,22 @@ shard_runs::shard_in_span-index_numbers-requires-clause-measured g t c =
     let takes = shard_takes f codec chain index shape P.is_index_at_end sizes type fill is (is_ok_so _ c.requires.taken) in
     index_measured f chain index shape sizes type fill takes
 
+pub shard_runs::shard_in_span-shard_by_index-requires-clause-index : goal.shard_runs::shard_in_span-shard_by_index-requires-clause-index
+shard_runs::shard_in_span-shard_by_index-requires-clause-index g t c κs within =
+    let f = g.B.BytesToBytesCodecTraits.functions in
+    let P = c.sharding_parts-at_end.result in
+    let index = P.index_codecs.now in
+    let shape = P.chunk_shape.now in
+    let sizes = c.args.shape.now in
+    let codec = plain_sharding c.args.codec.now in
+    let is = c.sharding_parts-at_end.ensures.parts in
+    let handle = g.H.BytesPartialDecoderTraits.state c.args.handle.now in
+    let there = stands_value c.args.span.now handle c.requires.stands in
+    let numbers = c.as_slice-numbers.result.now in
+    let at : stored_spans f (plain_chain index) shape P.is_index_at_end sizes (seen_state c.args.span.now handle).value ≡ Ok (spans_of numbers) = (c.in_ok-found.ensures {u = tt}).answer ∙ ap (λ (ns : List ℕ). ok (spans_of ns)) (sym c.as_slice-numbers.ensures.value) in
+    subst (λ s. IsIndex f codec sizes (seen_state c.args.span.now s).value numbers) (sym ((c.in_ok-found.ensures {u = tt}).left))
+    (index_known f codec (plain_chain P.codecs.now) (plain_chain index) shape P.is_index_at_end sizes (seen_state c.args.span.now handle).value there.value numbers is there.is at)
+
 pub shard_runs::shard_in_span-returns-in_err-found-clause-sure : goal.shard_runs::shard_in_span-returns-in_err-found-clause-sure
 shard_runs::shard_in_span-returns-in_err-found-clause-sure g t c =
     let f = g.B.BytesToBytesCodecTraits.functions in
@@ -341,10 +373,10 @@ shard_runs::shard_in_span-returns-in_err-found-clause-sure g t c =
     λ s. rw (p.1, p.2) (subst (λ (r : Result ℕ CodecError). IfOk r (λ size. are_sure state.sure (stored_index_bytes P.is_index_at_end size state.value) ≡ true → is_fault {T = Unit {0}} (Err c.in_err-found.field-0.0) ≡ false)) known.sized c.in_err-found.ensures.sure
     (index_sure f codec chain index shape P.is_index_at_end sizes type fill is state there.value there.is places known.size known.sized s))
 
-pub shard_runs::shard_in_span-returns-in_err-encoded-clause-answer : goal.shard_runs::shard_in_span-returns-in_err-encoded-clause-answer
-shard_runs::shard_in_span-returns-in_err-encoded-clause-answer g t c =
+pub shard_runs::shard_by_index-returns-in_err-encoded-clause-answer : goal.shard_runs::shard_by_index-returns-in_err-encoded-clause-answer
+shard_runs::shard_by_index-returns-in_err-encoded-clause-answer g t c =
     let f = g.B.BytesToBytesCodecTraits.functions in
-    let P = c.sharding_parts-at_end.result in
+    let P = c.sharding_parts.result in
     let chain = P.codecs.now in
     let index = P.index_codecs.now in
     let shape = P.chunk_shape.now in
@@ -352,7 +384,7 @@ shard_runs::shard_in_span-returns-in_err-encoded-clause-answer g t c =
     let type = c.args.kind.now in
     let fill = c.args.fill.now in
     let codec = plain_sharding c.args.codec.now in
-    let is = c.sharding_parts-at_end.ensures.parts in
+    let is = c.sharding_parts.ensures.parts in
     let takes = shard_takes f codec chain index shape P.is_index_at_end sizes type fill is (is_ok_so _ c.requires.taken) in
     let p = err_from_is_err_and c.from_residual-in_err-encoded.result c.from_residual-in_err-encoded.ensures.1 in
     rw (p.1, p.2) (λ unexcused. absurd (inner_taken f chain index shape sizes type fill c.in_err-encoded.field-0.0 takes (c.in_err-encoded.ensures.answer.is (memory_too c.in_err-encoded.field-0.0 unexcused))))
@@ -639,10 +671,10 @@ shard_runs::read_groups-returns-clause-answer g t c =
     subst (λ v. IsOkAnd (stored_groups_read read c.args.shape.now c.args.kind.now c.args.fill.now v spans (map group groups)) (Holds c.args.kind.now c.loop-group.joined)) (sym there.is)
     (walk_ends read c.args.shape.now c.args.kind.now c.args.fill.now there.value spans groups c.loop-group.joined c.loop-group.count walk)
 
-pub shard_runs::shard_in_span-read_groups-requires : goal.shard_runs::shard_in_span-read_groups-requires
-shard_runs::shard_in_span-read_groups-requires g t c κs within =
+pub shard_runs::shard_by_index-read_groups-requires : goal.shard_runs::shard_by_index-read_groups-requires
+shard_runs::shard_by_index-read_groups-requires g t c κs within =
     let f = g.B.BytesToBytesCodecTraits.functions in
-    let P = c.sharding_parts-at_end.result in
+    let P = c.sharding_parts.result in
     let chain = P.codecs.now in
     let index = P.index_codecs.now in
     let shape = P.chunk_shape.now in
@@ -650,16 +682,16 @@ shard_runs::shard_in_span-read_groups-requires g t c κs within =
     let type = c.args.kind.now in
     let fill = c.args.fill.now in
     let codec = plain_sharding c.args.codec.now in
-    let is = c.sharding_parts-at_end.ensures.parts in
+    let is = c.sharding_parts.ensures.parts in
     let takes = shard_takes f codec chain index shape P.is_index_at_end sizes type fill is (is_ok_so _ c.requires.taken) in
     let state = seen_state c.args.span.now (g.H.BytesPartialDecoderTraits.state c.args.handle.now) in
     let there = stands_value c.args.span.now (g.H.BytesPartialDecoderTraits.state c.args.handle.now) c.requires.stands in
     let known = is_shard f chain index shape sizes type fill takes in
     let places = joined_runs c.args.runs.now in
-    let numbers = c.as_slice-numbers.result.now in
+    let numbers = c.args.numbers.now in
     let spans = spans_of numbers in
     let groups = c.as_slice-groups.result.now in
-    let at : stored_spans f (plain_chain index) shape P.is_index_at_end sizes state.value ≡ Ok spans = (c.in_ok-found.ensures {u = tt}).answer ∙ ap (λ (ns : List ℕ). ok (spans_of ns)) (sym c.as_slice-numbers.ensures.value) in
+    let at = spans_known f codec (plain_chain chain) (plain_chain index) shape P.is_index_at_end sizes state.value there.value numbers is there.is c.requires.index in
     let cut = is_cut shape sizes (subst (All (λ size. 0 < size)) c.as_slice.ensures.value c.as_slice.ensures.positive) c.shard_form.ensures.form.divided in
     let below = places_below (product sizes) c.args.runs.now c.requires.below in
     let are : AreGroups shape sizes places groups = subst (AreGroups shape sizes places) (sym c.as_slice-groups.ensures.value) ((c.in_ok-grouped.ensures {u = tt}).groups) in
@@ -668,16 +700,13 @@ shard_runs::shard_in_span-read_groups-requires g t c κs within =
     let form = c.shard_form.ensures.form in
     let taken : TakesForm f chain shape type fill c.in_ok-encoded.encoded c.in_ok-encoded.representation = (c.in_ok-encoded.ensures {u = tt}).answer.is in
     let small : product shape < 2 ^ 64 = counted_small (product shape) form.inner_counted in
-    let stands = subst (λ s. StandsIn c.args.span.now s) (sym ((c.in_ok-found.ensures {u = tt}).left)) c.requires.stands in
     let runs = inner_runs f codec chain index shape P.is_index_at_end sizes type fill is state there.value there.is places spans at known.size known.sized cut below groups are c.requires.count in
-    let count = counted f codec chain index shape P.is_index_at_end sizes type fill is state there.value there.is places spans at known.size known.sized cut below in
-    let long : length numbers ≡ length spans * 2 = ap length c.as_slice-numbers.ensures.value ∙ (c.in_ok-found.ensures {u = tt}).len ∙ ap (λ n. n * 2) (sym count) in
-    search (rules, taken, small, form.filling, stands, runs, long)
+    search (rules, taken, small, form.filling, runs)
 
-pub shard_runs::shard_in_span-returns-in_err-joined-clause-answer : goal.shard_runs::shard_in_span-returns-in_err-joined-clause-answer
-shard_runs::shard_in_span-returns-in_err-joined-clause-answer g t c =
+pub shard_runs::shard_by_index-returns-in_err-joined-clause-answer : goal.shard_runs::shard_by_index-returns-in_err-joined-clause-answer
+shard_runs::shard_by_index-returns-in_err-joined-clause-answer g t c =
     let f = g.B.BytesToBytesCodecTraits.functions in
-    let P = c.sharding_parts-at_end.result in
+    let P = c.sharding_parts.result in
     let chain = P.codecs.now in
     let index = P.index_codecs.now in
     let shape = P.chunk_shape.now in
@@ -685,30 +714,29 @@ shard_runs::shard_in_span-returns-in_err-joined-clause-answer g t c =
     let type = c.args.kind.now in
     let fill = c.args.fill.now in
     let codec = plain_sharding c.args.codec.now in
-    let is = c.sharding_parts-at_end.ensures.parts in
+    let is = c.sharding_parts.ensures.parts in
     let takes = shard_takes f codec chain index shape P.is_index_at_end sizes type fill is (is_ok_so _ c.requires.taken) in
     let state = seen_state c.args.span.now (g.H.BytesPartialDecoderTraits.state c.args.handle.now) in
     let there = stands_value c.args.span.now (g.H.BytesPartialDecoderTraits.state c.args.handle.now) c.requires.stands in
     let known = is_shard f chain index shape sizes type fill takes in
     let places = joined_runs c.args.runs.now in
-    let numbers = c.as_slice-numbers.result.now in
+    let numbers = c.args.numbers.now in
     let spans = spans_of numbers in
     let groups = c.as_slice-groups.result.now in
-    let at : stored_spans f (plain_chain index) shape P.is_index_at_end sizes state.value ≡ Ok spans = (c.in_ok-found.ensures {u = tt}).answer ∙ ap (λ (ns : List ℕ). ok (spans_of ns)) (sym c.as_slice-numbers.ensures.value) in
+    let at = spans_known f codec (plain_chain chain) (plain_chain index) shape P.is_index_at_end sizes state.value there.value numbers is there.is c.requires.index in
     let cut = is_cut shape sizes (subst (All (λ size. 0 < size)) c.as_slice.ensures.value c.as_slice.ensures.positive) c.shard_form.ensures.form.divided in
     let below = places_below (product sizes) c.args.runs.now c.requires.below in
     let are : AreGroups shape sizes places groups = subst (AreGroups shape sizes places) (sym c.as_slice-groups.ensures.value) ((c.in_ok-grouped.ensures {u = tt}).groups) in
     let order = order_places (length places) c.in_ok-grouped.grouped.order in
     let o = (c.in_ok-grouped.ensures {u = tt}).order in
     let p = err_from_is_err_and c.from_residual-in_err-joined.result c.from_residual-in_err-joined.ensures.1 in
-    let same : seen_state c.args.span.now (g.H.BytesPartialDecoderTraits.state c.index_numbers.new.handle) ≡ state = ap (seen_state c.args.span.now) ((c.in_ok-found.ensures {u = tt}).left) in
     rw (p.1, p.2) (λ unexcused. groups_error f codec chain index shape P.is_index_at_end sizes type fill is state there.value there.is places spans at known.size known.sized cut below groups are order o c.in_err-joined.field-0.0
-    (ap (λ s. stored_groups_read (chain_read f (plain_chain chain)) shape type fill s.value spans (map group groups)) (sym same) ∙ c.in_err-joined.ensures.answer unexcused))
+    (c.in_err-joined.ensures.answer unexcused))
 
-pub shard_runs::shard_in_span-returns-in_err-joined-clause-sure : goal.shard_runs::shard_in_span-returns-in_err-joined-clause-sure
-shard_runs::shard_in_span-returns-in_err-joined-clause-sure g t c =
+pub shard_runs::shard_by_index-returns-in_err-joined-clause-sure : goal.shard_runs::shard_by_index-returns-in_err-joined-clause-sure
+shard_runs::shard_by_index-returns-in_err-joined-clause-sure g t c =
     let f = g.B.BytesToBytesCodecTraits.functions in
-    let P = c.sharding_parts-at_end.result in
+    let P = c.sharding_parts.result in
     let chain = P.codecs.now in
     let index = P.index_codecs.now in
     let shape = P.chunk_shape.now in
@@ -716,31 +744,29 @@ shard_runs::shard_in_span-returns-in_err-joined-clause-sure g t c =
     let type = c.args.kind.now in
     let fill = c.args.fill.now in
     let codec = plain_sharding c.args.codec.now in
-    let is = c.sharding_parts-at_end.ensures.parts in
+    let is = c.sharding_parts.ensures.parts in
     let takes = shard_takes f codec chain index shape P.is_index_at_end sizes type fill is (is_ok_so _ c.requires.taken) in
     let state = seen_state c.args.span.now (g.H.BytesPartialDecoderTraits.state c.args.handle.now) in
     let there = stands_value c.args.span.now (g.H.BytesPartialDecoderTraits.state c.args.handle.now) c.requires.stands in
     let known = is_shard f chain index shape sizes type fill takes in
     let places = joined_runs c.args.runs.now in
-    let numbers = c.as_slice-numbers.result.now in
+    let numbers = c.args.numbers.now in
     let spans = spans_of numbers in
     let groups = c.as_slice-groups.result.now in
-    let at : stored_spans f (plain_chain index) shape P.is_index_at_end sizes state.value ≡ Ok spans = (c.in_ok-found.ensures {u = tt}).answer ∙ ap (λ (ns : List ℕ). ok (spans_of ns)) (sym c.as_slice-numbers.ensures.value) in
+    let at = spans_known f codec (plain_chain chain) (plain_chain index) shape P.is_index_at_end sizes state.value there.value numbers is there.is c.requires.index in
     let cut = is_cut shape sizes (subst (All (λ size. 0 < size)) c.as_slice.ensures.value c.as_slice.ensures.positive) c.shard_form.ensures.form.divided in
     let below = places_below (product sizes) c.args.runs.now c.requires.below in
     let are : AreGroups shape sizes places groups = subst (AreGroups shape sizes places) (sym c.as_slice-groups.ensures.value) ((c.in_ok-grouped.ensures {u = tt}).groups) in
     let order = order_places (length places) c.in_ok-grouped.grouped.order in
     let o = (c.in_ok-grouped.ensures {u = tt}).order in
     let p = err_from_is_err_and c.from_residual-in_err-joined.result c.from_residual-in_err-joined.ensures.1 in
-    let same : seen_state c.args.span.now (g.H.BytesPartialDecoderTraits.state c.index_numbers.new.handle) ≡ state = ap (seen_state c.args.span.now) ((c.in_ok-found.ensures {u = tt}).left) in
     λ s. rw (p.1, p.2) (c.in_err-joined.ensures.sure
-    (ap (λ st. are_given_sure st.sure (stored_groups_rest (chain_rests f (plain_chain chain)) shape type fill st.value spans (map group groups))) same
-    ∙ groups_sure f codec chain index shape P.is_index_at_end sizes type fill is state there.value there.is places spans at known.size known.sized cut below groups are s))
+    (groups_sure f codec chain index shape P.is_index_at_end sizes type fill is state there.value there.is places spans at known.size known.sized cut below groups are s))
 
-pub shard_runs::shard_in_span-returns-clause-answer : goal.shard_runs::shard_in_span-returns-clause-answer
-shard_runs::shard_in_span-returns-clause-answer g t c =
+pub shard_runs::shard_by_index-returns-clause-answer : goal.shard_runs::shard_by_index-returns-clause-answer
+shard_runs::shard_by_index-returns-clause-answer g t c =
     let f = g.B.BytesToBytesCodecTraits.functions in
-    let P = c.sharding_parts-at_end.result in
+    let P = c.sharding_parts.result in
     let chain = P.codecs.now in
     let index = P.index_codecs.now in
     let shape = P.chunk_shape.now in
@@ -748,24 +774,23 @@ shard_runs::shard_in_span-returns-clause-answer g t c =
     let type = c.args.kind.now in
     let fill = c.args.fill.now in
     let codec = plain_sharding c.args.codec.now in
-    let is = c.sharding_parts-at_end.ensures.parts in
+    let is = c.sharding_parts.ensures.parts in
     let takes = shard_takes f codec chain index shape P.is_index_at_end sizes type fill is (is_ok_so _ c.requires.taken) in
     let state = seen_state c.args.span.now (g.H.BytesPartialDecoderTraits.state c.args.handle.now) in
     let there = stands_value c.args.span.now (g.H.BytesPartialDecoderTraits.state c.args.handle.now) c.requires.stands in
     let known = is_shard f chain index shape sizes type fill takes in
     let places = joined_runs c.args.runs.now in
-    let numbers = c.as_slice-numbers.result.now in
+    let numbers = c.args.numbers.now in
     let spans = spans_of numbers in
     let groups = c.as_slice-groups.result.now in
-    let at : stored_spans f (plain_chain index) shape P.is_index_at_end sizes state.value ≡ Ok spans = (c.in_ok-found.ensures {u = tt}).answer ∙ ap (λ (ns : List ℕ). ok (spans_of ns)) (sym c.as_slice-numbers.ensures.value) in
+    let at = spans_known f codec (plain_chain chain) (plain_chain index) shape P.is_index_at_end sizes state.value there.value numbers is there.is c.requires.index in
     let cut = is_cut shape sizes (subst (All (λ size. 0 < size)) c.as_slice.ensures.value c.as_slice.ensures.positive) c.shard_form.ensures.form.divided in
     let below = places_below (product sizes) c.args.runs.now c.requires.below in
     let are : AreGroups shape sizes places groups = subst (AreGroups shape sizes places) (sym c.as_slice-groups.ensures.value) ((c.in_ok-grouped.ensures {u = tt}).groups) in
     let order = order_places (length places) c.in_ok-grouped.grouped.order in
     let o = (c.in_ok-grouped.ensures {u = tt}).order in
-    let same : seen_state c.args.span.now (g.H.BytesPartialDecoderTraits.state c.index_numbers.new.handle) ≡ state = ap (seen_state c.args.span.now) ((c.in_ok-found.ensures {u = tt}).left) in
     let read = chain_read f (plain_chain chain) in
-    let held = subst (λ s. IsOkAnd (stored_groups_read read shape type fill s.value spans (map group groups)) (Holds type c.in_ok-joined.joined)) same ((c.in_ok-joined.ensures {u = tt}).answer) in
+    let held = (c.in_ok-joined.ensures {u = tt}).answer in
     let whole = groups_found f codec chain index shape P.is_index_at_end sizes type fill is state there.value there.is places spans at known.size known.sized cut below groups are c.in_ok-joined.joined held in
     let count = c.count_places-count.result in
     let count_so : count ≡ length places = count_is (length places) count c.count_places-count.ensures.count c.requires.count in
