@@ -40,3 +40,4 @@ pub mod WholeSpans
 pub mod ShardParts
 pub mod GroupedShards
 pub mod StoredIndex
+pub mod GroupSteps

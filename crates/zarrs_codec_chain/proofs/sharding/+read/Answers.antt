@@ -1,6 +1,5 @@
-use Rattle.std.proofs.Common.{rules, arith, ◌*◌, get_or, drop, ◌≡◌, ◌<◌, ◌+◌, ℕ, Some, Result, Ok, Err, List, [], true, false, map, length, ap, sym, subst, ◌∙◌}
+use Rattle.std.proofs.Common.{rules, arith, ◌≡◌, ◌<◌, ℕ, Result, Ok, Err, List, [], true, false, map, length, ap, sym, subst, ◌∙◌}
 use Rattle.std.proofs.lemmas.Result.{err_from_is_err_and}
-use Rattle.zarrs_array_bytes.specs.Held.{Held}
 use Rattle.zarrs_array_bytes.specs.Validity.{Holds}
 use Rattle.zarrs_array_regions.specs.Windows.{TakesRegion, TakeType, decoded_of, window_of}
 use Rattle.zarrs_array_to_array.specs.Mapping.{mapping_of}
@@ -8,7 +7,7 @@ use Rattle.zarrs_bytes.proofs.Coding.{ok}
 use Rattle.zarrs_chain.specs.ChainView.{plain_chain, plain_codec, plain_sharding}
 use Rattle.zarrs_chain_meaning.proofs.ArraySteps.{ok_is, ok_no_err}
 use Rattle.zarrs_chain_meaning.specs.ChunkForm.{ChunkForm}
-use Rattle.zarrs_chunk.specs.Answer.{AnswersBy, memory, memory_or_fault, is_fault}
+use Rattle.zarrs_chunk.specs.Answer.{AnswersBy, memory, is_fault}
 use Rattle.zarrs_chunk.specs.ChunkShape.{product}
 use Rattle.zarrs_chunk.specs.Indexer.{selection_of}
 use Rattle.zarrs_chunk.specs.Runs.{AreFilled, EndWithin, joined_runs}
@@ -20,24 +19,20 @@ use Rattle.zarrs_chain_meaning.specs.sharding.Sharding.{is_stored, spans_of}
 use Rattle.std.specs.Prelude.{IsOkAnd, ◌^◌}
 use Rattle.zarrs_chain_meaning.proofs.OptionalSteps.{counted_small}
 use Rattle.zarrs_chain_meaning.specs.CodecMeaning.{codec_representation}
-use Rattle.zarrs_codec_chain.proofs.GroupWalks.{WalkedTo, count_is, more_valid, next_at, next_is, span_at, walk_counted, walk_ends, walk_goes_on, walk_refused, walk_valid}
-use Rattle.zarrs_codec_chain.proofs.GroupedReads.{first_sure}
+use Rattle.zarrs_codec_chain.proofs.GroupWalks.{WalkedTo, walk_ends}
 use Rattle.zarrs_codec_chain.specs.KeptIndex.{IsIndex}
-use Rattle.zarrs_codec_chain.specs.ShardRead.{groups_read, groups_rest, span_read}
 use Rattle.zarrs_shard_runs.specs.GroupedRuns.{group, order_places}
-use Rattle.zarrs_codec_chain.proofs.ShardParts.{chain_count, grid_known, index_measured, inner_taken, stored_shard}
+use Rattle.zarrs_codec_chain.proofs.ShardParts.{grid_known, index_measured, inner_taken, stored_shard}
 use Rattle.zarrs_codec_chain.proofs.ShardSpans.{index_known, inside_is, inside_sure, with_index_sure}
 use Rattle.zarrs_codec_chain.proofs.SpanSeen.{stands_value}
 use Rattle.zarrs_codec_chain.specs.ChunkRead.{are_given_sure}
-use Rattle.zarrs_codec_chain.specs.SpanReads.{AnswersRuns, StandsIn, TakesForm, chain_read, chain_rests, stored_groups_read, stored_groups_rest, stored_span_read, stored_span_rests, seen_state}
+use Rattle.zarrs_codec_chain.specs.SpanReads.{AnswersRuns, StandsIn, TakesForm, chain_read, chain_rests, stored_groups_read, stored_groups_rest, seen_state}
 use Rattle.zarrs_data_type.specs.Element.{Chunk}
 use Rattle.std.proofs.lemmas.Bool.Decides.{nat_tests}
 use Rattle.zarrs_codec_chain.proofs.sharding.+read.Goals as goal
 use Rattle.std.proofs.lemmas.List.{nil_from_length}
 use Rattle.zarrs_codec_chain.proofs.GroupedShards.{groups_answered, groups_error, groups_sure, inner_runs, grouped_shard}
-
-some_is : (x y : List ℕ) → Some x ≡ Some y → x ≡ y
-some_is x y e = cc
+use Rattle.zarrs_codec_chain.proofs.GroupSteps.{at_group, group_filled, group_inside, lent_few, group_refused, group_sure, so_far_valid, part_valid, count_fits, group_read, rest_sure}
 
 pub inner_reads::chain_in_span-returns-then-is_empty-clause-answer : goal.inner_reads::chain_in_span-returns-then-is_empty-clause-answer
 inner_reads::chain_in_span-returns-then-is_empty-clause-answer g t c =
@@ -208,220 +203,71 @@ inner_reads::moved_in_span-returns-clause-sure g t c =
 
 pub shard_runs::read_groups-read_group-requires : goal.shard_runs::read_groups-read_group-requires
 shard_runs::read_groups-read_group-requires g t c κs within =
-    let f = g.B.BytesToBytesCodecTraits.functions in
     let D = g.H.BytesPartialDecoderTraits in
-    let chain = plain_chain c.args.chain.now in
-    let shape = c.args.shape.now in
-    let type = c.args.kind.now in
-    let fill = c.args.fill.now in
-    let groups = c.args.groups.now in
-    let numbers = c.args.numbers.now in
-    let spans = spans_of numbers in
-    let index = c.loop-group.group-index in
     let inv = c.loop-group.invariant in
-    let it = c.group-item.result in
-    let state = seen_state c.args.span.now (D.state c.args.handle.now) in
-    let there = stands_value c.args.span.now (D.state c.args.handle.now) c.requires.stands in
-    let read = chain_read f chain in
-    let walk = inv.walk there.value there.is in
-    let under : index < length groups = grind (arith, nat_tests) in
-    let next = next_at groups index it under c.group-item.is in
-    let inside : it.number < length spans = next_is (λ it. it.number < length spans) groups index it (drop (index + 1) groups) next c.requires.groups.there in
-    let at : get_or spans it.number (0, 0) ≡ (get_or numbers (it.number * 2) 0, get_or numbers (it.number * 2 + 1) 0) = span_at numbers it.number (omega (arith, inside, c.requires.numbers)) in
+    let under : c.loop-group.group-index < length c.args.groups.now = grind (arith, nat_tests) in
+    let step = at_group g.B.BytesToBytesCodecTraits.functions (plain_chain c.args.chain.now) c.args.shape.now c.args.kind.now c.args.fill.now c.args.numbers.now c.args.groups.now c.loop-group.group-index c.loop-group.joined c.loop-group.count c.group-item.result c.args.span.now (D.state c.args.handle.now) (D.state c.loop-group.handle) c.requires.stands inv.state inv.walk under c.group-item.is c.requires.groups c.requires.numbers in
     let stands = subst (λ s. StandsIn c.args.span.now s) (sym inv.state) c.requires.stands in
-    let filled = subst AreFilled (sym c.as_slice-in-loop-group.ensures.value) (next_is (λ it. AreFilled it.runs.items) groups index it (drop (index + 1) groups) next c.requires.groups.filled) in
-    let below = subst (EndWithin (product shape)) (sym c.as_slice-in-loop-group.ensures.value) (next_is (λ it. EndWithin (product shape) it.runs.items) groups index it (drop (index + 1) groups) next c.requires.groups.inside) in
-    let less = walk_counted read shape type fill there.value spans groups index c.loop-group.joined c.loop-group.count walk it next in
-    let few : length (joined_runs it.runs.items) < 2 ^ 64 = omega (arith, less, c.requires.groups.counted) in
-    let few' = subst (λ rs. length (joined_runs rs) < 2 ^ 64) (sym c.as_slice-in-loop-group.ensures.value) few in
-    search (rules, stands, filled, below, few')
+    let filled = subst AreFilled (sym c.as_slice-in-loop-group.ensures.value) (group_filled step) in
+    let below = subst (EndWithin (product c.args.shape.now)) (sym c.as_slice-in-loop-group.ensures.value) (group_inside step) in
+    let few = lent_few step c.as_slice-in-loop-group.result.now c.as_slice-in-loop-group.ensures.value in
+    search (rules, stands, filled, below, few)
 
 pub shard_runs::read_groups-returns-in_err-part-clause-answer : goal.shard_runs::read_groups-returns-in_err-part-clause-answer
 shard_runs::read_groups-returns-in_err-part-clause-answer g t c =
-    let f = g.B.BytesToBytesCodecTraits.functions in
     let D = g.H.BytesPartialDecoderTraits in
-    let chain = plain_chain c.args.chain.now in
-    let shape = c.args.shape.now in
-    let type = c.args.kind.now in
-    let fill = c.args.fill.now in
-    let groups = c.args.groups.now in
-    let numbers = c.args.numbers.now in
-    let spans = spans_of numbers in
-    let index = c.loop-group.group-index in
     let inv = c.loop-group.invariant in
-    let it = c.group-item.result in
-    let state = seen_state c.args.span.now (D.state c.args.handle.now) in
-    let there = stands_value c.args.span.now (D.state c.args.handle.now) c.requires.stands in
-    let read = chain_read f chain in
-    let walk = inv.walk there.value there.is in
-    let under : index < length groups = grind (arith, nat_tests) in
-    let next = next_at groups index it under c.group-item.is in
-    let inside : it.number < length spans = next_is (λ it. it.number < length spans) groups index it (drop (index + 1) groups) next c.requires.groups.there in
-    let at : get_or spans it.number (0, 0) ≡ (get_or numbers (it.number * 2) 0, get_or numbers (it.number * 2 + 1) 0) = span_at numbers it.number (omega (arith, inside, c.requires.numbers)) in
-    let runs_are : joined_runs c.as_slice-in-loop-group.result.now ≡ joined_runs it.runs.items = ap joined_runs c.as_slice-in-loop-group.ensures.value in
-    let one : (P : Result Chunk CodecError → Type 0) → P (stored_span_read read shape type fill (seen_state c.args.span.now (D.state c.loop-group.handle)).value (get_or numbers (it.number * 2) 0, get_or numbers (it.number * 2 + 1) 0) (joined_runs c.as_slice-in-loop-group.result.now)) → P (span_read (is_stored (get_or spans it.number (0, 0))) read shape type fill there.value (get_or spans it.number (0, 0)) (joined_runs it.runs.items)) =
-    λ P. subst P ((λ i. stored_span_read read shape type fill (seen_state c.args.span.now (inv.state i)).value (sym at i) (runs_are i)) ∙ ap (λ v. stored_span_read read shape type fill v (get_or spans it.number (0, 0)) (joined_runs it.runs.items)) there.is) in
+    let under : c.loop-group.group-index < length c.args.groups.now = grind (arith, nat_tests) in
+    let step = at_group g.B.BytesToBytesCodecTraits.functions (plain_chain c.args.chain.now) c.args.shape.now c.args.kind.now c.args.fill.now c.args.numbers.now c.args.groups.now c.loop-group.group-index c.loop-group.joined c.loop-group.count c.group-item.result c.args.span.now (D.state c.args.handle.now) (D.state c.loop-group.handle) c.requires.stands inv.state inv.walk under c.group-item.is c.requires.groups c.requires.numbers in
     let p = err_from_is_err_and c.from_residual-in_err-part.result c.from_residual-in_err-part.ensures.1 in
-    let back : stored_groups_read read shape type fill state.value spans (map group groups) ≡ groups_read read shape type fill there.value spans (map group groups) = ap (λ v. stored_groups_read read shape type fill v spans (map group groups)) there.is in
-    rw (p.1, p.2) (λ unexcused. back ∙ walk_refused read shape type fill there.value spans groups index c.loop-group.joined c.loop-group.count walk it next c.in_err-part.field-0.0 (one (λ r. AnswersBy {T = Held} memory_or_fault (Holds type) (Err c.in_err-part.field-0.0) r) c.in_err-part.ensures.answer unexcused))
+    rw (p.1, p.2) (group_refused step c.as_slice-in-loop-group.result.now c.as_slice-in-loop-group.ensures.value c.in_err-part.field-0.0 c.in_err-part.ensures.answer)
 
 pub shard_runs::read_groups-returns-in_err-part-clause-sure : goal.shard_runs::read_groups-returns-in_err-part-clause-sure
 shard_runs::read_groups-returns-in_err-part-clause-sure g t c =
-    let f = g.B.BytesToBytesCodecTraits.functions in
     let D = g.H.BytesPartialDecoderTraits in
-    let chain = plain_chain c.args.chain.now in
-    let shape = c.args.shape.now in
-    let type = c.args.kind.now in
-    let fill = c.args.fill.now in
-    let groups = c.args.groups.now in
-    let numbers = c.args.numbers.now in
-    let spans = spans_of numbers in
-    let index = c.loop-group.group-index in
     let inv = c.loop-group.invariant in
-    let it = c.group-item.result in
-    let state = seen_state c.args.span.now (D.state c.args.handle.now) in
-    let there = stands_value c.args.span.now (D.state c.args.handle.now) c.requires.stands in
-    let read = chain_read f chain in
-    let walk = inv.walk there.value there.is in
-    let under : index < length groups = grind (arith, nat_tests) in
-    let next = next_at groups index it under c.group-item.is in
-    let inside : it.number < length spans = next_is (λ it. it.number < length spans) groups index it (drop (index + 1) groups) next c.requires.groups.there in
-    let at : get_or spans it.number (0, 0) ≡ (get_or numbers (it.number * 2) 0, get_or numbers (it.number * 2 + 1) 0) = span_at numbers it.number (omega (arith, inside, c.requires.numbers)) in
-    let rests = chain_rests f chain in
+    let under : c.loop-group.group-index < length c.args.groups.now = grind (arith, nat_tests) in
+    let step = at_group g.B.BytesToBytesCodecTraits.functions (plain_chain c.args.chain.now) c.args.shape.now c.args.kind.now c.args.fill.now c.args.numbers.now c.args.groups.now c.loop-group.group-index c.loop-group.joined c.loop-group.count c.group-item.result c.args.span.now (D.state c.args.handle.now) (D.state c.loop-group.handle) c.requires.stands inv.state inv.walk under c.group-item.is c.requires.groups c.requires.numbers in
     let p = err_from_is_err_and c.from_residual-in_err-part.result c.from_residual-in_err-part.ensures.1 in
-    let runs_are : joined_runs c.as_slice-in-loop-group.result.now ≡ joined_runs it.runs.items = ap joined_runs c.as_slice-in-loop-group.ensures.value in
-    λ s. rw (p.1, p.2) (c.in_err-part.ensures.sure
-    (let from = inv.sure there.value there.is (sym (ap (λ v. are_given_sure state.sure (stored_groups_rest rests shape type fill v spans (map group groups))) there.is) ∙ s) in
-    let here = subst (λ gs. are_given_sure state.sure (groups_rest rests shape type fill there.value spans (map group gs)) ≡ true) next from in
-    let mine = (first_sure rests shape type fill there.value spans (group it) (map group (drop (index + 1) groups)) state.sure here).0 in
-    ap (λ st. are_given_sure (seen_state c.args.span.now st).sure (stored_span_rests rests shape type fill (seen_state c.args.span.now st).value (get_or numbers (it.number * 2) 0, get_or numbers (it.number * 2 + 1) 0) (joined_runs c.as_slice-in-loop-group.result.now))) inv.state
-    ∙ (λ i. are_given_sure state.sure (stored_span_rests rests shape type fill (there.is i) (sym at i) (runs_are i)))
-    ∙ mine))
+    let sure = (seen_state c.args.span.now (D.state c.args.handle.now)).sure in
+    λ s. rw (p.1, p.2) (c.in_err-part.ensures.sure (group_sure step c.as_slice-in-loop-group.result.now c.as_slice-in-loop-group.ensures.value
+    (inv.sure step.value step.value_is (sym (ap (λ v. are_given_sure sure (stored_groups_rest (chain_rests g.B.BytesToBytesCodecTraits.functions (plain_chain c.args.chain.now)) c.args.shape.now c.args.kind.now c.args.fill.now v (spans_of c.args.numbers.now) (map group c.args.groups.now))) step.value_is) ∙ s))))
 
 pub shard_runs::read_groups-append_elements-requires-clause-valid : goal.shard_runs::read_groups-append_elements-requires-clause-valid
 shard_runs::read_groups-append_elements-requires-clause-valid g t c =
-    let f = g.B.BytesToBytesCodecTraits.functions in
     let D = g.H.BytesPartialDecoderTraits in
-    let chain = plain_chain c.args.chain.now in
-    let shape = c.args.shape.now in
-    let type = c.args.kind.now in
-    let fill = c.args.fill.now in
-    let groups = c.args.groups.now in
-    let numbers = c.args.numbers.now in
-    let spans = spans_of numbers in
-    let index = c.loop-group.group-index in
     let inv = c.loop-group.invariant in
-    let it = c.group-item.result in
-    let state = seen_state c.args.span.now (D.state c.args.handle.now) in
-    let there = stands_value c.args.span.now (D.state c.args.handle.now) c.requires.stands in
-    let read = chain_read f chain in
-    let walk = inv.walk there.value there.is in
-    let under : index < length groups = grind (arith, nat_tests) in
-    let next = next_at groups index it under c.group-item.is in
-    let inside : it.number < length spans = next_is (λ it. it.number < length spans) groups index it (drop (index + 1) groups) next c.requires.groups.there in
-    let at : get_or spans it.number (0, 0) ≡ (get_or numbers (it.number * 2) 0, get_or numbers (it.number * 2 + 1) 0) = span_at numbers it.number (omega (arith, inside, c.requires.numbers)) in
-    walk_valid read shape type fill there.value spans groups index c.loop-group.joined c.loop-group.count walk it next
+    let under : c.loop-group.group-index < length c.args.groups.now = grind (arith, nat_tests) in
+    let step = at_group g.B.BytesToBytesCodecTraits.functions (plain_chain c.args.chain.now) c.args.shape.now c.args.kind.now c.args.fill.now c.args.numbers.now c.args.groups.now c.loop-group.group-index c.loop-group.joined c.loop-group.count c.group-item.result c.args.span.now (D.state c.args.handle.now) (D.state c.loop-group.handle) c.requires.stands inv.state inv.walk under c.group-item.is c.requires.groups c.requires.numbers in
+    so_far_valid step
 
 pub shard_runs::read_groups-append_elements-requires-clause-more_valid : goal.shard_runs::read_groups-append_elements-requires-clause-more_valid
 shard_runs::read_groups-append_elements-requires-clause-more_valid g t c =
-    let f = g.B.BytesToBytesCodecTraits.functions in
     let D = g.H.BytesPartialDecoderTraits in
-    let chain = plain_chain c.args.chain.now in
-    let shape = c.args.shape.now in
-    let type = c.args.kind.now in
-    let fill = c.args.fill.now in
-    let groups = c.args.groups.now in
-    let numbers = c.args.numbers.now in
-    let spans = spans_of numbers in
-    let index = c.loop-group.group-index in
     let inv = c.loop-group.invariant in
-    let it = c.group-item.result in
-    let state = seen_state c.args.span.now (D.state c.args.handle.now) in
-    let there = stands_value c.args.span.now (D.state c.args.handle.now) c.requires.stands in
-    let read = chain_read f chain in
-    let walk = inv.walk there.value there.is in
-    let under : index < length groups = grind (arith, nat_tests) in
-    let next = next_at groups index it under c.group-item.is in
-    let inside : it.number < length spans = next_is (λ it. it.number < length spans) groups index it (drop (index + 1) groups) next c.requires.groups.there in
-    let at : get_or spans it.number (0, 0) ≡ (get_or numbers (it.number * 2) 0, get_or numbers (it.number * 2 + 1) 0) = span_at numbers it.number (omega (arith, inside, c.requires.numbers)) in
-    let runs_are : joined_runs c.as_slice-in-loop-group.result.now ≡ joined_runs it.runs.items = ap joined_runs c.as_slice-in-loop-group.ensures.value in
-    let one : (P : Result Chunk CodecError → Type 0) → P (stored_span_read read shape type fill (seen_state c.args.span.now (D.state c.loop-group.handle)).value (get_or numbers (it.number * 2) 0, get_or numbers (it.number * 2 + 1) 0) (joined_runs c.as_slice-in-loop-group.result.now)) → P (span_read (is_stored (get_or spans it.number (0, 0))) read shape type fill there.value (get_or spans it.number (0, 0)) (joined_runs it.runs.items)) =
-    λ P. subst P ((λ i. stored_span_read read shape type fill (seen_state c.args.span.now (inv.state i)).value (sym at i) (runs_are i)) ∙ ap (λ v. stored_span_read read shape type fill v (get_or spans it.number (0, 0)) (joined_runs it.runs.items)) there.is) in
-    let each = chain_count f chain in
-    let less = walk_counted read shape type fill there.value spans groups index c.loop-group.joined c.loop-group.count walk it next in
-    let few : length (joined_runs it.runs.items) < 2 ^ 64 = omega (arith, less, c.requires.groups.counted) in
-    let runs_same : length (joined_runs c.as_slice.result.now) ≡ length (joined_runs it.runs.items) = ap (λ rs. length (joined_runs rs)) c.as_slice.ensures.value in
-    let long : c.count_places-more.result ≡ length (joined_runs it.runs.items) = count_is _ c.count_places-more.result c.count_places-more.ensures.count (subst (λ n. n < 2 ^ 64) (sym runs_same) few) ∙ runs_same in
-    let came = one (λ r. IsOkAnd r (Holds type c.in_ok-part.part)) ((c.in_ok-part.ensures {u = tt}).answer) in
-    more_valid read shape type fill there.value spans groups index c.loop-group.joined c.loop-group.count walk it next each c.in_ok-part.part c.count_places-more.result long came
+    let under : c.loop-group.group-index < length c.args.groups.now = grind (arith, nat_tests) in
+    let step = at_group g.B.BytesToBytesCodecTraits.functions (plain_chain c.args.chain.now) c.args.shape.now c.args.kind.now c.args.fill.now c.args.numbers.now c.args.groups.now c.loop-group.group-index c.loop-group.joined c.loop-group.count c.group-item.result c.args.span.now (D.state c.args.handle.now) (D.state c.loop-group.handle) c.requires.stands inv.state inv.walk under c.group-item.is c.requires.groups c.requires.numbers in
+    part_valid step c.as_slice.result.now c.as_slice.ensures.value c.count_places-more.result c.count_places-more.ensures.count c.as_slice-in-loop-group.result.now c.as_slice-in-loop-group.ensures.value c.in_ok-part.part ((c.in_ok-part.ensures {u = tt}).answer)
 
 pub shard_runs::read_groups-overflow_add-count : goal.shard_runs::read_groups-overflow_add-count
 shard_runs::read_groups-overflow_add-count g t c =
-    let f = g.B.BytesToBytesCodecTraits.functions in
     let D = g.H.BytesPartialDecoderTraits in
-    let chain = plain_chain c.args.chain.now in
-    let shape = c.args.shape.now in
-    let type = c.args.kind.now in
-    let fill = c.args.fill.now in
-    let groups = c.args.groups.now in
-    let numbers = c.args.numbers.now in
-    let spans = spans_of numbers in
-    let index = c.loop-group.group-index in
     let inv = c.loop-group.invariant in
-    let it = c.group-item.result in
-    let state = seen_state c.args.span.now (D.state c.args.handle.now) in
-    let there = stands_value c.args.span.now (D.state c.args.handle.now) c.requires.stands in
-    let read = chain_read f chain in
-    let walk = inv.walk there.value there.is in
-    let under : index < length groups = grind (arith, nat_tests) in
-    let next = next_at groups index it under c.group-item.is in
-    let inside : it.number < length spans = next_is (λ it. it.number < length spans) groups index it (drop (index + 1) groups) next c.requires.groups.there in
-    let at : get_or spans it.number (0, 0) ≡ (get_or numbers (it.number * 2) 0, get_or numbers (it.number * 2 + 1) 0) = span_at numbers it.number (omega (arith, inside, c.requires.numbers)) in
-    let less = walk_counted read shape type fill there.value spans groups index c.loop-group.joined c.loop-group.count walk it next in
-    let few : length (joined_runs it.runs.items) < 2 ^ 64 = omega (arith, less, c.requires.groups.counted) in
-    let runs_same : length (joined_runs c.as_slice.result.now) ≡ length (joined_runs it.runs.items) = ap (λ rs. length (joined_runs rs)) c.as_slice.ensures.value in
-    let long : c.count_places-more.result ≡ length (joined_runs it.runs.items) = count_is _ c.count_places-more.result c.count_places-more.ensures.count (subst (λ n. n < 2 ^ 64) (sym runs_same) few) ∙ runs_same in
-    omega (arith, less, long, c.requires.groups.counted)
+    let under : c.loop-group.group-index < length c.args.groups.now = grind (arith, nat_tests) in
+    let step = at_group g.B.BytesToBytesCodecTraits.functions (plain_chain c.args.chain.now) c.args.shape.now c.args.kind.now c.args.fill.now c.args.numbers.now c.args.groups.now c.loop-group.group-index c.loop-group.joined c.loop-group.count c.group-item.result c.args.span.now (D.state c.args.handle.now) (D.state c.loop-group.handle) c.requires.stands inv.state inv.walk under c.group-item.is c.requires.groups c.requires.numbers in
+    let fits = count_fits step c.as_slice.result.now c.as_slice.ensures.value c.count_places-more.result c.count_places-more.ensures.count in
+    omega (arith, fits)
 
 pub shard_runs::read_groups-loop-group-preserved : goal.shard_runs::read_groups-loop-group-preserved
 shard_runs::read_groups-loop-group-preserved g t c =
-    let f = g.B.BytesToBytesCodecTraits.functions in
     let D = g.H.BytesPartialDecoderTraits in
-    let chain = plain_chain c.args.chain.now in
-    let shape = c.args.shape.now in
-    let type = c.args.kind.now in
-    let fill = c.args.fill.now in
-    let groups = c.args.groups.now in
-    let numbers = c.args.numbers.now in
-    let spans = spans_of numbers in
-    let index = c.loop-group.group-index in
     let inv = c.loop-group.invariant in
-    let it = c.group-item.result in
-    let state = seen_state c.args.span.now (D.state c.args.handle.now) in
-    let there = stands_value c.args.span.now (D.state c.args.handle.now) c.requires.stands in
-    let read = chain_read f chain in
-    let walk = inv.walk there.value there.is in
-    let under : index < length groups = grind (arith, nat_tests) in
-    let next = next_at groups index it under c.group-item.is in
-    let inside : it.number < length spans = next_is (λ it. it.number < length spans) groups index it (drop (index + 1) groups) next c.requires.groups.there in
-    let at : get_or spans it.number (0, 0) ≡ (get_or numbers (it.number * 2) 0, get_or numbers (it.number * 2 + 1) 0) = span_at numbers it.number (omega (arith, inside, c.requires.numbers)) in
-    let runs_are : joined_runs c.as_slice-in-loop-group.result.now ≡ joined_runs it.runs.items = ap joined_runs c.as_slice-in-loop-group.ensures.value in
-    let one : (P : Result Chunk CodecError → Type 0) → P (stored_span_read read shape type fill (seen_state c.args.span.now (D.state c.loop-group.handle)).value (get_or numbers (it.number * 2) 0, get_or numbers (it.number * 2 + 1) 0) (joined_runs c.as_slice-in-loop-group.result.now)) → P (span_read (is_stored (get_or spans it.number (0, 0))) read shape type fill there.value (get_or spans it.number (0, 0)) (joined_runs it.runs.items)) =
-    λ P. subst P ((λ i. stored_span_read read shape type fill (seen_state c.args.span.now (inv.state i)).value (sym at i) (runs_are i)) ∙ ap (λ v. stored_span_read read shape type fill v (get_or spans it.number (0, 0)) (joined_runs it.runs.items)) there.is) in
-    let each = chain_count f chain in
-    let less = walk_counted read shape type fill there.value spans groups index c.loop-group.joined c.loop-group.count walk it next in
-    let few : length (joined_runs it.runs.items) < 2 ^ 64 = omega (arith, less, c.requires.groups.counted) in
-    let runs_same : length (joined_runs c.as_slice.result.now) ≡ length (joined_runs it.runs.items) = ap (λ rs. length (joined_runs rs)) c.as_slice.ensures.value in
-    let long : c.count_places-more.result ≡ length (joined_runs it.runs.items) = count_is _ c.count_places-more.result c.count_places-more.ensures.count (subst (λ n. n < 2 ^ 64) (sym runs_same) few) ∙ runs_same in
-    let came = one (λ r. IsOkAnd r (Holds type c.in_ok-part.part)) ((c.in_ok-part.ensures {u = tt}).answer) in
-    let rests = chain_rests f chain in
+    let under : c.loop-group.group-index < length c.args.groups.now = grind (arith, nat_tests) in
+    let step = at_group g.B.BytesToBytesCodecTraits.functions (plain_chain c.args.chain.now) c.args.shape.now c.args.kind.now c.args.fill.now c.args.numbers.now c.args.groups.now c.loop-group.group-index c.loop-group.joined c.loop-group.count c.group-item.result c.args.span.now (D.state c.args.handle.now) (D.state c.loop-group.handle) c.requires.stands inv.state inv.walk under c.group-item.is c.requires.groups c.requires.numbers in
     let same = c.in_ok-part.ensures {u = tt} in
     record {
-      walk = λ value e. subst (λ v. WalkedTo read shape type fill v spans groups (index + 1) c.in_ok-joined-2.joined (c.loop-group.count + c.count_places-more.result)) (some_is there.value value (sym there.is ∙ e))
-          (walk_goes_on read shape type fill there.value spans groups index c.loop-group.joined c.loop-group.count walk it next each c.in_ok-part.part c.count_places-more.result long came c.in_ok-joined-2.joined ((c.in_ok-joined-2.ensures {u = tt}).answer.is));
-      sure = λ value e s.
-          let here = subst (λ gs. are_given_sure state.sure (groups_rest rests shape type fill value spans (map group gs)) ≡ true) next (inv.sure value e s) in
-          (first_sure rests shape type fill value spans (group it) (map group (drop (index + 1) groups)) state.sure here).1;
+      walk = group_read step c.as_slice.result.now c.as_slice.ensures.value c.count_places-more.result c.count_places-more.ensures.count c.as_slice-in-loop-group.result.now c.as_slice-in-loop-group.ensures.value c.in_ok-part.part same.answer c.in_ok-joined-2.joined ((c.in_ok-joined-2.ensures {u = tt}).answer.is);
+      sure = λ value e s. rest_sure step value (inv.sure value e s);
       tight = (c.in_ok-joined-2.ensures {u = tt}).tight inv.tight (same.tight.blank);
       state = same.left ∙ inv.state;
       lent = same.same_reference ∙ inv.lent;
