@@ -34,7 +34,10 @@ use Rattle.zarrs_codec_chain.specs.ShardRead.{groups_read, groups_rest, span_rea
 use Rattle.zarrs_shard_runs.specs.GroupedRuns.{AreGroups, IsReadingOrder, group, order_places}
 use Rattle.zarrs_codec_chain.proofs.ShardParts.{chain_count, grid_known, groups_long, index_measured, inner_taken, is_ok_so}
 use Rattle.zarrs_codec_chain.proofs.ShardSpans.{counted, index_known, spans_known, groups_answered, groups_error, groups_found, groups_sure, inner_runs, index_sure, inside_is, inside_sure, is_shard, shard_takes}
+use Rattle.zarrs_codec_chain.proofs.IndexReads.{behind_sure}
 use Rattle.zarrs_codec_chain.proofs.SpanSeen.{stands_value}
+use Rattle.zarrs_codec_chain.proofs.StoredIndex.{two_each}
+use Rattle.zarrs_chain_meaning.specs.sharding.InnerChunks.{inner_chunk_count}
 use Rattle.zarrs_codec_chain.specs.ChunkRead.{are_given_sure}
 use Rattle.zarrs_codec_chain.specs.SpanReads.{AnswersRuns, StandsIn, TakesForm, chain_read, chain_rests, stored_groups_read, stored_groups_rest, stored_span_read, stored_span_rests, stored_spans, moved_read, moved_rests, seen_state, stored_index_bytes}
 use Rattle.zarrs_data_type.specs.Element.{Chunk}
@@ -336,21 +339,35 @@ shard_runs::shard_in_span-index_numbers-requires-clause-measured g t c =
     let takes = shard_takes f codec chain index shape P.is_index_at_end sizes type fill is (is_ok_so _ c.requires.taken) in
     index_measured f chain index shape sizes type fill takes
 
-pub shard_runs::shard_in_span-shard_by_index-requires-clause-index : goal.shard_runs::shard_in_span-shard_by_index-requires-clause-index
-shard_runs::shard_in_span-shard_by_index-requires-clause-index g t c κs within =
+pub shard_runs::shard_in_span-shard_by_index-requires : goal.shard_runs::shard_in_span-shard_by_index-requires
+shard_runs::shard_in_span-shard_by_index-requires g t c κs within =
     let f = g.B.BytesToBytesCodecTraits.functions in
     let P = c.sharding_parts-at_end.result in
     let index = P.index_codecs.now in
     let shape = P.chunk_shape.now in
     let sizes = c.args.shape.now in
     let codec = plain_sharding c.args.codec.now in
-    let is = c.sharding_parts-at_end.ensures.parts in
     let handle = g.H.BytesPartialDecoderTraits.state c.args.handle.now in
     let there = stands_value c.args.span.now handle c.requires.stands in
     let numbers = c.as_slice-numbers.result.now in
     let at : stored_spans f (plain_chain index) shape P.is_index_at_end sizes (seen_state c.args.span.now handle).value ≡ Ok (spans_of numbers) = (c.in_ok-found.ensures {u = tt}).answer ∙ ap (λ (ns : List ℕ). ok (spans_of ns)) (sym c.as_slice-numbers.ensures.value) in
-    subst (λ s. IsIndex f codec sizes (seen_state c.args.span.now s).value numbers) (sym ((c.in_ok-found.ensures {u = tt}).left))
-    (index_known f codec (plain_chain P.codecs.now) (plain_chain index) shape P.is_index_at_end sizes (seen_state c.args.span.now handle).value there.value numbers is there.is at)
+    let same = sym ((c.in_ok-found.ensures {u = tt}).left) in
+    let known = subst (λ s. IsIndex f codec sizes (seen_state c.args.span.now s).value numbers) same
+    (index_known f codec (plain_chain P.codecs.now) (plain_chain index) shape P.is_index_at_end sizes (seen_state c.args.span.now handle).value there.value numbers c.sharding_parts-at_end.ensures.parts there.is at) in
+    let stands = subst (λ s. StandsIn c.args.span.now s) same c.requires.stands in
+    let long : length numbers ≡ length (spans_of numbers) * 2 = two_each (inner_chunk_count shape sizes) numbers (ap length c.as_slice-numbers.ensures.value ∙ (c.in_ok-found.ensures {u = tt}).len) in
+    search (rules, known, stands, long)
+
+pub shard_runs::shard_in_span-returns-clause-sure : goal.shard_runs::shard_in_span-returns-clause-sure
+shard_runs::shard_in_span-returns-clause-sure g t c =
+    let f = g.B.BytesToBytesCodecTraits.functions in
+    let codec = plain_sharding c.args.codec.now in
+    let handle = g.H.BytesPartialDecoderTraits.state c.args.handle.now in
+    let state = seen_state c.args.span.now handle in
+    let places = joined_runs c.args.runs.now in
+    let behind : are_given_sure state.sure (rests_behind f codec c.args.shape.now c.args.kind.now c.args.fill.now state.value places) ≡ true → is_fault c.shard_by_index.result ≡ false =
+    subst (λ s. are_given_sure (seen_state c.args.span.now s).sure (rests_behind f codec c.args.shape.now c.args.kind.now c.args.fill.now (seen_state c.args.span.now s).value places) ≡ true → is_fault c.shard_by_index.result ≡ false) ((c.in_ok-found.ensures {u = tt}).left) c.shard_by_index.ensures.sure in
+    λ s. behind (behind_sure f codec c.args.shape.now c.args.kind.now c.args.fill.now state.value places state.sure s)
 
 pub shard_runs::shard_in_span-returns-in_err-found-clause-sure : goal.shard_runs::shard_in_span-returns-in_err-found-clause-sure
 shard_runs::shard_in_span-returns-in_err-found-clause-sure g t c =
@@ -386,7 +403,7 @@ shard_runs::shard_by_index-returns-in_err-encoded-clause-answer g t c =
     let codec = plain_sharding c.args.codec.now in
     let is = c.sharding_parts.ensures.parts in
     let takes = shard_takes f codec chain index shape P.is_index_at_end sizes type fill is (is_ok_so _ c.requires.taken) in
-    let p = err_from_is_err_and c.from_residual-in_err-encoded.result c.from_residual-in_err-encoded.ensures.1 in
+    let p = err_from_is_err_and c.from_residual.result c.from_residual.ensures.1 in
     rw (p.1, p.2) (λ unexcused. absurd (inner_taken f chain index shape sizes type fill c.in_err-encoded.field-0.0 takes (c.in_err-encoded.ensures.answer.is (memory_too c.in_err-encoded.field-0.0 unexcused))))
 
 pub inner_reads::chain_in_span-moved_in_span-requires-2 : goal.inner_reads::chain_in_span-moved_in_span-requires-2
