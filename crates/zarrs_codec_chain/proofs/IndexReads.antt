@@ -36,7 +36,7 @@ use Rattle.zarrs_codec_chain.proofs.IndexLaws.{IndexLaws}
 use Rattle.zarrs_codec_chain.specs.ChunkSource.{is_cache}
 use Rattle.zarrs_codec_chain.specs.declared.partial_decoder.cache.Cache.{Cache}
 use Rattle.zarrs_codec_chain.specs.declared.partial_decoder.cache.Cache.TheVariants as kept
-use Rattle.zarrs_codec_chain.specs.declared.sharding.kept_index.ShardIndex.{ShardIndex}
+use Rattle.zarrs_codec_chain.specs.declared.sharding.shard_index.ShardIndex.{ShardIndex}
 use Rattle.zarrs_data_type.specs.Element.{Chunk, fill_element}
 use Rattle.zarrs_data_type.specs.ElementType.{ElementType}
 
@@ -97,10 +97,10 @@ index_stored f codec sizes (Some value) len spans e =
     record { value = value; is = refl; long = first (length value) len a.0 spans a.2; at = a.1 ∙ ap (λ (s : List Span). ok s) (second (length value) len a.0 spans a.2) }
   where
     first : (m n : ℕ) (ss ts : List Span) → ◌≡◌ {A = Result (Option (ℕ × List Span)) CodecError} (Ok (Some (m, ss))) (Ok (Some (n, ts))) → m ≡ n
-    first m n ss ts e = cc
+    first m n ss ts e = let both : (m, ss) ≡ (n, ts) = cc in ap (λ (p : ℕ × List Span). p.0) both
 
     second : (m n : ℕ) (ss ts : List Span) → ◌≡◌ {A = Result (Option (ℕ × List Span)) CodecError} (Ok (Some (m, ss))) (Ok (Some (n, ts))) → ss ≡ ts
-    second m n ss ts e = cc
+    second m n ss ts e = let both : (m, ss) ≡ (n, ts) = cc in ap (λ (p : ℕ × List Span). p.1) both
 
 -- a chain that asks for an index has no bytes-to-bytes codecs
 pub asks_bare : {B : Type 0} (outer : List B) (codec : PlainCodec B) → asks_index outer codec ≡ true → (outer ≡ []) × (asks_index [] codec ≡ true)
@@ -141,6 +141,9 @@ module _ {B : Type 0} (f : BytesCodecs B) (read : PlaceReader) (rests : Resting)
   with_refused None laws there value places error e = absurd cc
   with_refused (Some index) laws there value places error e = laws.refused sizes type fill value places error e
 
+abbrev SureSo : StorageState → Type 0 → Option (List ℕ) → Type 0
+SureSo before P asked = IfSome asked (λ numbers. are_sure before.sure numbers ≡ true → P)
+
 module _ {B : Type 0} (f : BytesCodecs B) where
   laws_of : (codec : PlainCodec B) → IndexLaws f (codec_read f codec) (codec_rests_on f codec) (part_of codec).indexed
   laws_of codec = (part_laws codec).indexed f
@@ -171,19 +174,16 @@ module _ {B : Type 0} (f : BytesCodecs B) where
   sure_by_all false form before selection P h = h
   sure_by_all true form before selection P h = steps (encoded_places form.type form.chain.array_to_array form.sizes selection) (taken_form f form.chain form.sizes form.type form.fill) h
     where
-      abbrev sure_so : Option (List ℕ) → Type 0
-      sure_so asked = IfSome asked (λ numbers. are_sure before.sure numbers ≡ true → P)
-
       last : (asks : Bool) (behind all : Result (List ℕ) CodecError) → (are_given_sure before.sure all ≡ true → are_given_sure before.sure behind ≡ true)
-          → IfOk (behind >>= λ numbers. ok (if asks then Some numbers else None)) sure_so → IfOk (all >>= λ numbers. ok (if asks then Some numbers else None)) sure_so
+          → IfOk (behind >>= λ numbers. ok (if asks then Some numbers else None)) (SureSo before P) → IfOk (all >>= λ numbers. ok (if asks then Some numbers else None)) (SureSo before P)
       last false behind (Ok numbers) more h = tt
       last true (Ok some) (Ok numbers) more h = λ s. h (more s)
       last true (Err x) (Ok numbers) more h = λ s. absurd (let e = more s in cc)
       last asks behind (Err x) more h = tt
 
       steps : (p : Result (List ℕ) CodecError) (t : Result (List ℕ × BytesRepresentation) CodecError)
-          → IfOk (p >>= λ places. t >>= λ taken. rests_behind f form.chain.array_to_bytes taken.0 form.type form.fill before.value places >>= λ numbers. ok (if asks_in_part form.chain.bytes_to_bytes form.chain.array_to_bytes then Some numbers else None)) sure_so
-          → IfOk (p >>= λ places. t >>= λ taken. codec_rests_on f form.chain.array_to_bytes taken.0 form.type form.fill before.value places >>= λ numbers. ok (if asks_in_part form.chain.bytes_to_bytes form.chain.array_to_bytes then Some numbers else None)) sure_so
+          → IfOk (p >>= λ places. t >>= λ taken. rests_behind f form.chain.array_to_bytes taken.0 form.type form.fill before.value places >>= λ numbers. ok (if asks_in_part form.chain.bytes_to_bytes form.chain.array_to_bytes then Some numbers else None)) (SureSo before P)
+          → IfOk (p >>= λ places. t >>= λ taken. codec_rests_on f form.chain.array_to_bytes taken.0 form.type form.fill before.value places >>= λ numbers. ok (if asks_in_part form.chain.bytes_to_bytes form.chain.array_to_bytes then Some numbers else None)) (SureSo before P)
       steps (Ok places) (Ok taken) h =
           last (asks_in_part form.chain.bytes_to_bytes form.chain.array_to_bytes) (rests_behind f form.chain.array_to_bytes taken.0 form.type form.fill before.value places) (codec_rests_on f form.chain.array_to_bytes taken.0 form.type form.fill before.value places)
           (behind_sure form.chain.array_to_bytes taken.0 form.type form.fill before.value places before.sure) h
@@ -227,10 +227,10 @@ module _ {B : Type 0} (f : BytesCodecs B) (form : ChunkForm B) (encoded : List �
       reads_stored (Err error) (λ unexcused. rw (sym e) refl) (rw (sym e) (λ unexcused. refl)) (rw (sym e) tt)
 
   module _ (asks : asks_index form.chain.bytes_to_bytes form.chain.array_to_bytes ≡ true) (counted : product form.sizes < 2 ^ 64) (inside : Ok tt ≡ bounds_of selection form.sizes) where
-    h : IsReadable f form.chain form.sizes form.type form.fill encoded r
+    abbrev h : IsReadable f form.chain form.sizes form.type form.fill encoded r
     h = is_readable f form.chain form.sizes form.type form.fill encoded r mappings.mappings positive taken
 
-    places : List ℕ
+    abbrev places : List ℕ
     places = map h.map_is.to (map (row_major form.sizes) (tuples_of selection))
 
     at : encoded_places form.type form.chain.array_to_array form.sizes selection ≡ Ok places

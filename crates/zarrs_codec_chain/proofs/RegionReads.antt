@@ -131,7 +131,7 @@ module _ {B : Type 0} (f : BytesCodecs B) (form : ChunkForm B) (encoded : List �
       → (asks_in_part form.chain.bytes_to_bytes form.chain.array_to_bytes ≡ true → IfOk (rests_where known f form.chain.array_to_bytes encoded form.type form.fill before.value places) (λ numbers. are_sure before.sure numbers ≡ true → P)) → WhereSureBy known f form before (subset region) P
   region_sure_where known before places P at taken sure =
       where_sure known f form before (subset region) P encoded r (map h.map_is.to (window_places (window_of form.sizes region))) region_goes taken
-      (λ asks. sure_alike known f form.chain.array_to_bytes before.sure (map h.map_is.to (window_places (window_of form.sizes region))) (window_places last) region_members encoded form.type form.fill before.value P
+      (λ asks. sure_alike f known form.chain.array_to_bytes before.sure (map h.map_is.to (window_places (window_of form.sizes region))) (window_places last) region_members encoded form.type form.fill before.value P
       (subst (λ ps. IfOk (rests_where known f form.chain.array_to_bytes encoded form.type form.fill before.value ps) (λ numbers. are_sure before.sure numbers ≡ true → P)) (sym (ok_is (window_places last) places at)) (sure asks)))
 
 -- ---- calls

@@ -15,7 +15,7 @@ use Rattle.zarrs_codec_chain.specs.CodecPart.{IndexPart, codec_rests_on, part_of
 use Rattle.zarrs_codec_chain.specs.PlaceLaws.{Resting}
 use Rattle.zarrs_codec_chain.specs.declared.partial_decoder.cache.Cache.{Cache}
 use Rattle.zarrs_codec_chain.specs.declared.partial_decoder.cache.Cache.TheVariants as kept
-use Rattle.zarrs_codec_chain.specs.declared.sharding.kept_index.ShardIndex.{ShardIndex}
+use Rattle.zarrs_codec_chain.specs.declared.sharding.shard_index.ShardIndex.{ShardIndex}
 
 -- ---- the index
 

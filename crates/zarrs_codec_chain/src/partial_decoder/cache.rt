@@ -1,5 +1,5 @@
 //! What a partial decoder keeps of the stored value.
-use crate::sharding::kept_index::ShardIndex;
+use crate::sharding::shard_index::ShardIndex;
 use zarrs_array_bytes::ArrayBytes;
 
 /// Where the cache stands: nowhere; at the bytes above so many of the first bytes-to-bytes codecs;

@@ -15,7 +15,8 @@ ghost use Rattle.zarrs_codec_chain.specs.CodecRead.{Takes};
 ghost use Rattle.zarrs_codec_chain.specs.KeptIndex.{asks_index, codec_index, index_seen, rests_behind};
 ghost use Rattle.zarrs_codec_chain.specs.SpanReads.{SurePlaces};
 
-use crate::sharding::kept_index::{ShardIndex, runs_by_index};
+use crate::sharding::kept_index::runs_by_index;
+use crate::sharding::shard_index::ShardIndex;
 use crate::sharding::shard_runs::shard_runs;
 use crate::vlen::vlen_runs::vlen_runs;
 use std::alloc::Global;

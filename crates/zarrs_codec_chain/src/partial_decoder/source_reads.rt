@@ -19,7 +19,7 @@ use crate::partial_decoder::cache::Cache;
 use crate::partial_decoder::codec_read::{read_by_index, read_runs, read_runs_of_bytes};
 use crate::partial_decoder::fill_runs::fill_runs;
 use crate::partial_decoder::make_cache::{chunk_below as chunk_of_value, codec_reads};
-use crate::sharding::kept_index::ShardIndex;
+use crate::sharding::shard_index::ShardIndex;
 use std::alloc::Global;
 use std::borrow::CowSlice;
 use zarrs_array_bytes::{ArrayBytes, ArrayBytesRaw};

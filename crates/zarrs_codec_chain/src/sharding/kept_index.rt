@@ -1,8 +1,7 @@
 //! The index of a shard, read once and kept: a read by it asks for inner chunks alone.
-ghost use Rattle.std.specs.Prelude.{◌≡◌, ◌*◌, ◌<◌, ◌^◌, IfOk, IsOk, Ok, length, option_map, true};
+ghost use Rattle.std.specs.Prelude.{◌≡◌, ◌<◌, ◌^◌, IfOk, Ok, length, option_map};
 ghost use Rattle.zarrs_array_bytes.specs.Tight.{IsTight};
 ghost use Rattle.zarrs_chain.specs.ChainView.{plain_sharding};
-ghost use Rattle.zarrs_chain_meaning.specs.sharding.Sharding.{spans_of};
 ghost use Rattle.zarrs_chunk.specs.Answer.{Answers, memory_or_fault};
 ghost use Rattle.zarrs_chunk.specs.ChunkShape.{product};
 ghost use Rattle.zarrs_chunk.specs.Runs.{AreFilled, EndWithin, joined_runs};
@@ -14,6 +13,7 @@ ghost use Rattle.zarrs_data_type.specs.Form.{form_of};
 
 use crate::partial_decoder::fill_runs::fill_runs;
 use crate::sharding::index_read::index_numbers;
+use crate::sharding::shard_index::ShardIndex;
 use crate::sharding::shard_runs::shard_by_index;
 use crate::sharding::value_span::ValueSpan;
 use std::alloc::Global;
@@ -23,15 +23,6 @@ use zarrs_chain::stages::{ShardingParts, shard_form, sharding_parts};
 use zarrs_chunk::{ChunkShape, CodecError};
 use zarrs_codec::{BytesPartialDecoderTraits, BytesToBytesCodecTraits};
 use zarrs_data_type::{DataType, FillValue};
-
-/// What is kept of a shard: how many bytes it has, and the numbers of its index, two for each inner
-/// chunk.
-#[derive(Drop)]
-pub(crate) struct ShardIndex {
-    pub(crate) len: u64,
-    pub(crate) numbers: Vec<usize>,
-    ghost even: { length numbers.items ≡ length (spans_of numbers.items) * 2 },
-}
 
 /// The index of the shard that the handle keeps; `None` where nothing is stored. Errors, the first
 /// that holds, `OutOfMemory` aside: `Storage`; `InvalidBytesLength` where the value has fewer bytes

@@ -20,11 +20,14 @@ use Rattle.std.specs.Prelude.{IsOkAnd, ◌^◌}
 use Rattle.zarrs_chain_meaning.proofs.OptionalSteps.{counted_small}
 use Rattle.zarrs_chain_meaning.specs.CodecMeaning.{codec_representation}
 use Rattle.zarrs_codec_chain.proofs.GroupWalks.{WalkedTo, walk_ends}
-use Rattle.zarrs_codec_chain.specs.KeptIndex.{IsIndex}
+use Rattle.zarrs_codec_chain.specs.KeptIndex.{IsIndex, rests_behind}
 use Rattle.zarrs_shard_runs.specs.GroupedRuns.{group, order_places}
 use Rattle.zarrs_codec_chain.proofs.ShardParts.{grid_known, index_measured, inner_taken, stored_shard}
 use Rattle.zarrs_codec_chain.proofs.ShardSpans.{index_known, inside_is, inside_sure, with_index_sure}
+use Rattle.zarrs_codec_chain.proofs.IndexReads.{behind_sure}
 use Rattle.zarrs_codec_chain.proofs.SpanSeen.{stands_value}
+use Rattle.zarrs_codec_chain.proofs.StoredIndex.{two_each}
+use Rattle.zarrs_chain_meaning.specs.sharding.InnerChunks.{inner_chunk_count}
 use Rattle.zarrs_codec_chain.specs.ChunkRead.{are_given_sure}
 use Rattle.zarrs_codec_chain.specs.SpanReads.{AnswersRuns, StandsIn, TakesForm, chain_read, chain_rests, stored_groups_read, stored_groups_rest, seen_state}
 use Rattle.zarrs_data_type.specs.Element.{Chunk}
@@ -153,13 +156,28 @@ shard_runs::shard_in_span-index_numbers-requires-clause-measured g t c =
     let shard = stored_shard g.B.BytesToBytesCodecTraits.functions (plain_sharding c.args.codec.now) P.codecs.now P.index_codecs.now P.chunk_shape.now P.is_index_at_end c.args.shape.now c.args.kind.now c.args.fill.now c.args.span.now (g.H.BytesPartialDecoderTraits.state c.args.handle.now) c.sharding_parts-at_end.ensures.parts c.requires.taken c.requires.stands in
     index_measured shard
 
-pub shard_runs::shard_in_span-shard_by_index-requires-clause-index : goal.shard_runs::shard_in_span-shard_by_index-requires-clause-index
-shard_runs::shard_in_span-shard_by_index-requires-clause-index g t c κs within =
+pub shard_runs::shard_in_span-shard_by_index-requires : goal.shard_runs::shard_in_span-shard_by_index-requires
+shard_runs::shard_in_span-shard_by_index-requires g t c κs within =
     let P = c.sharding_parts-at_end.result in
     let shard = stored_shard g.B.BytesToBytesCodecTraits.functions (plain_sharding c.args.codec.now) P.codecs.now P.index_codecs.now P.chunk_shape.now P.is_index_at_end c.args.shape.now c.args.kind.now c.args.fill.now c.args.span.now (g.H.BytesPartialDecoderTraits.state c.args.handle.now) c.sharding_parts-at_end.ensures.parts c.requires.taken c.requires.stands in
     let at = (c.in_ok-found.ensures {u = tt}).answer ∙ ap (λ (ns : List ℕ). ok (spans_of ns)) (sym c.as_slice-numbers.ensures.value) in
-    subst (λ s. IsIndex g.B.BytesToBytesCodecTraits.functions (plain_sharding c.args.codec.now) c.args.shape.now (seen_state c.args.span.now s).value c.as_slice-numbers.result.now) (sym ((c.in_ok-found.ensures {u = tt}).left))
-    (index_known g.B.BytesToBytesCodecTraits.functions (plain_sharding c.args.codec.now) (plain_chain P.codecs.now) (plain_chain P.index_codecs.now) P.chunk_shape.now P.is_index_at_end c.args.shape.now _ shard.value c.as_slice-numbers.result.now shard.is shard.value_is at)
+    let same = sym ((c.in_ok-found.ensures {u = tt}).left) in
+    let known = subst (λ s. IsIndex g.B.BytesToBytesCodecTraits.functions (plain_sharding c.args.codec.now) c.args.shape.now (seen_state c.args.span.now s).value c.as_slice-numbers.result.now) same
+    (index_known g.B.BytesToBytesCodecTraits.functions (plain_sharding c.args.codec.now) (plain_chain P.codecs.now) (plain_chain P.index_codecs.now) P.chunk_shape.now P.is_index_at_end c.args.shape.now (seen_state c.args.span.now (g.H.BytesPartialDecoderTraits.state c.args.handle.now)).value shard.value c.as_slice-numbers.result.now shard.is shard.value_is at) in
+    let stands = subst (λ s. StandsIn c.args.span.now s) same c.requires.stands in
+    let long = two_each (inner_chunk_count P.chunk_shape.now c.args.shape.now) c.as_slice-numbers.result.now (ap length c.as_slice-numbers.ensures.value ∙ (c.in_ok-found.ensures {u = tt}).len) in
+    search (rules, known, stands, long)
+
+pub shard_runs::shard_in_span-returns-clause-sure : goal.shard_runs::shard_in_span-returns-clause-sure
+shard_runs::shard_in_span-returns-clause-sure g t c =
+    let f = g.B.BytesToBytesCodecTraits.functions in
+    let codec = plain_sharding c.args.codec.now in
+    let handle = g.H.BytesPartialDecoderTraits.state c.args.handle.now in
+    let state = seen_state c.args.span.now handle in
+    let places = joined_runs c.args.runs.now in
+    let behind : are_given_sure state.sure (rests_behind f codec c.args.shape.now c.args.kind.now c.args.fill.now state.value places) ≡ true → is_fault c.shard_by_index.result ≡ false =
+    subst (λ s. are_given_sure (seen_state c.args.span.now s).sure (rests_behind f codec c.args.shape.now c.args.kind.now c.args.fill.now (seen_state c.args.span.now s).value places) ≡ true → is_fault c.shard_by_index.result ≡ false) ((c.in_ok-found.ensures {u = tt}).left) c.shard_by_index.ensures.sure in
+    λ s. behind (behind_sure f codec c.args.shape.now c.args.kind.now c.args.fill.now state.value places state.sure s)
 
 pub shard_runs::shard_in_span-returns-in_err-found-clause-sure : goal.shard_runs::shard_in_span-returns-in_err-found-clause-sure
 shard_runs::shard_in_span-returns-in_err-found-clause-sure g t c =
@@ -172,7 +190,7 @@ pub shard_runs::shard_by_index-returns-in_err-encoded-clause-answer : goal.shard
 shard_runs::shard_by_index-returns-in_err-encoded-clause-answer g t c =
     let P = c.sharding_parts.result in
     let shard = stored_shard g.B.BytesToBytesCodecTraits.functions (plain_sharding c.args.codec.now) P.codecs.now P.index_codecs.now P.chunk_shape.now P.is_index_at_end c.args.shape.now c.args.kind.now c.args.fill.now c.args.span.now (g.H.BytesPartialDecoderTraits.state c.args.handle.now) c.sharding_parts.ensures.parts c.requires.taken c.requires.stands in
-    let p = err_from_is_err_and c.from_residual-in_err-encoded.result c.from_residual-in_err-encoded.ensures.1 in
+    let p = err_from_is_err_and c.from_residual.result c.from_residual.ensures.1 in
     rw (p.1, p.2) (λ unexcused. absurd (inner_taken shard c.in_err-encoded.field-0.0 (c.in_err-encoded.ensures.answer.is (memory_too c.in_err-encoded.field-0.0 unexcused))))
 
 pub inner_reads::chain_in_span-moved_in_span-requires-2 : goal.inner_reads::chain_in_span-moved_in_span-requires-2

@@ -2,6 +2,7 @@ use Rattle.std.proofs.Common.{◌≡◌, ℕ, Some, Result, Ok, Err, true, false
 use Rattle.std.proofs.lemmas.Result.{err_from_is_err_and}
 use Rattle.zarrs_chain.specs.ChainView.{plain_chain, plain_sharding}
 use Rattle.zarrs_chain_meaning.proofs.ArraySteps.{ok_is}
+use Rattle.zarrs_chain_meaning.specs.sharding.InnerChunks.{inner_chunk_count}
 use Rattle.zarrs_chunk.specs.Answer.{is_fault}
 use Rattle.zarrs_chunk.specs.declared.codec_error.CodecError.{CodecError}
 use Rattle.zarrs_codec.specs.StorageState.{are_sure, value_size}
@@ -30,3 +31,8 @@ index_numbers-requires g c =
       measured = index_measured f P.codecs.now P.index_codecs.now P.chunk_shape.now c.args.shape.now c.args.kind.now c.args.fill.now takes;
       stands = subst (λ s. StandsIn c.stored-span.result s) (sym c.in_ok-size.ensures.left) (whole_stands c.stored-span.result c.in-Some.len state c.stored-span.ensures.parts sized);
     }
+
+pub invariant_of-result : goal.invariant_of-result
+invariant_of-result g c =
+    let P = c.sharding_parts-at_end.result in
+    record { count = two_each (inner_chunk_count P.chunk_shape.now c.args.shape.now) c.in_ok-numbers-in-Some.numbers.items ((c.in_ok-numbers-in-Some.ensures {u = tt}).len) }
