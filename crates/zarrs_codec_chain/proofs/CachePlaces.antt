@@ -189,6 +189,7 @@ valid_so (Err x) e = absurd cc
 pub size_kept : (reads : PartialDecoderCapability) (type : ElementType) (count codecs handle : ℕ) (stored : Option (List ℕ)) (cache : Cache) → cache_fits reads type count codecs cache ≡ true → CacheIsTight type cache → is_cache cache ≡ true
     → IsSizeOf type (source_of type count codecs stored cache) (held_by handle cache)
 size_kept reads type count codecs handle stored kept.Handle fits tight e = absurd cc
+size_kept reads type count codecs handle stored (kept.Index index) fits tight e = absurd cc
 size_kept reads type count codecs handle stored (kept.Bytes below None) fits tight e = refl
 size_kept reads type count codecs handle stored (kept.Bytes below (Some value)) fits tight e = refl
 size_kept reads type count codecs handle stored (kept.Chunk None) fits tight e = refl

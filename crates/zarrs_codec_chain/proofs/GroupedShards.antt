@@ -23,17 +23,18 @@ use Rattle.zarrs_codec.specs.BytesToBytesCodec.{BytesCodecs}
 use Rattle.zarrs_codec.specs.StorageState.{StorageState}
 use Rattle.zarrs_codec_chain.proofs.EditLaws.{found as ok_found}
 use Rattle.zarrs_codec_chain.proofs.GroupWalks.{count_is, grouped_count, groups_below, numbers_below, places_of_groups}
-use Rattle.zarrs_codec_chain.proofs.GroupedReads.{chain_each, grouped_read, spans_counted}
+use Rattle.zarrs_codec_chain.proofs.GroupedReads.{chain_each, grouped_read, grouped_rests, spans_counted}
 use Rattle.zarrs_codec_chain.proofs.PlaceWrites.{memory_too}
 use Rattle.zarrs_codec_chain.proofs.ShardParts.{chain_count, groups_long}
-use Rattle.zarrs_codec_chain.proofs.ShardSpans.{StoredShard, all_read, all_sure, by_spans, known}
+use Rattle.zarrs_codec_chain.proofs.ShardSpans.{StoredShard, all_read, behind_are, by_spans, known, spans_known}
 use Rattle.zarrs_codec_chain.specs.ChunkRead.{are_given_sure}
-use Rattle.zarrs_codec_chain.specs.CodecPart.{codec_rests_on}
-use Rattle.zarrs_codec_chain.specs.ShardRead.{groups_rest, spans_by, spans_read}
+use Rattle.zarrs_codec_chain.specs.KeptIndex.{IsIndex, rests_behind}
+use Rattle.zarrs_codec_chain.specs.ShardRead.{groups_rest, spans_by, spans_read, spans_rest}
 use Rattle.zarrs_codec_chain.specs.SpanReads.{AreInnerRuns, PutsInOrder, chain_read, chain_rests, stored_groups_read, stored_groups_rest, stored_spans}
 use Rattle.zarrs_data_type.specs.Element.{Chunk}
 use Rattle.zarrs_data_type.specs.ElementType.{ElementType}
 use Rattle.zarrs_shard_runs.specs.GroupedRuns.{AreGroups, IsReadingOrder, group, order_places}
+use Rattle.zarrs_shard_runs.specs.PlacesInside.{groups_of}
 use Rattle.zarrs_shard_runs.specs.declared.grouped_runs.InnerRuns.{InnerRuns}
 
 -- The shard's index has these numbers, and these groups have the places, which are the chunk's.
@@ -44,13 +45,13 @@ pub record GroupedShard {B : Type 0} (f : BytesCodecs B) (codec : PlainCodec B) 
   pub below : All (λ place. place < product sizes) places
   pub are : AreGroups shape sizes places groups
 
--- of the places of runs; what was found and grouped is borrowed
+-- by numbers that are its index, of the places of runs; the shape and the groups are borrowed
 pub grouped_shard : {B : Type 0} {f : BytesCodecs B} {codec : PlainCodec B} {inner index : CodecChain B} {shape : List ℕ} {at_end : Bool} {sizes : List ℕ} {type : ElementType} {fill : List ℕ} {state : StorageState} (shard : StoredShard f codec inner index shape at_end sizes type fill state)
-    (runs : List (ℕ × ℕ)) (lengths found numbers : List ℕ) (grouped groups : List InnerRuns) → lengths ≡ shape → All (λ size. 0 < size) lengths → is_divided shape sizes ≡ true → All (λ run. run.0 + run.1 ≤ product sizes) runs
-    → numbers ≡ found → stored_spans f (plain_chain index) shape at_end sizes state.value ≡ Ok (spans_of found) → groups ≡ grouped → AreGroups shape sizes (joined_runs runs) grouped → GroupedShard f codec inner index shape at_end sizes type fill state (joined_runs runs) numbers groups
-grouped_shard {shape = shape} {sizes = sizes} shard runs lengths found numbers grouped groups same positive divided inside numbers_are at groups_are are = record {
+    (numbers : List ℕ) (runs : List (ℕ × ℕ)) (lengths : List ℕ) (grouped groups : List InnerRuns) → IsIndex f codec sizes state.value numbers → lengths ≡ shape → All (λ size. 0 < size) lengths → is_divided shape sizes ≡ true → All (λ run. run.0 + run.1 ≤ product sizes) runs
+    → groups ≡ grouped → AreGroups shape sizes (joined_runs runs) grouped → GroupedShard f codec inner index shape at_end sizes type fill state (joined_runs runs) numbers groups
+grouped_shard {f = f} {codec = codec} {inner = inner} {index = index} {shape = shape} {at_end = at_end} {sizes = sizes} {state = state} shard numbers runs lengths grouped groups indexed same positive divided inside groups_are are = record {
   shard = shard;
-  at = at ∙ ap (λ (ns : List ℕ). ok (spans_of ns)) (sym numbers_are);
+  at = spans_known f codec (plain_chain inner) (plain_chain index) shape at_end sizes state.value shard.value numbers shard.is shard.value_is indexed;
   cut = is_cut shape sizes (subst (All (λ size. 0 < size)) same positive) divided;
   below = places_below (product sizes) runs inside;
   are = subst (AreGroups shape sizes (joined_runs runs)) (sym groups_are) are;
@@ -60,8 +61,8 @@ module _ {B : Type 0} {f : BytesCodecs B} {codec : PlainCodec B} {inner index : 
   abbrev index_size : ℕ
   index_size = (known it.shard places).size
 
-  abbrev of_groups : StorageState → Result Chunk CodecError
-  of_groups now = stored_groups_read (chain_read f (plain_chain inner)) shape type fill now.value (spans_of numbers) (map group groups)
+  abbrev of_groups : Result Chunk CodecError
+  of_groups = stored_groups_read (chain_read f (plain_chain inner)) shape type fill state.value (spans_of numbers) (map group groups)
 
   spans_at : spans_by shape at_end (chain_chunk f (plain_chain index)) sizes it.shard.value index_size ≡ Ok (spans_of numbers)
   spans_at =
@@ -85,43 +86,47 @@ module _ {B : Type 0} {f : BytesCodecs B} {codec : PlainCodec B} {inner index : 
     inside = it.are.inside;
   }
 
-  by_groups : (order : List ℕ) → IsReadingOrder shape sizes places order → all_read it.shard places ≡ (of_groups state >>= λ joined. ok (select joined order))
+  by_groups : (order : List ℕ) → IsReadingOrder shape sizes places order → all_read it.shard places ≡ (of_groups >>= λ joined. ok (select joined order))
   by_groups order o =
       by_spans it.shard places
       ∙ ap (λ (r : Result (List Span) CodecError). r >>= λ spans. spans_read (chain_read f (plain_chain inner)) shape sizes type fill it.shard.value places spans) it.at
       ∙ grouped_read (chain_read f (plain_chain inner)) shape sizes type fill it.shard.value places (spans_of numbers) order (chain_each f (plain_chain inner).array_to_array (plain_chain inner).array_to_bytes (plain_chain inner).bytes_to_bytes shape type fill) counted it.cut it.below o
       ∙ (λ i. stored_groups_read (chain_read f (plain_chain inner)) shape type fill (sym it.shard.value_is i) (spans_of numbers) (sym it.are.groups i) >>= λ joined. ok (select joined order))
 
-  -- behind the index the handle's state is the same
-  module _ (now : StorageState) (same : now ≡ state) where
-    -- a group is rejected
-    pub groups_error : (order : List ℕ) → IsReadingOrder shape sizes places order → (error : CodecError) → of_groups now ≡ Err error → all_read it.shard places ≡ Err error
-    groups_error order o error e = by_groups order o ∙ ap (λ (r : Result Chunk CodecError). r >>= λ joined. ok (select joined order)) (ap of_groups (sym same) ∙ e)
+  -- a group is rejected
+  pub groups_error : (order : List ℕ) → IsReadingOrder shape sizes places order → (error : CodecError) → of_groups ≡ Err error → all_read it.shard places ≡ Err error
+  groups_error order o error e = by_groups order o ∙ ap (λ (r : Result Chunk CodecError). r >>= λ joined. ok (select joined order)) e
 
-    -- what their read rests on is sure where all is
-    pub groups_sure : are_given_sure state.sure (codec_rests_on f codec sizes type fill state.value places) ≡ true → are_given_sure now.sure (stored_groups_rest (chain_rests f (plain_chain inner)) shape type fill now.value (spans_of numbers) (map group groups)) ≡ true
-    groups_sure sure =
-        ap (λ (s : StorageState). are_given_sure s.sure (stored_groups_rest (chain_rests f (plain_chain inner)) shape type fill s.value (spans_of numbers) (map group groups))) same
-        ∙ ap (λ (v : Option (List ℕ)). are_given_sure state.sure (stored_groups_rest (chain_rests f (plain_chain inner)) shape type fill v (spans_of numbers) (map group groups))) it.shard.value_is
-        ∙ ap (λ (gs : List (ℕ × List ℕ)). are_given_sure state.sure (groups_rest (chain_rests f (plain_chain inner)) shape type fill it.shard.value (spans_of numbers) gs)) it.are.groups
-        ∙ (all_sure it.shard places sure).groups (spans_of numbers) spans_at counted
+  behind_grouped : rests_behind f codec sizes type fill state.value places ≡ groups_rest (chain_rests f (plain_chain inner)) shape type fill it.shard.value (spans_of numbers) (groups_of shape sizes places)
+  behind_grouped =
+      (λ i. rests_behind f (it.shard.is i) sizes type fill (it.shard.value_is i) places)
+      ∙ behind_are f (plain_chain inner) (plain_chain index) shape at_end sizes type fill it.shard.value places
+      ∙ ap (spans_rest (chain_rests f (plain_chain inner)) shape sizes type fill it.shard.value places) (ap (λ (v : Option (List ℕ)). stored_spans f (plain_chain index) shape at_end sizes v) (sym it.shard.value_is) ∙ it.at)
+      ∙ grouped_rests (chain_rests f (plain_chain inner)) shape sizes type fill it.shard.value places (spans_of numbers) counted
 
-    -- all are read, and put in their order
-    pub groups_answered : (joined : Held) → IsOkAnd (of_groups now) (Holds type joined) → (order : Option (Vec (ℕ × ℕ) Global)) → IsReadingOrder shape sizes places (order_places (length places) order)
-        → (count : ℕ) → count ≡ min (length places) (2 ^ 64 - 1) → length places < 2 ^ 64 → (result : Result Held CodecError) → PutsInOrder type count joined order result → AnswersBy memory_or_fault (Holds type) result (all_read it.shard places)
-    groups_answered joined h order o count counts few result put =
-        let whole = ok_found (of_groups now) (Holds type joined) h in
-        let read = ap of_groups (sym same) ∙ whole.1 in
-        let count_so : count ≡ length places = count_is (length places) count counts few in
-        let long : length whole.0 ≡ count =
-        groups_long (chain_read f (plain_chain inner)) (chain_count f (plain_chain inner)) shape type fill it.shard.value (spans_of numbers) (map group groups) whole.0
-        (ap (λ (v : Option (List ℕ)). stored_groups_read (chain_read f (plain_chain inner)) shape type fill v (spans_of numbers) (map group groups)) (sym it.shard.value_is) ∙ read)
-        ∙ ap (λ (gs : List (ℕ × List ℕ)). length (places_of_groups gs)) it.are.groups ∙ grouped_count shape sizes places it.cut it.below ∙ sym count_so in
-        let all : all_read it.shard places ≡ ok (select whole.0 (order_places count order)) =
-        by_groups (order_places count order) (subst (λ (n : ℕ). IsReadingOrder shape sizes places (order_places n order)) (sym count_so) o)
-        ∙ ap (λ (r : Result Chunk CodecError). r >>= λ joined. ok (select joined (order_places count order))) read in
-        subst (AnswersBy memory_or_fault (Holds type) result) (sym all) (weaker result (ok (select whole.0 (order_places count order))) (put whole.0 whole.2 long).is)
-      where
-        weaker : (result : Result Held CodecError) (expected : Result Chunk CodecError) → AnswersBy memory (Holds type) result expected → AnswersBy memory_or_fault (Holds type) result expected
-        weaker (Ok x) expected h = h
-        weaker (Err error) expected h = λ unexcused. h (memory_too error unexcused)
+  -- the bytes are sure that the groups rest on
+  pub groups_sure : are_given_sure state.sure (rests_behind f codec sizes type fill state.value places) ≡ true → are_given_sure state.sure (stored_groups_rest (chain_rests f (plain_chain inner)) shape type fill state.value (spans_of numbers) (map group groups)) ≡ true
+  groups_sure h =
+      ap (λ (v : Option (List ℕ)). are_given_sure state.sure (stored_groups_rest (chain_rests f (plain_chain inner)) shape type fill v (spans_of numbers) (map group groups))) it.shard.value_is
+      ∙ ap (λ (gs : List (ℕ × List ℕ)). are_given_sure state.sure (groups_rest (chain_rests f (plain_chain inner)) shape type fill it.shard.value (spans_of numbers) gs)) it.are.groups
+      ∙ ap (are_given_sure state.sure) (sym behind_grouped)
+      ∙ h
+
+  -- all are read, and put in their order
+  pub groups_answered : (joined : Held) → IsOkAnd of_groups (Holds type joined) → (order : Option (Vec (ℕ × ℕ) Global)) → IsReadingOrder shape sizes places (order_places (length places) order)
+      → (count : ℕ) → count ≡ min (length places) (2 ^ 64 - 1) → length places < 2 ^ 64 → (result : Result Held CodecError) → PutsInOrder type count joined order result → AnswersBy memory_or_fault (Holds type) result (all_read it.shard places)
+  groups_answered joined h order o count counts few result put =
+      let whole = ok_found of_groups (Holds type joined) h in
+      let count_so : count ≡ length places = count_is (length places) count counts few in
+      let long : length whole.0 ≡ count =
+      groups_long (chain_read f (plain_chain inner)) (chain_count f (plain_chain inner)) shape type fill it.shard.value (spans_of numbers) (map group groups) whole.0
+      (ap (λ (v : Option (List ℕ)). stored_groups_read (chain_read f (plain_chain inner)) shape type fill v (spans_of numbers) (map group groups)) (sym it.shard.value_is) ∙ whole.1)
+      ∙ ap (λ (gs : List (ℕ × List ℕ)). length (places_of_groups gs)) it.are.groups ∙ grouped_count shape sizes places it.cut it.below ∙ sym count_so in
+      let all : all_read it.shard places ≡ ok (select whole.0 (order_places count order)) =
+      by_groups (order_places count order) (subst (λ (n : ℕ). IsReadingOrder shape sizes places (order_places n order)) (sym count_so) o)
+      ∙ ap (λ (r : Result Chunk CodecError). r >>= λ joined. ok (select joined (order_places count order))) whole.1 in
+      subst (AnswersBy memory_or_fault (Holds type) result) (sym all) (weaker result (ok (select whole.0 (order_places count order))) (put whole.0 whole.2 long).is)
+    where
+      weaker : (result : Result Held CodecError) (expected : Result Chunk CodecError) → AnswersBy memory (Holds type) result expected → AnswersBy memory_or_fault (Holds type) result expected
+      weaker (Ok x) expected h = h
+      weaker (Err error) expected h = λ unexcused. h (memory_too error unexcused)

@@ -38,9 +38,10 @@ use Rattle.zarrs_chain_meaning.specs.vlen.PlainForm.{PlainForm}
 use Rattle.zarrs_chain_meaning.specs.vlen.PlainVlen.{plain_form_of}
 use Rattle.zarrs_plain_vlen.specs.PlainRead.{plain_read}
 use Rattle.zarrs_plain_vlen.specs.VlenRead.{stored_rests_on}
+use Rattle.zarrs_codec_chain.proofs.IndexLaws.{IndexLaws, shard_index}
 use Rattle.zarrs_codec_chain.proofs.PlaceCodecs.{bytes_places, packbits_places, vlen_places, whole_places}
 use Rattle.zarrs_codec_chain.proofs.ShardPlaces.{shard_places, through_places}
-use Rattle.zarrs_codec_chain.specs.CodecPart.{part_of, codec_read, codec_rests_on, Part, bytes_part, packbits_part, shard_part, vlen_part, whole_part}
+use Rattle.zarrs_codec_chain.specs.CodecPart.{part_of, codec_read, Part, bytes_part, packbits_part, shard_part, vlen_part, whole_part}
 use Rattle.zarrs_codec_chain.specs.PartRead.{whole_read}
 use Rattle.zarrs_codec_chain.specs.PlaceLaws.{SameMembers, ReadsEach, IsLawfulReader}
 
@@ -66,7 +67,7 @@ pub record IsBytes {B : Type 0} (m : Meaning B) (p : Part B) (order : Option End
   pub means : m ≡ bytes_meaning order
   pub does : p ≡ bytes_part order
 
--- What is read of places, and what that rests on, keeps what is asked of it. Where it is planned, what places rest on doesn't go by what is stored, values that agree there are read alike, and the ranges have these bytes. What is planned is read in part; a codec reads all in part, or nothing and then by the whole chunk, of all bytes; where it has a plain form, by that. Only `bytes` replaces its places' bytes alone.
+-- What is read of places, and what that rests on, keeps what is asked of it, and so does an index; a codec that has one reads in part. Where it is planned, what places rest on doesn't go by what is stored, values that agree there are read alike, and the ranges have these bytes. What is planned is read in part; a codec reads all in part, or nothing and then by the whole chunk, of all bytes; where it has a plain form, by that. Only `bytes` replaces its places' bytes alone.
 pub record IsLawfulPart {B : Type 0} (m : Meaning B) (x : Facts) (p : Part B) : Type 1 where
   pub places : (f : BytesCodecs B) → IsLawfulReader f m (p.read f) (p.rests_on f)
   pub rests_alike : (f : BytesCodecs B) (sizes : List ℕ) (type : ElementType) (fill : List ℕ) (stored : Option (List ℕ)) (places : List ℕ) → p.plans ≡ true → p.rests_on f sizes type fill None places ≡ p.rests_on f sizes type fill stored places
@@ -79,6 +80,8 @@ pub record IsLawfulPart {B : Type 0} (m : Meaning B) (x : Facts) (p : Part B) : 
   pub plainly : (f : BytesCodecs B) (form : PlainForm) (sizes : List ℕ) (type : ElementType) (fill : List ℕ) (stored : Option (List ℕ)) (places : List ℕ) → x.plain ≡ Some form → p.read f sizes type fill stored places ≡ plain_read form (product sizes) type fill stored places
   pub rests_plainly : (f : BytesCodecs B) (form : PlainForm) (sizes : List ℕ) (type : ElementType) (fill : List ℕ) (stored : Option (List ℕ)) (places : List ℕ) → x.plain ≡ Some form → p.rests_on f sizes type fill stored places ≡ Ok (stored_rests_on form (product sizes) stored places)
   pub in_place : (order : Option Endianness) → p.in_place ≡ Some order → IsBytes m p order
+  pub indexed : (f : BytesCodecs B) → IndexLaws f (p.read f) (p.rests_on f) p.indexed
+  pub index_asks : is_some p.indexed ≡ true → x.reads.partial_decode ≡ true
 
 -- ---- read whole
 
@@ -99,6 +102,8 @@ whole_part_laws m x reads none = record {
   plainly = λ f form sizes type fill stored places e. absurd (let none = none in cc);
   rests_plainly = λ f form sizes type fill stored places e. absurd (let none = none in cc);
   in_place = λ order e. absurd cc;
+  indexed = λ f. tt;
+  index_asks = λ e. absurd cc;
 }
 
 -- ---- bytes, packbits
@@ -124,6 +129,8 @@ bytes_part_laws order = record {
   plainly = λ f form sizes type fill stored places e. absurd cc;
   rests_plainly = λ f form sizes type fill stored places e. absurd cc;
   in_place = λ other e. record { means = ap bytes_meaning (order_is order other e); does = ap bytes_part (order_is order other e) };
+  indexed = λ f. tt;
+  index_asks = λ e. absurd cc;
 }
 
 packed_alike : {B : Type 0} (settings : PackBitsSettings) (f : BytesCodecs B) (value other : List ℕ) (Agreeing : List ℕ → Type 0)
@@ -152,6 +159,8 @@ packbits_part_laws settings = record {
   plainly = λ f form sizes type fill stored places e. absurd cc;
   rests_plainly = λ f form sizes type fill stored places e. absurd cc;
   in_place = λ order e. absurd cc;
+  indexed = λ f. tt;
+  index_asks = λ e. absurd cc;
 }
 
 -- ---- vlen
@@ -174,6 +183,8 @@ vlen_part_laws codec (Some form) p reads = record {
   plainly = λ f other sizes type fill stored places e. ap (λ (x : PlainForm). plain_read x (product sizes) type fill stored places) (some_is form other (sym p ∙ e));
   rests_plainly = λ f other sizes type fill stored places e. ap (λ (x : PlainForm). ok (stored_rests_on x (product sizes) stored places)) (some_is form other (sym p ∙ e));
   in_place = λ order e. absurd cc;
+  indexed = λ f. tt;
+  index_asks = λ e. absurd cc;
 }
 
 -- ---- shards
@@ -193,6 +204,8 @@ shard_part_laws arrays m p outer index shape at_end laws = record {
   plainly = λ f form sizes type fill stored places e. absurd cc;
   rests_plainly = λ f form sizes type fill stored places e. absurd cc;
   in_place = λ order e. absurd cc;
+  indexed = λ f. shard_index f arrays m p outer index shape at_end (laws f);
+  index_asks = λ e. refl;
 }
 
 -- ---- all of them
@@ -248,14 +261,8 @@ each_any read each = record {
 pub codec_any : {B : Type 0} (f : BytesCodecs B) (codec : PlainCodec B) (sizes : List ℕ) (type : ElementType) (fill : List ℕ) (stored : Option (List ℕ)) → ReadsInAnyOrder (codec_read f codec sizes type fill stored)
 codec_any f codec sizes type fill stored = each_any (codec_read f codec sizes type fill stored) (((part_laws codec).places f).each sizes type fill stored)
 
-same_sure : (sure : Option (ℕ → Bool)) (P : Type 0) (one other : Result (List ℕ) CodecError) → ((test : ℕ → Bool) → seen (list_all test) one ≡ seen (list_all test) other) → WhereTheseAreSure sure other P → WhereTheseAreSure sure one P
+pub same_sure : (sure : Option (ℕ → Bool)) (P : Type 0) (one other : Result (List ℕ) CodecError) → ((test : ℕ → Bool) → seen (list_all test) one ≡ seen (list_all test) other) → WhereTheseAreSure sure other P → WhereTheseAreSure sure one P
 same_sure sure P (Err e) other same h = tt
 same_sure None P (Ok ns) other same h = λ e. absurd cc
 same_sure (Some sure) P (Ok ns) (Ok ms) same h = λ e. h (ok_is (list_all sure ms) (list_all sure ns) (sym (same sure)) ∙ e)
 same_sure (Some sure) P (Ok ns) (Err x) same h = absurd (let e = same sure in cc)
-
--- where the bytes are sure that places rest on, those are that the same places in another order rest on
-pub codec_sure_alike : {B : Type 0} (f : BytesCodecs B) (codec : PlainCodec B) (sure : Option (ℕ → Bool)) (ps qs : List ℕ) → SameMembers ps qs → (sizes : List ℕ) (type : ElementType) (fill : List ℕ) (stored : Option (List ℕ)) (P : Type 0)
-    → WhereTheseAreSure sure (codec_rests_on f codec sizes type fill stored qs) P → WhereTheseAreSure sure (codec_rests_on f codec sizes type fill stored ps) P
-codec_sure_alike f codec sure ps qs same sizes type fill stored P h =
-    same_sure sure P (codec_rests_on f codec sizes type fill stored ps) (codec_rests_on f codec sizes type fill stored qs) (((part_laws codec).places f).rests_each sizes type fill stored ps qs same) h

@@ -14,6 +14,8 @@ pub mod SizeLaw
 pub mod Making
 pub mod ReadLaws
 pub mod OpenedValues
+pub mod IndexLaws
+pub mod IndexReads
 pub mod RegionReads
 pub mod RegionWrites
 pub mod PlannedPlaces
@@ -37,4 +39,5 @@ pub mod LeafReads
 pub mod WholeSpans
 pub mod ShardParts
 pub mod GroupedShards
+pub mod StoredIndex
 pub mod GroupSteps

@@ -1,5 +1,5 @@
 -- Reads of regions that go through array-to-array codecs as regions.
-use Rattle.std.proofs.Common.{◌≡◌, ◌^◌, ◌<◌, ℕ, true, Some, None, List, [], ◌∷◌, get_or, map, Result, Ok, Err, IfOk, refl, ap, sym, ◌∙◌, subst}
+use Rattle.std.proofs.Common.{◌≡◌, ◌^◌, ◌<◌, ℕ, Bool, true, Some, None, List, [], ◌∷◌, get_or, map, Result, Ok, Err, IfOk, refl, ap, sym, ◌∙◌, subst}
 use Rattle.std.specs.Prelude.{IfErr, IsOkAnd}
 use Rattle.std.specs.List.{All, flat_map, list_all}
 use Rattle.std.proofs.lemmas.List.{map-id}
@@ -34,15 +34,17 @@ use Rattle.zarrs_chain_meaning.specs.PlainChain.{PlainChain}
 use Rattle.zarrs_bytes.proofs.Coding.{ok, bind_ok}
 use Rattle.zarrs_chain_meaning.proofs.ArraySteps.{ok_is, ok_no_err}
 use Rattle.zarrs_chain_meaning.proofs.NestedStages.{chained_of}
-use Rattle.zarrs_codec_chain.specs.ChunkRead.{WhereSure, asks_in_part, encoded_places}
+use Rattle.zarrs_codec_chain.specs.ChunkRead.{asks_in_part, encoded_places}
+use Rattle.zarrs_codec_chain.specs.KeptIndex.{WhereSureBy, rests_where}
 use Rattle.zarrs_chain_meaning.specs.ChunkForm.{ChunkForm}
-use Rattle.zarrs_codec_chain.specs.CodecPart.{codec_read, codec_rests_on}
+use Rattle.zarrs_codec_chain.specs.CodecPart.{codec_read}
 use Rattle.zarrs_codec_chain.specs.PlaceLaws.{SameMembers}
 use Rattle.zarrs_codec_chain.specs.ChunkSource.{Source, bytes_above, chunk_below, source_places, source_read}
 use Rattle.zarrs_codec_chain.proofs.PartialReads.{IsReadable}
 use Rattle.zarrs_codec_chain.proofs.PlaceWrites.{memory_too}
 use Rattle.zarrs_codec_chain.proofs.SureReads.{where_sure}
-use Rattle.zarrs_codec_chain.proofs.LawfulPart.{codec_any, codec_sure_alike}
+use Rattle.zarrs_codec_chain.proofs.IndexReads.{sure_alike}
+use Rattle.zarrs_codec_chain.proofs.LawfulPart.{codec_any}
 
 -- ---- what is read of places in any order
 
@@ -125,12 +127,12 @@ module _ {B : Type 0} (f : BytesCodecs B) (form : ChunkForm B) (encoded : List �
       ∙ ap (list_all test) (each_alone (window_places last))
 
   -- the bytes that a read of the last window rests on
-  pub region_sure_where : (before : StorageState) (places : List ℕ) (P : Type 0) → ok (window_places last) ≡ ok places → taken_form f form.chain form.sizes form.type form.fill ≡ Ok (encoded, r)
-      → (asks_in_part form.chain.bytes_to_bytes form.chain.array_to_bytes ≡ true → IfOk (codec_rests_on f form.chain.array_to_bytes encoded form.type form.fill before.value places) (λ numbers. are_sure before.sure numbers ≡ true → P)) → WhereSure f form before (subset region) P
-  region_sure_where before places P at taken sure =
-      where_sure f form before (subset region) P encoded r (map h.map_is.to (window_places (window_of form.sizes region))) region_goes taken
-      (λ asks. codec_sure_alike f form.chain.array_to_bytes before.sure (map h.map_is.to (window_places (window_of form.sizes region))) (window_places last) region_members encoded form.type form.fill before.value P
-      (subst (λ ps. IfOk (codec_rests_on f form.chain.array_to_bytes encoded form.type form.fill before.value ps) (λ numbers. are_sure before.sure numbers ≡ true → P)) (sym (ok_is (window_places last) places at)) (sure asks)))
+  pub region_sure_where : (known : Bool) (before : StorageState) (places : List ℕ) (P : Type 0) → ok (window_places last) ≡ ok places → taken_form f form.chain form.sizes form.type form.fill ≡ Ok (encoded, r)
+      → (asks_in_part form.chain.bytes_to_bytes form.chain.array_to_bytes ≡ true → IfOk (rests_where known f form.chain.array_to_bytes encoded form.type form.fill before.value places) (λ numbers. are_sure before.sure numbers ≡ true → P)) → WhereSureBy known f form before (subset region) P
+  region_sure_where known before places P at taken sure =
+      where_sure known f form before (subset region) P encoded r (map h.map_is.to (window_places (window_of form.sizes region))) region_goes taken
+      (λ asks. sure_alike f known form.chain.array_to_bytes before.sure (map h.map_is.to (window_places (window_of form.sizes region))) (window_places last) region_members encoded form.type form.fill before.value P
+      (subst (λ ps. IfOk (rests_where known f form.chain.array_to_bytes encoded form.type form.fill before.value ps) (λ numbers. are_sure before.sure numbers ≡ true → P)) (sym (ok_is (window_places last) places at)) (sure asks)))
 
 -- ---- calls
 

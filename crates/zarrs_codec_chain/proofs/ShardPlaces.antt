@@ -35,7 +35,7 @@ use Rattle.zarrs_codec.specs.declared.bytes_representation.BytesRepresentation.{
 use Rattle.zarrs_codec_chain.proofs.ShardReads.{members_mapped, members_inside, parts_of, picked, in_turn_is, shard_each, through_each}
 use Rattle.zarrs_codec_chain.specs.PartRead.{PlaceReader}
 use Rattle.zarrs_codec_chain.specs.PlaceLaws.{Resting, read_through, rests_through, SameMembers, RestsEach, IsSame, ReadsBy, SelectsOfChunk, IsLawfulReader}
-use Rattle.zarrs_codec_chain.specs.ShardRead.{spans_by, span_read, inner_read, inner_reads, in_turn, spans_read, shard_read, index_bytes_at, span_rests, inner_rests, inner_chunks_rest, spans_rest, shard_rests}
+use Rattle.zarrs_codec_chain.specs.ShardRead.{spans_by, spans_in, span_read, inner_read, inner_reads, in_turn, spans_read, shard_read, index_bytes_at, span_rests, inner_rests, inner_chunks_rest, spans_rest, shard_rests, shard_rests_behind}
 use Rattle.zarrs_data_type.specs.Element.{Element, absent, Chunk, fill_element}
 use Rattle.zarrs_data_type.specs.ElementType.{ElementType}
 use Rattle.zarrs_shard_runs.specs.PlacesInside.{if_inside, places_of_inner}
@@ -105,6 +105,13 @@ pub shard_rests_each : (shape : List ℕ) (at_end : Bool) (measure : Measure) (i
 shard_rests_each shape at_end measure index rests law sizes type fill None ps qs same test = refl
 shard_rests_each shape at_end measure index rests law sizes type fill (Some value) ps qs same test =
     behind_size rests shape sizes type fill value (law shape type fill) ps qs same test at_end index (index_size measure shape sizes)
+
+-- and behind the index
+pub shard_behind_each : (shape : List ℕ) (at_end : Bool) (measure : Measure) (index : Decoder) (rests : Resting) → ((sizes : List ℕ) (type : ElementType) (fill : List ℕ) (stored : Option (List ℕ)) → RestsEach (rests sizes type fill stored))
+    → (sizes : List ℕ) (type : ElementType) (fill : List ℕ) (stored : Option (List ℕ)) → RestsEach (shard_rests_behind shape at_end measure index rests sizes type fill stored)
+shard_behind_each shape at_end measure index rests law sizes type fill None ps qs same test = refl
+shard_behind_each shape at_end measure index rests law sizes type fill (Some value) ps qs same test =
+    spans_same rests shape sizes type fill value (law shape type fill) ps qs same test (spans_in shape at_end measure index sizes value)
 
 mapped_rests : (rests : Resting) (type : ElementType) (fill : List ℕ) (stored : Option (List ℕ)) → ((sizes : List ℕ) → RestsEach (rests sizes type fill stored)) → (ps qs : List ℕ) → SameMembers ps qs → (test : ℕ → Bool) (m : Result CoordinateMap CodecError)
     → seen (list_all test) (m >>= λ m. rests m.encoded type fill stored (map m.to ps)) ≡ seen (list_all test) (m >>= λ m. rests m.encoded type fill stored (map m.to qs))

@@ -15,7 +15,7 @@ use Rattle.zarrs_chain_meaning.proofs.ShardNormal.{shard_taken}
 use Rattle.zarrs_chain_meaning.specs.CodecMeaning.{meaning, chain_chunk, chain_representation, codec_normal_element, codec_representation}
 use Rattle.zarrs_chain_meaning.specs.PlainChain.{PlainChain, PlainCodec, sharding_codec_of}
 use Rattle.zarrs_chain_meaning.specs.sharding.InnerChunks.{grid}
-use Rattle.zarrs_chain_meaning.specs.sharding.Sharding.{Span, is_stored, spanned_bytes}
+use Rattle.zarrs_chain_meaning.specs.sharding.Sharding.{Span, is_stored, spanned_bytes, spans_of}
 use Rattle.zarrs_chunk.specs.Answer.{◌>>=◌, demand}
 use Rattle.zarrs_chunk.specs.declared.codec_error.CodecError.{CodecError}
 use Rattle.zarrs_chunk.specs.declared.codec_error.CodecError.TheVariants.{InvalidByteRange}
@@ -26,7 +26,8 @@ use Rattle.zarrs_codec_chain.proofs.GroupedReads.{ShardSure, moved_sure, shard_s
 use Rattle.zarrs_codec_chain.proofs.SpanSeen.{HasValue, IsInside, inside_seen, span_value, stands_value}
 use Rattle.zarrs_codec_chain.specs.ChunkRead.{are_given_sure}
 use Rattle.zarrs_codec_chain.specs.CodecPart.{codec_read, codec_rests_on}
-use Rattle.zarrs_codec_chain.specs.ShardRead.{span_read, span_rests, spans_read, shard_rests}
+use Rattle.zarrs_codec_chain.specs.KeptIndex.{IsIndex, codec_spans, rests_behind}
+use Rattle.zarrs_codec_chain.specs.ShardRead.{span_read, span_rests, spans_read, spans_rest, shard_rests}
 use Rattle.zarrs_codec_chain.specs.SpanReads.{StandsIn, chain_read, chain_rests, inner_span, seen_state, span_parts, stored_index_bytes, stored_span_read, stored_span_rests, stored_spans}
 use Rattle.zarrs_codec_chain.specs.declared.sharding.value_span.ValueSpan.{ValueSpan}
 use Rattle.zarrs_data_type.specs.Element.{absent, Chunk}
@@ -98,6 +99,36 @@ shard_rests_are : {B : Type 0} (f : BytesCodecs B) (inner index : PlainChain B) 
 unfolding meaning
 shard_rests_are f inner index shape at_end sizes type fill value places = refl
 
+-- where its inner chunks stand, and what is read of them
+pub spans_are : {B : Type 0} (f : BytesCodecs B) (inner index : PlainChain B) (shape : List ℕ) (at_end : Bool) (sizes value : List ℕ)
+    → codec_spans f (sharding_codec_of inner index shape at_end) sizes value ≡ stored_spans f index shape at_end sizes (Some value)
+unfolding meaning
+spans_are f inner index shape at_end sizes value = refl
+
+pub behind_are : {B : Type 0} (f : BytesCodecs B) (inner index : PlainChain B) (shape : List ℕ) (at_end : Bool) (sizes : List ℕ) (type : ElementType) (fill value places : List ℕ)
+    → rests_behind f (sharding_codec_of inner index shape at_end) sizes type fill (Some value) places ≡ spans_rest (chain_rests f inner) shape sizes type fill value places (stored_spans f index shape at_end sizes (Some value))
+unfolding meaning
+behind_are f inner index shape at_end sizes type fill value places = refl
+
+-- by numbers that are its index
+pub spans_known : {B : Type 0} (f : BytesCodecs B) (codec : PlainCodec B) (inner index : PlainChain B) (shape : List ℕ) (at_end : Bool) (sizes : List ℕ) (stored : Option (List ℕ)) (value numbers : List ℕ)
+    → codec ≡ sharding_codec_of inner index shape at_end → stored ≡ Some value → IsIndex f codec sizes stored numbers → stored_spans f index shape at_end sizes stored ≡ Ok (spans_of numbers)
+spans_known f codec inner index shape at_end sizes stored value numbers is there h =
+    ap (stored_spans f index shape at_end sizes) there
+    ∙ sym (spans_are f inner index shape at_end sizes value)
+    ∙ ap (λ (c : PlainCodec _). codec_spans f c sizes value) (sym is)
+    ∙ subst (λ (s : Option (List ℕ)). IsIndex f codec sizes s numbers) there h
+
+-- and numbers that are read are its index
+pub index_known : {B : Type 0} (f : BytesCodecs B) (codec : PlainCodec B) (inner index : PlainChain B) (shape : List ℕ) (at_end : Bool) (sizes : List ℕ) (stored : Option (List ℕ)) (value numbers : List ℕ)
+    → codec ≡ sharding_codec_of inner index shape at_end → stored ≡ Some value → stored_spans f index shape at_end sizes stored ≡ Ok (spans_of numbers) → IsIndex f codec sizes stored numbers
+index_known f codec inner index shape at_end sizes stored value numbers is there h =
+    subst (λ (s : Option (List ℕ)). IsIndex f codec sizes s numbers) (sym there)
+    (ap (λ (c : PlainCodec _). codec_spans f c sizes value) is
+    ∙ spans_are f inner index shape at_end sizes value
+    ∙ ap (stored_spans f index shape at_end sizes) (sym there)
+    ∙ h)
+
 -- of a chunk that is taken
 shard_form_is : {B : Type 0} (f : BytesCodecs B) (inner index : CodecChain B) (shape : List ℕ) (at_end : Bool) (sizes : List ℕ) (type : ElementType) (fill : List ℕ)
     → codec_representation f (sharding_codec_of (plain_chain inner) (plain_chain index) shape at_end) sizes type fill ≡ shard_represented f inner index shape sizes type fill
@@ -150,7 +181,7 @@ module _ {B : Type 0} {f : BytesCodecs B} {codec : PlainCodec B} {inner index : 
     given (Ok numbers) h = (numbers, refl, h)
     given (Err error) h = absurd cc
 
-    pub all_sure : ShardSure shape at_end (chain_chunk f (plain_chain index)) (chain_rests f (plain_chain inner)) sizes type fill shard.value places state.sure known.size
+    all_sure : ShardSure shape at_end (chain_chunk f (plain_chain index)) (chain_rests f (plain_chain inner)) sizes type fill shard.value places state.sure known.size
     all_sure =
         let rests_are : codec_rests_on f codec sizes type fill state.value places ≡ shard_rests shape at_end (chain_representation f (plain_chain index)) (chain_chunk f (plain_chain index)) (chain_rests f (plain_chain inner)) sizes type fill (Some shard.value) places =
         (λ i. codec_rests_on f (shard.is i) sizes type fill (shard.value_is i) places) ∙ shard_rests_are f (plain_chain inner) (plain_chain index) shape at_end sizes type fill shard.value places in

@@ -12,7 +12,7 @@ use Rattle.zarrs_array_to_array.specs.ArrayToArrayCodec.{ArrayMapping}
 use Rattle.zarrs_chain_meaning.specs.Chain.{codec_reads, taken_form}
 use Rattle.zarrs_codec_chain.specs.ChunkRead.{are_given_sure, are_asked_sure, asks_in_part, encoded_places, read_rests_on, reads_surely, WhereSure}
 use Rattle.zarrs_chain_meaning.specs.ChunkForm.{ChunkForm}
-use Rattle.zarrs_codec_chain.specs.CodecPart.{codec_rests_on}
+use Rattle.zarrs_codec_chain.specs.KeptIndex.{WhereSureBy, read_rests_where, rests_where}
 use Rattle.zarrs_codec_chain.specs.vlen.VlenPartialDecoder.{CodecForm, CodecWhereSure, codec_reads_surely, codec_selection_rests_on}
 use Rattle.zarrs_bytes.proofs.Coding.{ok}
 use Rattle.zarrs_chain_meaning.proofs.ArraySteps.{error_is}
@@ -24,9 +24,9 @@ sure_if sure P (Ok numbers) true h = h refl
 sure_if sure P (Ok numbers) false h = tt
 sure_if sure P (Err e) b h = tt
 
-pub where_sure : {B : Type 0} (f : BytesCodecs B) (form : ChunkForm B) (before : StorageState) (selection : Selection) (P : Type 0) (encoded : List ℕ) (r : BytesRepresentation) (places : List ℕ) → encoded_places form.type form.chain.array_to_array form.sizes selection ≡ Ok places → taken_form f form.chain form.sizes form.type form.fill ≡ Ok (encoded, r)
-    → (asks_in_part form.chain.bytes_to_bytes form.chain.array_to_bytes ≡ true → IfOk (codec_rests_on f form.chain.array_to_bytes encoded form.type form.fill before.value places) (λ numbers. are_sure before.sure numbers ≡ true → P)) → WhereSure f form before selection P
-where_sure f form before selection P encoded r places a b h = rw (a, b) (sure_if before.sure P (codec_rests_on f form.chain.array_to_bytes encoded form.type form.fill before.value places) (asks_in_part form.chain.bytes_to_bytes form.chain.array_to_bytes) h)
+pub where_sure : {B : Type 0} (known : Bool) (f : BytesCodecs B) (form : ChunkForm B) (before : StorageState) (selection : Selection) (P : Type 0) (encoded : List ℕ) (r : BytesRepresentation) (places : List ℕ) → encoded_places form.type form.chain.array_to_array form.sizes selection ≡ Ok places → taken_form f form.chain form.sizes form.type form.fill ≡ Ok (encoded, r)
+    → (asks_in_part form.chain.bytes_to_bytes form.chain.array_to_bytes ≡ true → IfOk (rests_where known f form.chain.array_to_bytes encoded form.type form.fill before.value places) (λ numbers. are_sure before.sure numbers ≡ true → P)) → WhereSureBy known f form before selection P
+where_sure known f form before selection P encoded r places a b h = rw (a, b) (sure_if before.sure P (rests_where known f form.chain.array_to_bytes encoded form.type form.fill before.value places) (asks_in_part form.chain.bytes_to_bytes form.chain.array_to_bytes) h)
 
 anyway : (sure : Option (ℕ → Bool)) (P : Type 0) (r : Result (Option (List ℕ)) CodecError) → P → IfOk r (λ plan. IfSome plan (λ numbers. are_sure sure numbers ≡ true → P))
 anyway sure P (Ok (Some numbers)) h = λ s. h
@@ -34,8 +34,8 @@ anyway sure P (Ok None) h = tt
 anyway sure P (Err e) h = tt
 
 -- what holds anyway holds where bytes are sure
-pub sure_anyway : {B : Type 0} (f : BytesCodecs B) (form : ChunkForm B) (before : StorageState) (selection : Selection) (P : Type 0) → P → WhereSure f form before selection P
-sure_anyway f form before selection P h = anyway before.sure P (read_rests_on f form before.value selection) h
+pub sure_anyway : {B : Type 0} (known : Bool) (f : BytesCodecs B) (form : ChunkForm B) (before : StorageState) (selection : Selection) (P : Type 0) → P → WhereSureBy known f form before selection P
+sure_anyway known f form before selection P h = anyway before.sure P (read_rests_where known f form before.value selection) h
 
 surely_by : (sure : Option (ℕ → Bool)) (P : Type 0) (r : Result (Option (List ℕ)) CodecError) → IfOk r (λ asked. IfSome asked (λ numbers. are_sure sure numbers ≡ true → P)) → are_asked_sure sure r ≡ true → P
 surely_by sure P (Ok (Some numbers)) h e = h e

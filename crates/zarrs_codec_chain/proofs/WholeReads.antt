@@ -45,6 +45,7 @@ filled_from f form encoded r s kept_at stored source t k e = rw (t, k) e
 pub uncached_filled : {B : Type 0} (f : BytesCodecs B) (form : ChunkForm B) (encoded : List ℕ) (r : BytesRepresentation) (cache : Cache) (stored : Option (List ℕ)) → taken_form f form.chain form.sizes form.type form.fill ≡ Ok (encoded, r) → is_cache cache ≡ false
     → source_made_at f form (kept_stage cache) stored ≡ Ok (source_of form.type (product encoded) (length form.chain.bytes_to_bytes) stored cache)
 uncached_filled f form encoded r kept.Handle stored e u = rw e refl
+uncached_filled f form encoded r (kept.Index index) stored e u = rw e refl
 uncached_filled f form encoded r (kept.Bytes below value) stored e u = absurd cc
 uncached_filled f form encoded r (kept.Chunk held) stored e u = absurd cc
 

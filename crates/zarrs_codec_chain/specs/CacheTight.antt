@@ -33,6 +33,7 @@ IsTight-prop type held =
 
 pub CacheIsTight-prop : (type : ElementType) (cache : Cache) → IsProp (CacheIsTight type cache)
 CacheIsTight-prop type kept.Handle = hlevel props
+CacheIsTight-prop type (kept.Index index) = hlevel props
 CacheIsTight-prop type (kept.Bytes below value) = hlevel props
 CacheIsTight-prop type (kept.Chunk None) = hlevel props
 CacheIsTight-prop type (kept.Chunk (Some held)) = IsTight-prop type held

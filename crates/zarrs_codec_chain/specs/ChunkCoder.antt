@@ -1,5 +1,5 @@
 -- What a coder of chunks is made of, and what its calls read.
-use Rattle.std.specs.Prelude.{◌≡◌, ℕ, Bool, Option, List, length, Ok, true, IfOk, IfErr, Err, Some, Result, false}
+use Rattle.std.specs.Prelude.{◌≡◌, ◌&&◌, ℕ, Bool, Option, List, length, Ok, true, IfOk, IfErr, Err, Some, Result, false}
 use Rattle.zarrs_chunk.specs.ChunkShape.{product}
 use Rattle.zarrs_array_regions.specs.KeptRegions.{IsKept, keeps_regions}
 use Rattle.zarrs_chunk.specs.Indexer.{selection_of}
@@ -7,9 +7,9 @@ use Rattle.zarrs_chunk.specs.Region.{Region}
 use Rattle.zarrs_chunk.specs.declared.indexer.Indexer.{Indexer}
 use Rattle.zarrs_chain.specs.ChainView.{plain_chain}
 use Rattle.zarrs_codec.specs.BytesToBytesCodec.{BytesCodecs}
-use Rattle.zarrs_codec_chain.specs.ChunkRead.{WhereSure, asks_in_part, form_in_place, form_places, standing_places}
+use Rattle.zarrs_codec_chain.specs.ChunkRead.{asks_in_part, form_in_place, form_places, standing_places}
 use Rattle.zarrs_chain_meaning.specs.ChunkForm.{ChunkForm}
-use Rattle.zarrs_codec_chain.specs.CodecPart.{codec_rests_on}
+use Rattle.zarrs_codec_chain.specs.KeptIndex.{IsIndexOf, WhereSureBy, asks_index, knows_index, keeps_nothing, rests_where}
 use Rattle.zarrs_codec_chain.specs.ChunkSource.{Source, is_cache, kept_stage, source_made_at, source_of, bytes_above, opened_chunk, source_places, source_read}
 use Rattle.zarrs_codec_chain.specs.declared.chunk_coder.ChunkCoder.{ChunkCoder}
 use Rattle.zarrs_chunk.specs.Answer.{AnswersBy, GivesBy, memory, memory_or_fault, seen, is_fault}
@@ -44,6 +44,23 @@ coder_is_cached coder = is_cache coder.cache
 abbrev pub IsFilledFrom : {B : Type 0} {b : _} → BytesCodecs B → ChunkCoder B b → Option (List ℕ) → Type 0
 IsFilledFrom f coder stored =
     source_made_at f (coder_form coder) (kept_stage coder.cache) stored ≡ Ok (reader_source coder stored)
+
+-- it keeps a shard's index
+abbrev pub coder_knows_index : {B : Type 0} {b : _} → ChunkCoder B b → Bool
+coder_knows_index coder = knows_index coder.cache
+
+-- it keeps nothing
+abbrev pub coder_keeps_nothing : {B : Type 0} {b : _} → ChunkCoder B b → Bool
+coder_keeps_nothing coder = keeps_nothing coder.cache
+
+-- it reads a shard by its index, and keeps nothing yet
+abbrev pub coder_wants_index : {B : Type 0} {b : _} → ChunkCoder B b → Bool
+coder_wants_index coder =
+    coder_keeps_nothing coder && asks_index (plain_chain coder.chain.now).bytes_to_bytes (plain_chain coder.chain.now).array_to_bytes
+
+-- the index that it keeps, if it keeps one, is that of this value, or of none
+abbrev pub IsIndexFrom : {B : Type 0} {b : _} → BytesCodecs B → ChunkCoder B b → Option (List ℕ) → Type 0
+IsIndexFrom f coder stored = IsIndexOf f (plain_chain coder.chain.now) coder.encoded stored coder.cache
 
 -- the array-to-array codecs of its chain keep regions
 abbrev pub coder_keeps_regions : {B : Type 0} {b : _} → ChunkCoder B b → Bool
@@ -89,11 +106,15 @@ abbrev pub GivesOpened : {B : Type 0} {b : _} → BytesCodecs B → ChunkCoder B
 GivesOpened f coder value runs result =
     GivesBy (Holds coder.data_type) result (seen (λ chunk. select chunk (joined_runs runs)) (opened_chunk f (plain_chain coder.chain.now) coder.encoded coder.data_type coder.fill_value coder.representation value))
 
--- no failure of the handle comes where a read asks for a part of the value alone and the bytes are sure that it rests on
-abbrev pub SureSource : {B T : Type 0} {b : _} → ChunkCoder B b → StorageState → List (ℕ × ℕ) → Result T CodecError → Type 0
-SureSource {b = b} coder before runs result =
+-- no failure of the handle comes where a read asks for a part of the value alone and the bytes are sure that it rests on, with a shard's index at hand or without
+abbrev pub SureSourceBy : {B T : Type 0} {b : _} → Bool → ChunkCoder B b → StorageState → List (ℕ × ℕ) → Result T CodecError → Type 0
+SureSourceBy {b = b} known coder before runs result =
     asks_in_part (plain_chain coder.chain.now).bytes_to_bytes (plain_chain coder.chain.now).array_to_bytes ≡ true
-    → IfOk (codec_rests_on b.functions (plain_chain coder.chain.now).array_to_bytes coder.encoded coder.data_type coder.fill_value before.value (joined_runs runs)) (λ numbers. are_sure before.sure numbers ≡ true → is_fault result ≡ false)
+    → IfOk (rests_where known b.functions (plain_chain coder.chain.now).array_to_bytes coder.encoded coder.data_type coder.fill_value before.value (joined_runs runs)) (λ numbers. are_sure before.sure numbers ≡ true → is_fault result ≡ false)
+
+-- the same, by what it keeps
+abbrev pub SureSource : {B T : Type 0} {b : _} → ChunkCoder B b → StorageState → List (ℕ × ℕ) → Result T CodecError → Type 0
+SureSource coder before runs result = SureSourceBy (coder_knows_index coder) coder before runs result
 
 -- with a cache the handle is left alone: it is the one that it was
 abbrev pub LeavesAlone : {H B : Type 0} {b : _} → ChunkCoder B b → (before after : H) → Type 0
@@ -119,7 +140,7 @@ ReadsSelected {b = b} coder before selection result =
 -- no failure of the handle comes where a read of the selection asks for a part of the value alone and the bytes are sure that it rests on
 abbrev pub SureSelected : {B T : Type 0} {b : _} → ChunkCoder B b → StorageState → Selection → Result T CodecError → Type 0
 SureSelected {b = b} coder before selection result =
-    WhereSure b.functions (coder_form coder) before selection (is_fault result ≡ false)
+    WhereSureBy (coder_knows_index coder) b.functions (coder_form coder) before selection (is_fault result ≡ false)
 
 -- where the indexer is rejected, this is what is answered, or a lack of memory: no failure of the handle comes in its place
 abbrev pub RefusedAtIndexer : {B : Type 0} {b : _} → ChunkCoder B b → Indexer → Result Held CodecError → Type 0

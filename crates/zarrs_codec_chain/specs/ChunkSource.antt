@@ -1,6 +1,6 @@
 -- What a partial decoder's answers rest on, and what of it a cache keeps.
 -- Source: zarrs, `CodecChain::partial_decoder`.
-use Rattle.std.specs.Prelude.{◌≡◌, ℕ, suc, ◌-◌, ◌^◌, ◌&&◌, not, nat_le, min, Bool, true, false, if◌then◌else◌, Option, Some, None, option_map, List, [], ◌∷◌, length, map, take, drop, is_ok, is_some, Result, Ok}
+use Rattle.std.specs.Prelude.{◌≡◌, ℕ, suc, ◌+◌, ◌-◌, ◌*◌, ◌^◌, ◌&&◌, not, nat_le, min, Bool, true, false, if◌then◌else◌, Option, Some, None, option_map, List, [], ◌∷◌, length, map, take, drop, is_ok, is_some, Result, Ok}
 use Rattle.zarrs_chunk.specs.Answer.{◌>>=◌, Answers, memory_or_fault}
 use Rattle.zarrs_chunk.specs.Selection.{Selection}
 use Rattle.zarrs_chunk.specs.declared.codec_error.CodecError.{CodecError}
@@ -127,12 +127,14 @@ MakesSource view f reads form stored result = Answers memory_or_fault (λ made. 
 -- what answers rest on by a cache, where the handle has this value
 abbrev pub source_of : ElementType → ℕ → ℕ → Option (List ℕ) → Cache → Source
 source_of type count codecs stored kept.Handle = bytes_above codecs stored
+source_of type count codecs stored (kept.Index index) = bytes_above codecs stored
 source_of type count codecs stored (kept.Bytes below value) = bytes_above below (option_map (λ bytes. bytes.items) value)
 source_of type count codecs stored (kept.Chunk held) = chunk_below (option_map (elements type count) held)
 
 -- the cache is one of a chunk of so many elements, for a chain of so many bytes-to-bytes codecs: bytes are kept only where the array-to-bytes codec reads in part
 abbrev pub cache_fits : PartialDecoderCapability → ElementType → ℕ → ℕ → Cache → Bool
 cache_fits reads type count codecs kept.Handle = true
+cache_fits reads type count codecs (kept.Index index) = true
 cache_fits reads type count codecs (kept.Bytes below value) = reads.partial_decode && nat_le below codecs
 cache_fits reads type count codecs (kept.Chunk None) = true
 cache_fits reads type count codecs (kept.Chunk (Some held)) = is_ok (validity type count held)
@@ -140,6 +142,7 @@ cache_fits reads type count codecs (kept.Chunk (Some held)) = is_ok (validity ty
 -- where the cache stands
 abbrev pub kept_stage : Cache → CacheStage
 kept_stage kept.Handle = stage.Nowhere
+kept_stage (kept.Index index) = stage.Nowhere
 kept_stage (kept.Bytes below value) = stage.Bytes below
 kept_stage (kept.Chunk held) = stage.Chunk
 
@@ -151,12 +154,15 @@ is_source_stored (chunk_below chunk) = is_some chunk
 -- the handle is left alone
 abbrev pub is_cache : Cache → Bool
 is_cache kept.Handle = false
+is_cache (kept.Index index) = false
 is_cache (kept.Bytes below value) = true
 is_cache (kept.Chunk held) = true
 
--- how many bytes are kept in memory: the cache's alone, or else the handle's
+-- how many bytes are kept in memory: the cache's alone, or else the handle's and those of a shard's index, 8 for each of its numbers
 abbrev pub held_by : ℕ → Cache → ℕ
 held_by handle kept.Handle = handle
+held_by handle (kept.Index None) = handle
+held_by handle (kept.Index (Some index)) = min (handle + 8 * length index.numbers.items) (2 ^ 64 - 1)
 held_by handle (kept.Bytes below None) = 0
 held_by handle (kept.Bytes below (Some value)) = length value.items
 held_by handle (kept.Chunk None) = 0

@@ -1,5 +1,5 @@
 -- What each array-to-bytes codec does in part, as one record: what a read of places answers and rests on, what is planned, and whether a write replaces its places' bytes alone.
-use Rattle.std.specs.Prelude.{ℕ, suc, Bool, true, false, Option, Some, None, IsOkAnd, List, [], ◌∷◌, Ok}
+use Rattle.std.specs.Prelude.{ℕ, suc, Bool, true, false, Option, Some, None, IsOkAnd, List, [], ◌∷◌, Result, Ok}
 use Rattle.zarrs_bytes.specs.CountLaws.{read_count}
 use Rattle.zarrs_bytes.specs.PartialRead.{place_bytes, place_size, read_places}
 use Rattle.zarrs_bytes.specs.PlannedRanges.{IsPlan as IsElementPlan}
@@ -8,13 +8,15 @@ use Rattle.zarrs_chain_meaning.specs.Meaning.{Meaning, through}
 use Rattle.zarrs_chain_meaning.specs.PlainChain.{PlainCodec, bytes_codec, packbits_codec, vlen_v2_codec, vlen_codec, optional_codec, sharding_codec}
 use Rattle.zarrs_chain_meaning.specs.vlen.PlainVlen.{plain_form_of}
 use Rattle.zarrs_chain_meaning.specs.vlen.PlainForm.{PlainForm}
+use Rattle.zarrs_chain_meaning.specs.sharding.Sharding.{Span}
 use Rattle.zarrs_chunk.specs.ChunkShape.{product}
+use Rattle.zarrs_chunk.specs.declared.codec_error.CodecError.{CodecError}
 use Rattle.zarrs_array_to_array.specs.ArrayToArrayCodec.{ArrayMapping}
 use Rattle.zarrs_codec.specs.BytesToBytesCodec.{BytesCodecs}
 use Rattle.zarrs_codec.specs.ByteSpan.{ByteSpan}
 use Rattle.zarrs_codec_chain.specs.PartRead.{PlaceReader, whole_read, AnswersEach, whole_count, plain_count}
 use Rattle.zarrs_codec_chain.specs.PlaceLaws.{Resting, read_through, rests_through, whole_rests}
-use Rattle.zarrs_codec_chain.specs.ShardRead.{shard_count, shard_read, shard_rests}
+use Rattle.zarrs_codec_chain.specs.ShardRead.{index_bytes_in, shard_count, shard_read, shard_rests, shard_rests_behind, spans_in}
 use Rattle.zarrs_data_type.specs.ElementType.{ElementType}
 use Rattle.zarrs_data_type.specs.Form.{form_of}
 use Rattle.zarrs_data_type.specs.declared.endianness.Endianness.{Endianness}
@@ -25,6 +27,12 @@ use Rattle.zarrs_packbits.specs.ReadPlan.{IsPackBitsPlan}
 use Rattle.zarrs_plain_vlen.specs.PlainRead.{plain_read}
 use Rattle.zarrs_plain_vlen.specs.VlenRead.{stored_rests_on}
 
+-- Of a codec whose values have an index: where the inner chunks of a value stand, by its index; the numbers of the index's bytes; and what a read of places rests on behind it.
+pub record IndexPart (B : Type 0) : Type 0 where
+  pub spans : BytesCodecs B → List ℕ → List ℕ → Result (List Span) CodecError
+  pub bytes : BytesCodecs B → List ℕ → List ℕ → Result (List ℕ) CodecError
+  pub rests_behind : BytesCodecs B → Resting
+
 -- The bytes that are there may be none: nothing is stored. A read answers an element for each place. What is asked of a plan, and of what a read rests on, is asked of places of the chunk that the codec gets. The depth is how many shards stand in one another.
 pub record Part (B : Type 0) : Type 1 where
   pub read : BytesCodecs B → PlaceReader
@@ -34,6 +42,7 @@ pub record Part (B : Type 0) : Type 1 where
   pub IsPlanned : List ℕ → ElementType → List ℕ → List ℕ → List ByteSpan → Type 0
   pub in_place : Option (Option Endianness)
   pub depth : ℕ
+  pub indexed : Option (IndexPart B)
 
 -- ---- read and written whole
 
@@ -47,6 +56,7 @@ whole_part m = record {
   IsPlanned = λ sizes type fill places ranges. ⊥;
   in_place = None;
   depth = 0;
+  indexed = None;
 }
 
 -- ---- bytes, packbits
@@ -61,6 +71,7 @@ bytes_part order = record {
   IsPlanned = λ sizes type fill places ranges. IsElementPlan (place_size type) places ranges;
   in_place = Some order;
   depth = 0;
+  indexed = None;
 }
 
 -- The bytes that have bits of the places, whatever is stored; the ranges likewise.
@@ -73,6 +84,7 @@ packbits_part settings = record {
   IsPlanned = λ sizes type fill places ranges. IsOkAnd (packed_layout settings (form_of sizes type fill)) (λ layout. IsPackBitsPlan layout places ranges);
   in_place = None;
   depth = 0;
+  indexed = None;
 }
 
 -- ---- vlen
@@ -98,6 +110,11 @@ shard_part arrays m p outer index shape at_end = record {
   IsPlanned = λ sizes type fill places ranges. ⊥;
   in_place = None;
   depth = suc p.depth;
+  indexed = Some (record {
+    spans = λ f. spans_in shape at_end (index.representation f) (index.chunk f);
+    bytes = λ f. index_bytes_in shape at_end (index.representation f);
+    rests_behind = λ f. shard_rests_behind shape at_end (index.representation f) (index.chunk f) (rests_through arrays (p.rests_on f) outer);
+  });
 }
 
 -- ---- all of them

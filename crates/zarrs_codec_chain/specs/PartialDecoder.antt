@@ -1,12 +1,15 @@
 -- What a partial decoder of a chain is made of.
-use Rattle.std.specs.Prelude.{◌≡◌, ℕ, Bool, Option, is_some, List, Result, Ok, Err, true, IsOkAnd}
+use Rattle.std.specs.Prelude.{◌≡◌, ℕ, ◌+◌, ◌-◌, ◌^◌, min, Bool, Option, is_some, List, Result, Ok, Err, true, false, IfOk, IsOkAnd}
+use Rattle.zarrs_chunk.specs.Answer.{is_fault}
+use Rattle.zarrs_chunk.specs.Selection.{Selection}
 use Rattle.zarrs_chunk.specs.declared.codec_error.CodecError.{CodecError}
 use Rattle.zarrs_codec.specs.ArrayReader.{ArrayReader}
 use Rattle.zarrs_codec.specs.BytesToBytesCodec.{BytesCodecs}
 use Rattle.zarrs_codec.specs.StorageState.{StorageState, after_reading}
 use Rattle.zarrs_codec.specs.declared.refused.Refused.{Refused}
-use Rattle.zarrs_codec_chain.specs.ChunkCoder.{coder_form, reader_source}
+use Rattle.zarrs_codec_chain.specs.ChunkCoder.{coder_form, coder_keeps_nothing, coder_knows_index, reader_source}
 use Rattle.zarrs_codec_chain.specs.ChunkRead.{reads_surely, stored_read}
+use Rattle.zarrs_codec_chain.specs.KeptIndex.{WhereSureBy, asks_index, form_index, index_bytes}
 use Rattle.zarrs_chain_meaning.specs.ChunkForm.{ChunkForm}
 use Rattle.zarrs_codec_chain.specs.ChunkSource.{Source, held_by, is_cache, IsSizeOf, source_made}
 use Rattle.zarrs_codec_chain.specs.declared.partial_decoder.array_partial_decoder.ArrayPartialDecoder.{ArrayPartialDecoder}
@@ -28,7 +31,15 @@ decoder_source decoder stored = reader_source decoder.coder stored
 abbrev pub is_cached : {H B : Type 0} {h : _} {b : _} → ArrayPartialDecoder H B h b → Bool
 is_cached decoder = is_cache decoder.coder.cache
 
--- how many bytes are kept in memory, where the handle keeps so many: the cache's alone, or else the handle's
+-- a decoder keeps a shard's index
+abbrev pub is_indexed : {H B : Type 0} {h : _} {b : _} → ArrayPartialDecoder H B h b → Bool
+is_indexed decoder = coder_knows_index decoder.coder
+
+-- a decoder keeps nothing
+abbrev pub is_bare : {H B : Type 0} {h : _} {b : _} → ArrayPartialDecoder H B h b → Bool
+is_bare decoder = coder_keeps_nothing decoder.coder
+
+-- how many bytes are kept in memory, where the handle keeps so many: the cache's alone, or else the handle's and those of a shard's index
 abbrev pub decoder_held : {H B : Type 0} {h : _} {b : _} → ArrayPartialDecoder H B h b → ℕ → ℕ
 decoder_held decoder held = held_by held decoder.coder.cache
 
@@ -65,3 +76,18 @@ DecoderLeavesAlone before after = is_cached before ≡ true → handle_of after 
 abbrev pub KeepsCache : {H B : Type 0} {h : _} {b : _} → (H → StorageState) → BytesCodecs B → (B → PartialDecoderCapability) → ArrayPartialDecoder H B h b → ℕ → Type 0
 KeepsCache state f reads decoder size =
     is_cached decoder ≡ true → IsOkAnd (source_made f reads (decoder_form decoder) (state (handle_of decoder)).value) (λ source. IsSizeOf (decoder_form decoder).type source size)
+
+-- beside what its handle keeps in memory, a decoder that keeps a shard's index has its bytes: 16 for each inner chunk
+abbrev pub KeepsIndex : {H B : Type 0} {h : _} {b : _} → (H → StorageState) → BytesCodecs B → (H → ℕ) → ArrayPartialDecoder H B h b → ℕ → Type 0
+KeepsIndex state f held decoder size =
+    is_indexed decoder ≡ true → IsOkAnd (form_index f (decoder_form decoder) (state (handle_of decoder)).value) (λ index. size ≡ min (held (handle_of decoder) + index_bytes index) (2 ^ 64 - 1))
+
+-- Over `sharding_indexed` without bytes-to-bytes codecs a read that is answered leaves the index kept; and one that is kept stays.
+pub record LeavesIndex {H B T : Type 0} {h : _} {b : _} (before after : ArrayPartialDecoder H B h b) (result : Result T CodecError) : Type 0 where
+  pub kept : is_cached before ≡ false → asks_index (decoder_form before).chain.bytes_to_bytes (decoder_form before).chain.array_to_bytes ≡ true → IfOk result (λ _. is_indexed after ≡ true)
+  pub stays : is_indexed before ≡ true → is_indexed after ≡ true
+
+-- with a shard's index that is kept, no failure of the handle comes where the bytes of the inner chunks are sure that the answer rests on, whatever else is
+abbrev pub SureByIndex : {H B T : Type 0} {h : _} {b : _} → (H → StorageState) → BytesCodecs B → ArrayPartialDecoder H B h b → Selection → Result T CodecError → Type 0
+SureByIndex state f decoder selection result =
+    is_indexed decoder ≡ true → WhereSureBy true f (decoder_form decoder) (state (handle_of decoder)) selection (is_fault result ≡ false)

@@ -104,6 +104,12 @@ abbrev pub index_bytes_at : Bool → ℕ → List ℕ → List ℕ
 index_bytes_at false size value = range_with_len 0 size
 index_bytes_at true size value = range_with_len (length value - size) size
 
+-- the same, by how many bytes the index chain makes of an index
+abbrev pub index_bytes_in : List ℕ → Bool → Measure → List ℕ → List ℕ → Result (List ℕ) CodecError
+index_bytes_in shape at_end measure sizes value = do
+  size ← index_size measure shape sizes
+  Ok (index_bytes_at at_end size value)
+
 -- those of the inner chunk at a span, which its own read rests on; none where it isn't stored, or ends behind the value
 abbrev pub span_rests : Bool → Resting → List ℕ → ElementType → List ℕ → List ℕ → Span → List ℕ → Result (List ℕ) CodecError
 span_rests false rests shape type fill value span places = Ok []
@@ -135,6 +141,11 @@ groups_rest rests shape type fill value spans (group ∷ groups) = do
 abbrev pub spans_rest : Resting → List ℕ → List ℕ → ElementType → List ℕ → List ℕ → List ℕ → Result (List Span) CodecError → Result (List ℕ) CodecError
 spans_rest rests shape sizes type fill value places (Ok spans) = inner_chunks_rest rests shape sizes type fill value places 0 spans
 spans_rest rests shape sizes type fill value places (Err cause) = Ok []
+
+-- what a read of `sharding_indexed` rests on behind its index, by what one of its inner chain rests on
+abbrev pub shard_rests_behind : List ℕ → Bool → Measure → Decoder → Resting → Resting
+shard_rests_behind shape at_end measure index rests sizes type fill None places = Ok []
+shard_rests_behind shape at_end measure index rests sizes type fill (Some value) places = spans_rest rests shape sizes type fill value places (spans_in shape at_end measure index sizes value)
 
 -- what a read of `sharding_indexed` rests on, by what one of its inner chain rests on: the index, and what the inner reads rest on
 abbrev pub shard_rests : List ℕ → Bool → Measure → Decoder → Resting → Resting

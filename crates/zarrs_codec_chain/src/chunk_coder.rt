@@ -44,7 +44,7 @@ pub(crate) struct ChunkCoder<'a, B: BytesToBytesCodecTraits> {
 }
 
 impl<'a, B: BytesToBytesCodecTraits> ChunkCoder<'a, B> {
-    ghost use Rattle.zarrs_codec_chain.specs.ChunkCoder.{coder_form, coder_is_cached, reader_source, IsFilledFrom};
+    ghost use Rattle.zarrs_codec_chain.specs.ChunkCoder.{coder_form, coder_keeps_nothing, reader_source, IsFilledFrom, IsIndexFrom};
 
     /// A coder of such a chunk without a cache. Errors: those of the chain's representation.
     pub(crate) fn uncached(
@@ -57,7 +57,7 @@ impl<'a, B: BytesToBytesCodecTraits> ChunkCoder<'a, B> {
         ensures answer { Gives (λ it. (it.encoded, it.representation)) result (taken_form_of
             B.functions (plain_chain chain.now) shape.now data_type.now fill_value.now) }
         ensures form { HasChunkForm coder_form chain.now shape.now data_type.now fill_value.now result }
-        ensures uncached { IfOk result (λ coder. coder_is_cached coder ≡ false) }
+        ensures uncached { IfOk result (λ coder. coder_keeps_nothing coder ≡ true) }
     {
         let shape = shape.clone()?;
         let data_type = data_type.clone()?;
@@ -95,6 +95,8 @@ impl<'a, B: BytesToBytesCodecTraits> ChunkCoder<'a, B> {
             (plain_chain chain.now) shape.now data_type.now fill.now) result }
         ensures cache_filled { IfOk result
             (λ it. IsFilledFrom B.functions it (H.state handle.old).value) }
+        ensures index { IfOk result
+            (λ it. IsIndexFrom B.functions it (H.state handle.old).value) }
         ensures counted { IfOk result
             (λ it. FilledOnce H.calls (is_cache it.cache) handle.old handle.new) }
         ensures left { H.state handle.new ≡ after_reading result (H.state handle.old) }

@@ -55,7 +55,7 @@ impl<B: BytesToBytesCodecTraits> CodecChainPartialTraits<B> for CodecChain<B> {
     /// aside: those of `encoded_representation`, before the handle is asked; with a cache,
     /// `Storage`, and then those of what decodes the value up to the cache: `BytesCodec` of the
     /// last bytes-to-bytes codec, then of the one before; and where the cache holds elements, over
-    /// `optional`, `sharding_indexed`, `vlen-utf8`, `vlen-bytes` and a `vlen` that isn't plain, what
+    /// `optional`, `vlen-utf8`, `vlen-bytes` and a `vlen` that isn't plain, what
     /// `CodecChain::decode` rejects of the value of this codec:
     ///
     /// - of `vlen` `InvalidBytesLength`, `IndexLength`, `Overflow`, those of the index chain,
@@ -63,12 +63,10 @@ impl<B: BytesToBytesCodecTraits> CodecChainPartialTraits<B> for CodecChain<B> {
     /// - of `vlen-utf8` and `vlen-bytes` `InvalidBytesLength`, `ElementCount`,
     ///   `InvalidBytesLength`;
     /// - of `optional` `InvalidBytesLength`, `HeaderOverflow`, `InvalidBytesLength`, those of the
-    ///   mask chain, `MaskValue`, those of the data chain;
-    /// - of `sharding_indexed` `InvalidBytesLength`, those of the index chain, and then of each
-    ///   inner chunk that is stored `InvalidByteRange`, those of the inner chain.
+    ///   mask chain, `MaskValue`, those of the data chain.
     ///
     /// An error hands the handle back, as it stands. With a cache the handle is asked once, and
-    /// without one never.
+    /// without one never: the index of a shard is read by the decoder's first read, and kept.
     fn partial_decoder<'a, H: BytesPartialDecoderTraits>(
         &'a self,
         alloc: Global,

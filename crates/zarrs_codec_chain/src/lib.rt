@@ -9,9 +9,9 @@
 //!
 //! Its array-to-bytes codec is one of `bytes`, `packbits`, `vlen`, `vlen-utf8`, `vlen-bytes`,
 //! `optional` and `sharding_indexed` ([`ArrayToBytesCodec`]). Over `bytes`, `packbits` and a plain
-//! `vlen` a read asks for a part of the value, and over `sharding_indexed` for the index and for what
-//! its inner chain asks for of the inner chunks that have any of the places; over any other it decodes
-//! the whole value.
+//! `vlen` a read asks for a part of the value, and over `sharding_indexed` for what its inner chain asks
+//! for of the inner chunks that have any of the places, by the index, which a decoder reads once; over
+//! any other it decodes the whole value.
 #![tactic(auto)]
 
 mod chunk_coder;

@@ -1,7 +1,9 @@
 //! Reading a chunk of `sharding_indexed` in part.
 mod index_read;
 mod inner_reads;
+pub(crate) mod kept_index;
 mod leaf_reads;
+pub(crate) mod shard_index;
 pub(crate) mod shard_runs;
 mod span_bytes;
 mod value_span;

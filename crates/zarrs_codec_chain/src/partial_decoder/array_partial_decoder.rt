@@ -1,5 +1,5 @@
-ghost use Rattle.zarrs_codec_chain.specs.ChunkCoder.{IsFilledFrom, coder_form, coder_is_cached, reader_source};
-ghost use Rattle.std.specs.Prelude.{◌≡◌, ◌&&◌, Ok, IfOk, is_some, true, false};
+ghost use Rattle.zarrs_codec_chain.specs.ChunkCoder.{IsFilledFrom, IsIndexFrom, coder_form, coder_is_cached, reader_source};
+ghost use Rattle.std.specs.Prelude.{◌≡◌, ◌&&◌, Ok, Err, IfOk, IfErr, IsOk, is_some, true, false};
 ghost use Rattle.std.proofs.Props.{props};
 ghost use Rattle.zarrs_chunk.specs.Indexer.{selection_of};
 ghost use Rattle.zarrs_array_bytes.specs.Tight.{IsTight};
@@ -9,8 +9,11 @@ ghost use Rattle.zarrs_codec_chain.specs.ChunkRead.{PlansRead, decodes_parts, Re
 ghost use Rattle.zarrs_codec_chain.specs.ChunkSource.{source_made};
 ghost use Rattle.zarrs_codec_chain.specs.ElementCode.{Chunk-set};
 ghost use Rattle.zarrs_codec_chain.specs.ChunkCalls.{WholeOnce};
+ghost use Rattle.zarrs_codec_chain.specs.KeptIndex.{IsIndexOf-prop, asks_index};
+ghost use Rattle.zarrs_chain.specs.ChainView.{plain_chain};
 
 use crate::chunk_coder::ChunkCoder;
+use crate::partial_decoder::cache::Cache;
 use std::alloc::Global;
 use zarrs_array_bytes::ArrayBytes;
 use zarrs_chain::CodecChain;
@@ -28,20 +31,23 @@ use zarrs_data_type::{DataType, FillValue};
 /// places that are asked for and at no others: it checks neither the value's length nor what else
 /// stands there. Over a plain `vlen`, whose index chain is `bytes` with a byte order and whose data
 /// chain is `bytes`, both alone, it looks at the offsets and at the bytes of the elements that are
-/// asked for. Where a codec can't read or decode a part, what it makes is kept in a cache, which is
-/// filled once, when the decoder is made; after that the handle is left alone. One that was an
-/// encoder (`ArrayPartialEncoder::into_decoder`) has no cache: through such a codec each of its
-/// reads decodes the whole value.
+/// asked for. Over `sharding_indexed` it looks at the index and, of the inner chunks that have any of
+/// the places, at what the inner chain looks at; the index is read by the first read, and kept: later
+/// reads look at inner chunks alone. Where a codec can't read or decode a part, what it makes is kept
+/// in a cache, which is filled once, when the decoder is made; after that the handle is left alone.
+/// One that was an encoder (`ArrayPartialEncoder::into_decoder`) has no cache: through such a codec
+/// each of its reads decodes the whole value.
 #[derive(Drop)]
 pub struct ArrayPartialDecoder<'a, H: BytesPartialDecoderTraits, B: BytesToBytesCodecTraits> {
     pub(crate) handle: H,
     pub(crate) coder: ChunkCoder<'a, B>,
     ghost kept: { IsFilledFrom B.functions coder (H.state handle).value } by { Prim.hlevel (props, Chunk-set) },
+    ghost index: { IsIndexFrom B.functions coder (H.state handle).value } by { IsIndexOf-prop B.functions (plain_chain coder.chain.now) coder.encoded (H.state handle).value coder.cache },
     ghost wanted: { coder_is_cached coder ≡ true → source_made B.functions B.reads_in_part (coder_form coder) (H.state handle).value ≡ Ok (reader_source coder (H.state handle).value) } by { Prim.hlevel (props, Chunk-set) },
 }
 
 impl<'a, H: BytesPartialDecoderTraits, B: BytesToBytesCodecTraits> ArrayPartialDecoder<'a, H, B> {
-    ghost use Rattle.zarrs_codec_chain.specs.PartialDecoder.{decoder_held, decoder_form, handle_of, is_cached, DecoderLeaves, DecoderLeavesAlone, KeepsCache};
+    ghost use Rattle.zarrs_codec_chain.specs.PartialDecoder.{decoder_held, decoder_form, handle_of, is_bare, is_cached, is_indexed, DecoderLeaves, DecoderLeavesAlone, KeepsCache, KeepsIndex, LeavesIndex, SureByIndex};
 
     /// The type of the elements.
     pub fn data_type(&self) -> &DataType
@@ -50,30 +56,58 @@ impl<'a, H: BytesPartialDecoderTraits, B: BytesToBytesCodecTraits> ArrayPartialD
         self.coder.data_type()
     }
 
+    /// Reads the index of a shard, where the chain has one and it isn't kept yet, and keeps it. Errors:
+    /// those of `ChunkCoder::read_index`.
+    fn keep_index(&mut self, alloc: Global, indexer: &Indexer) -> Result<(), CodecError>
+        ensures reads { IfErr result (λ cause. ReadsStoredChunk B.functions
+            (decoder_form self.old) (H.state (handle_of self.old)) (selection_of indexer.now)
+            (Err cause)) }
+        ensures left { DecoderLeaves H.state H.lent self.old self.new result }
+        ensures index { LeavesIndex self.old self.new result }
+        ensures sure_by_index { is_indexed self.old ≡ true → IsOk result }
+        ensures no_fault_if_cached { is_cached self.old ≡ true → IsOk result }
+        ensures alone { asks_index (decoder_form self.old).chain.bytes_to_bytes
+            (decoder_form self.old).chain.array_to_bytes ≡ false
+            → handle_of self.new ≡ handle_of self.old }
+    {
+        let Some(codec) = self.coder.unread_shard() else {
+            return Ok(());
+        };
+        let index = self
+            .coder
+            .read_index(alloc, codec, &mut self.handle, indexer)?;
+        self.coder.cache = Cache::Index(index);
+        Ok(())
+    }
+
     /// The elements that the indexer selects, in its order: those of the chunk that the stored
     /// value stands for, and the fill value at each place where nothing is stored. Without
     /// bytes-to-bytes codecs, over `bytes` and `packbits`, the answer rests on the places' bytes
-    /// alone, and over a plain `vlen` on the value's length, the offsets and the elements' bytes,
-    /// whatever else is stored. In what is given offsets begin at 0 and end at the length of the
-    /// bytes, mask bytes are 0 and 1, and absent elements stand over blank ones.
+    /// alone, over a plain `vlen` on the value's length, the offsets and the elements' bytes, and
+    /// over `sharding_indexed` on the value's length, the index and what the inner chain's reads
+    /// rest on of the inner chunks that have any of the places, whatever else is stored. In what is
+    /// given offsets begin at 0 and end at the length of the bytes, mask bytes are 0 and 1, and
+    /// absent elements stand over blank ones.
     ///
     /// Errors, the first that holds, `OutOfMemory` aside: those of `Indexer::check`; `Storage`, but
     /// never of a decoder that has a cache, nor where the answer rests on such bytes alone and all
-    /// of these are sure; `BytesCodec` of the last bytes-to-bytes codec, then of the one before, of
-    /// a decoder that has a cache only of those below it; over `bytes` and `packbits`
-    /// `InvalidByteRange` where a place's bytes lie past the end; over a plain `vlen` those of
-    /// `zarrs_plain_vlen::read_runs`, also where the indexer selects no place; over `optional`,
-    /// `sharding_indexed`, `vlen-utf8`, `vlen-bytes` and any other `vlen`, without a cache, what
-    /// `CodecChain::decode` rejects of the value of this codec:
+    /// of these are sure, but for the index's where that is kept; `BytesCodec` of the last
+    /// bytes-to-bytes codec, then of the one before, of a decoder that has a cache only of those
+    /// below it; over `bytes` and `packbits` `InvalidByteRange` where a place's bytes lie past the
+    /// end; over a plain `vlen` those of `zarrs_plain_vlen::read_runs`, also where the indexer
+    /// selects no place; over `sharding_indexed`, also where it selects none,
+    /// `InvalidBytesLength` where the value has fewer bytes than the index and those of the index
+    /// chain, and then of each inner chunk that has any of the places, in the order of their
+    /// numbers, `InvalidByteRange` where its bytes end behind the value and those of the inner
+    /// chain's read; over `optional`, `vlen-utf8`, `vlen-bytes` and any other `vlen`, without a
+    /// cache, what `CodecChain::decode` rejects of the value of this codec:
     ///
     /// - of `vlen` `InvalidBytesLength`, `IndexLength`, `Overflow`, those of the index chain,
     ///   `InvalidOffsets`, those of the data chain;
     /// - of `vlen-utf8` and `vlen-bytes` `InvalidBytesLength`, `ElementCount`,
     ///   `InvalidBytesLength`;
     /// - of `optional` `InvalidBytesLength`, `HeaderOverflow`, `InvalidBytesLength`, those of the
-    ///   mask chain, `MaskValue`, those of the data chain;
-    /// - of `sharding_indexed` `InvalidBytesLength`, those of the index chain, and then of each
-    ///   inner chunk that is stored `InvalidByteRange`, those of the inner chain.
+    ///   mask chain, `MaskValue`, those of the data chain.
     ///
     /// With a cache over these codecs, it was rejected when the decoder was made.
     pub fn partial_decode(
@@ -89,7 +123,11 @@ impl<'a, H: BytesPartialDecoderTraits, B: BytesToBytesCodecTraits> ArrayPartialD
         ensures counted { is_cached self.old ≡ false → WholeOnce H.calls (decoder_form self.old).chain
             (handle_of self.old) (handle_of self.new) result }
         ensures left { DecoderLeaves H.state H.lent self.old self.new result }
+        ensures index { LeavesIndex self.old self.new result }
+        ensures sure_by_index { SureByIndex H.state B.functions self.old
+            (selection_of indexer.now) result }
     {
+        self.keep_index(alloc, indexer)?;
         self.coder.read_chunk(alloc, &mut self.handle, indexer)
     }
 
@@ -106,9 +144,11 @@ impl<'a, H: BytesPartialDecoderTraits, B: BytesToBytesCodecTraits> ArrayPartialD
         self.coder.exists(&mut self.handle)
     }
 
-    /// How many bytes are kept in memory: the cache's alone, or without a cache the handle's.
+    /// How many bytes are kept in memory: the cache's alone, or without a cache the handle's and those
+    /// of a shard's index, 16 for each inner chunk.
     pub fn size_held(&self) -> usize
-        ensures handle { is_cached self.now ≡ false → result ≡ H.held (handle_of self.now) }
+        ensures handle { is_bare self.now ≡ true → result ≡ H.held (handle_of self.now) }
+        ensures index { KeepsIndex H.state B.functions H.held self.now result }
         ensures cache { KeepsCache H.state B.functions B.reads_in_part self.now result }
         ensures value { result ≡ decoder_held self.now (H.held (handle_of self.now)) }
     {

@@ -1,6 +1,6 @@
 //! Reading a chunk in part through a chain, over a handle that the caller keeps.
-ghost use Rattle.std.specs.Prelude.{◌≡◌, ◌<◌, ◌^◌, All, Ok, IfOk, IfSome, option_map, length, is_some, true};
-ghost use Rattle.zarrs_chunk.specs.Answer.{Gives, GivesItems};
+ghost use Rattle.std.specs.Prelude.{◌≡◌, ◌<◌, ◌+◌, ◌*◌, ◌^◌, All, Ok, Err, IfOk, IfErr, IfSome, option_map, length, is_some, min, [], true, false};
+ghost use Rattle.zarrs_chunk.specs.Answer.{Gives, GivesItems, is_fault};
 ghost use Rattle.zarrs_chunk.specs.ChunkShape.{product};
 ghost use Rattle.zarrs_chunk.specs.Indexer.{selection_of};
 ghost use Rattle.zarrs_chunk.specs.Selection.{subset as subset_of};
@@ -11,23 +11,27 @@ ghost use Rattle.zarrs_codec.specs.HandleCalls.{NeverFailsIf, Tells};
 ghost use Rattle.zarrs_codec.specs.StorageState.{after_reading};
 ghost use Rattle.zarrs_codec_chain.specs.ChunkRead.{decodes_parts, ReadsStoredChunk};
 ghost use Rattle.zarrs_codec_chain.specs.ChunkSource.{held_by, is_cache, is_source_stored};
+ghost use Rattle.zarrs_codec_chain.specs.KeptIndex.{IsIndexOf, WhereSureBy, asks_index};
 ghost use Rattle.zarrs_array_regions.specs.KeptRegions.{kept_region as kept_region_of};
-ghost use Rattle.zarrs_chain.specs.ChainView.{plain_chain};
+ghost use Rattle.zarrs_chain.specs.ChainView.{plain_chain, plain_codec, plain_sharding};
 
 use crate::chunk_coder::ChunkCoder;
 use crate::partial_decoder::cache::Cache;
 use crate::partial_decoder::codec_read::codec_in_place;
 use crate::partial_decoder::encoded_runs::encoded_runs;
+use crate::sharding::kept_index::stored_index;
+use crate::sharding::shard_index::ShardIndex;
 use std::alloc::Global;
 use zarrs_array_bytes::ArrayBytes;
 use zarrs_array_regions::{decoded_window, kept_region, region_runs};
 use zarrs_array_to_array::encoded_places;
 use zarrs_bytes::BytesCodec;
+use zarrs_chain::{ArrayToBytesCodec, ShardingCodec};
 use zarrs_chunk::{ArraySubset, CodecError, Indexer};
 use zarrs_codec::{BytesPartialDecoderTraits, BytesToBytesCodecTraits, CodecTraits};
 
 impl<'a, B: BytesToBytesCodecTraits> ChunkCoder<'a, B> {
-    ghost use Rattle.zarrs_codec_chain.specs.ChunkCoder.{IsFilledFrom, coder_form, coder_is_cached, IsKeptRegion, AreInside, CoderAsksOnce, LeavesAlone, ReadsSelected, RefusedAtIndexer, SureSelected, IsInPlace, coder_keeps_regions, reader_places, reader_source};
+    ghost use Rattle.zarrs_codec_chain.specs.ChunkCoder.{IsFilledFrom, IsIndexFrom, coder_form, coder_is_cached, coder_knows_index, coder_wants_index, IsKeptRegion, AreInside, CoderAsksOnce, LeavesAlone, ReadsSelected, RefusedAtIndexer, SureSelected, IsInPlace, coder_keeps_regions, reader_places, reader_source};
 
     /// Whether all codecs of the chain decode a part.
     pub(crate) fn decodes_parts(&self) -> bool
@@ -95,6 +99,7 @@ impl<'a, B: BytesToBytesCodecTraits> ChunkCoder<'a, B> {
         requires inside { is_box_inside self.now.shape region.now.starts region.now.lengths ≡ true }
         requires filled { 0 < product region.now.lengths }
         requires region_kept { coder_keeps_regions self.now ≡ true }
+        requires index { IsIndexFrom B.functions self.now (H.state handle.old).value }
         ensures answer { ReadsSelected self.now (H.state handle.old) (subset_of region.now) result }
         ensures tight { IfOk result (IsTight self.now.data_type) }
         ensures sure { SureSelected self.now (H.state handle.old) (subset_of region.now) result }
@@ -167,6 +172,7 @@ impl<'a, B: BytesToBytesCodecTraits> ChunkCoder<'a, B> {
         handle: &mut H,
         indexer: &Indexer,
     ) -> Result<ArrayBytes<'static>, CodecError>
+        requires index { IsIndexFrom B.functions self.now (H.state handle.old).value }
         ensures answer { ReadsSelected self.now (H.state handle.old)
             (selection_of indexer.now) result }
         ensures tight { IfOk result (IsTight self.now.data_type) }
@@ -199,9 +205,13 @@ impl<'a, B: BytesToBytesCodecTraits> ChunkCoder<'a, B> {
         indexer: &Indexer,
     ) -> Result<ArrayBytes<'static>, CodecError>
         requires cache_filled { IsFilledFrom B.functions self.now (H.state handle.old).value }
+        requires index { IsIndexFrom B.functions self.now (H.state handle.old).value }
         ensures reads { ReadsStoredChunk B.functions (coder_form self.now) (H.state handle.old)
             (selection_of indexer.now) result }
         ensures tight { IfOk result (IsTight self.now.data_type) }
+        ensures sure_by_index { coder_knows_index self.now ≡ true → WhereSureBy true B.functions
+            (coder_form self.now) (H.state handle.old) (selection_of indexer.now)
+            (is_fault result ≡ false) }
         ensures no_fault_if_cached { NeverFailsIf (coder_is_cached self.now) result }
         ensures alone { LeavesAlone self.now handle.old handle.new }
         ensures counted { CoderAsksOnce H.calls self.now handle.old handle.new result }
@@ -210,6 +220,50 @@ impl<'a, B: BytesToBytesCodecTraits> ChunkCoder<'a, B> {
     {
         self.is_sound();
         self.read(alloc, handle, indexer)
+    }
+
+    /// The codec `sharding_indexed`, where there are no bytes-to-bytes codecs around it and nothing is
+    /// kept of its index.
+    pub(crate) fn unread_shard(&self) -> Option<&'a ShardingCodec<B>>
+        ensures index { is_some result ≡ coder_wants_index self.now }
+        ensures shard { IfSome result (λ shard. (plain_chain self.now.chain.now).array_to_bytes
+            ≡ plain_sharding shard.now) }
+    {
+        match (&self.cache, self.chain.bytes_to_bytes_codecs()) {
+            (Cache::Handle, []) => as_shard(self.chain.array_to_bytes_codec()),
+            _ => None,
+        }
+    }
+
+    /// The index of the shard that the handle keeps; `None` where nothing is stored. Errors, the first
+    /// that holds, `OutOfMemory` aside: those of `Indexer::check`; those of `stored_index`.
+    pub(crate) fn read_index<H: BytesPartialDecoderTraits>(
+        &self,
+        alloc: Global,
+        codec: &ShardingCodec<B>,
+        handle: &mut H,
+        indexer: &Indexer,
+    ) -> Result<Option<ShardIndex>, CodecError>
+        requires shard { (plain_chain self.now.chain.now).array_to_bytes ≡ plain_sharding codec.now }
+        requires index { asks_index (plain_chain self.now.chain.now).bytes_to_bytes
+            (plain_chain self.now.chain.now).array_to_bytes ≡ true }
+        ensures index { IfOk result (λ index. IsIndexOf B.functions (plain_chain self.now.chain.now)
+            self.now.encoded (H.state handle.old).value (Cache.Index index)) }
+        ensures reads { IfErr result (λ cause. ReadsStoredChunk B.functions (coder_form self.now)
+            (H.state handle.old) (selection_of indexer.now) (Err cause)) }
+        ensures left { H.state handle.new ≡ after_reading result (H.state handle.old) }
+        ensures same_reference { H.lent handle.new ≡ H.lent handle.old }
+    {
+        self.is_sound();
+        indexer.check(&self.shape)?;
+        stored_index(
+            alloc,
+            codec,
+            handle,
+            &self.encoded,
+            &self.data_type,
+            &self.fill_value,
+        )
     }
 
     /// Whether something is stored, or was when the cache was filled. Errors: `Storage`.
@@ -226,22 +280,49 @@ impl<'a, B: BytesToBytesCodecTraits> ChunkCoder<'a, B> {
         ensures no_fault_if_cached { NeverFailsIf (is_cache self.now.cache) result }
     {
         match &self.cache {
-            Cache::Handle => handle.exists(),
+            Cache::Handle | Cache::Index(_) => handle.exists(),
             Cache::Bytes(_, value) => Ok(value.is_some()),
             Cache::Chunk(chunk) => Ok(chunk.is_some()),
         }
     }
 
-    /// How many bytes are kept in memory: the cache's alone, or else the handle's.
+    /// How many bytes are kept in memory: the cache's alone, or else the handle's and those of a
+    /// shard's index.
     pub(crate) fn size_held<H: BytesPartialDecoderTraits>(&self, handle: &H) -> usize
         ensures value { result ≡ held_by (H.held handle.now) self.now.cache }
     {
         match &self.cache {
-            Cache::Handle => handle.size_held(),
+            Cache::Handle | Cache::Index(None) => handle.size_held(),
+            Cache::Index(Some(index)) => {
+                with_numbers(handle.size_held(), index.numbers.as_slice().len())
+            }
             Cache::Bytes(_, None) => 0,
             Cache::Bytes(_, Some(value)) => value.len(),
             Cache::Chunk(None) => 0,
             Cache::Chunk(Some(chunk)) => chunk.size(),
         }
+    }
+}
+
+/// So many bytes, and 8 for each of so many numbers.
+fn with_numbers(held: usize, numbers: usize) -> usize
+    ensures value { result ≡ min (held + 8 * numbers) usize.MAX }
+{
+    held.saturating_add(numbers.saturating_mul(8))
+}
+
+/// The codec `sharding_indexed`, where this is one.
+#[tactic(auto, unfolding(zarrs_chain::specs::ChainView::plain_codec), using(zarrs_chain::specs::ChainView::plain_vlen_at, zarrs_chain::specs::ChainView::plain_optional_at, zarrs_chain::specs::ChainView::plain_sharding_at))]
+fn as_shard<B>(codec: &ArrayToBytesCodec<B>) -> Option<&ShardingCodec<B>>
+    ensures shard { IfSome result (λ shard. plain_codec codec.now ≡ plain_sharding shard.now) }
+    ensures index { is_some result ≡ asks_index [] (plain_codec codec.now) }
+{
+    match codec {
+        ArrayToBytesCodec::Sharding(codec) => Some(codec),
+        ArrayToBytesCodec::Bytes(_)
+        | ArrayToBytesCodec::PackBits(_)
+        | ArrayToBytesCodec::VlenV2(_)
+        | ArrayToBytesCodec::Vlen(_)
+        | ArrayToBytesCodec::Optional(_) => None,
     }
 }

@@ -1,6 +1,6 @@
 //! Reading runs of places through an array-to-bytes codec, of a handle or of bytes in memory.
 ghost use Rattle.zarrs_data_type.specs.Form.{form_of};
-ghost use Rattle.std.specs.Prelude.{◌≡◌, ◌<◌, ◌≤◌, ◌+◌, ◌^◌, [], IfOk, All, length, option_map, true, false};
+ghost use Rattle.std.specs.Prelude.{◌≡◌, ◌<◌, ◌≤◌, ◌+◌, ◌^◌, [], IfOk, All, Ok, length, option_map, true, false};
 ghost use Rattle.zarrs_chunk.specs.Answer.{GivesBy, no_refusal};
 ghost use Rattle.zarrs_chunk.specs.ChunkShape.{product};
 ghost use Rattle.zarrs_chunk.specs.Runs.{joined_runs, AreApart};
@@ -12,7 +12,11 @@ ghost use Rattle.zarrs_chain.specs.ChainView.{plain_chain, plain_codec};
 ghost use Rattle.zarrs_codec_chain.specs.ChunkRead.{ChunkReadsRuns, SureRuns};
 ghost use Rattle.zarrs_codec_chain.specs.CodecPart.{codec_plans, codec_read, order_in_place, shard_depth, IsCodecPlan};
 ghost use Rattle.zarrs_codec_chain.specs.CodecRead.{Takes};
+ghost use Rattle.zarrs_codec_chain.specs.KeptIndex.{asks_index, codec_index, index_seen, rests_behind};
+ghost use Rattle.zarrs_codec_chain.specs.SpanReads.{SurePlaces};
 
+use crate::sharding::kept_index::runs_by_index;
+use crate::sharding::shard_index::ShardIndex;
 use crate::sharding::shard_runs::shard_runs;
 use crate::vlen::vlen_runs::vlen_runs;
 use std::alloc::Global;
@@ -102,6 +106,45 @@ pub(crate) fn read_runs<H: BytesPartialDecoderTraits, B: BytesToBytesCodecTraits
         | ArrayToBytesCodec::Optional(_) => {
             plain_runs(alloc, codec, handle, shape, kind, fill, runs)
         }
+    }
+}
+
+/// The same of `sharding_indexed`, by the index that was read of what the handle keeps.
+#[tactic(auto, unfolding(zarrs_chain::specs::ChainView::plain_codec), using(zarrs_chain::specs::ChainView::plain_vlen_at, zarrs_chain::specs::ChainView::plain_optional_at, zarrs_chain::specs::ChainView::plain_sharding_at))]
+pub(crate) fn read_by_index<H: BytesPartialDecoderTraits, B: BytesToBytesCodecTraits>(
+    alloc: Global,
+    codec: &ArrayToBytesCodec<B>,
+    handle: &mut H,
+    index: &Option<ShardIndex>,
+    shape: &ChunkShape,
+    kind: &DataType,
+    fill: &FillValue,
+    runs: &[(u64, u64)],
+) -> Result<ArrayBytes<'static>, CodecError>
+    requires taken { Takes B.functions codec.now shape.now kind.now fill.now }
+    requires shard { asks_index [] (plain_codec codec.now) ≡ true }
+    requires index { codec_index B.functions (plain_codec codec.now) shape.now
+        (H.state handle.old).value ≡ Ok (option_map index_seen index.now) }
+    requires filled { All (λ run. 0 < run.1) runs.now }
+    requires below { All (λ run. run.0 + run.1 ≤ product shape.now) runs.now }
+    requires count { length (joined_runs runs.now) < 2 ^ 64 }
+    ensures answer { ChunkReadsRuns B.functions (plain_codec codec.now)
+        (form_of shape.now kind.now fill.now) (H.state handle.old) runs.now result }
+    ensures tight { IfOk result (IsTight kind.now) }
+    ensures sure { SurePlaces (H.state handle.old) (rests_behind B.functions (plain_codec codec.now)
+        shape.now kind.now fill.now) (joined_runs runs.now) result }
+    ensures left { H.state handle.new ≡ after_reading result (H.state handle.old) }
+    ensures same_reference { H.lent handle.new ≡ H.lent handle.old }
+{
+    match codec {
+        ArrayToBytesCodec::Sharding(codec) => {
+            runs_by_index(alloc, codec, handle, index, shape, kind, fill, runs)
+        }
+        ArrayToBytesCodec::Bytes(_)
+        | ArrayToBytesCodec::PackBits(_)
+        | ArrayToBytesCodec::VlenV2(_)
+        | ArrayToBytesCodec::Vlen(_)
+        | ArrayToBytesCodec::Optional(_) => unreachable!(),
     }
 }
 

@@ -10,6 +10,7 @@ ghost use Rattle.zarrs_chain_meaning.specs.Chain.{codec_reads as codec_reads_of}
 ghost use Rattle.zarrs_chain.specs.ChainView.{plain_chain};
 ghost use Rattle.zarrs_codec_chain.specs.ChunkSource.{undecoded_codecs, cache_stage as cache_stage_of, has_cache, is_cache, kept_stage, stage_by, is_cache_of, is_stage_of, opened_chunk, upper_bytes, FilledOnce, FillsCache};
 ghost use Rattle.zarrs_codec_chain.specs.CacheTight.{CacheIsTight};
+ghost use Rattle.zarrs_codec_chain.specs.KeptIndex.{knows_index};
 ghost use Rattle.zarrs_codec_chain.specs.CodecRead.{CodecTakes};
 
 use crate::partial_decoder::cache::{Cache, CacheStage};
@@ -169,6 +170,7 @@ pub(crate) fn make_cache<H: BytesPartialDecoderTraits, B: BytesToBytesCodecTrait
     ensures counted { IfOk result
         (λ cache. FilledOnce H.calls (is_cache cache) handle.old handle.new) }
     ensures cached { IfOk result (λ cache. is_cache cache ≡ has_cache stage) }
+    ensures index { IfOk result (λ cache. knows_index cache ≡ false) }
     ensures no_fault_if_uncached { stage ≡ CacheStage.Nowhere → is_fault result ≡ false }
 {
     match stage {

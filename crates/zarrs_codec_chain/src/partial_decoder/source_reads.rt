@@ -9,15 +9,17 @@ ghost use Rattle.zarrs_codec.specs.StorageState.{after_reading};
 ghost use Rattle.zarrs_chain.specs.ChainView.{plain_chain};
 ghost use Rattle.zarrs_codec_chain.specs.ChunkCalls.{WholeOnce};
 ghost use Rattle.zarrs_codec_chain.specs.ChunkSource.{is_cache, bytes_above, chunk_below as chunk_source, is_cache_of};
+ghost use Rattle.zarrs_codec_chain.specs.KeptIndex.{IsIndexOf};
 ghost use Rattle.zarrs_chunk.specs.ChunkShape.{product};
 ghost use Rattle.zarrs_array_bytes.specs.Elements.{elements};
 ghost use Rattle.zarrs_codec_chain.specs.CacheTight.{CacheIsTight};
 
 use crate::chunk_coder::ChunkCoder;
 use crate::partial_decoder::cache::Cache;
-use crate::partial_decoder::codec_read::{read_runs, read_runs_of_bytes};
+use crate::partial_decoder::codec_read::{read_by_index, read_runs, read_runs_of_bytes};
 use crate::partial_decoder::fill_runs::fill_runs;
 use crate::partial_decoder::make_cache::{chunk_below as chunk_of_value, codec_reads};
+use crate::sharding::shard_index::ShardIndex;
 use std::alloc::Global;
 use std::borrow::CowSlice;
 use zarrs_array_bytes::{ArrayBytes, ArrayBytesRaw};
@@ -26,7 +28,7 @@ use zarrs_chunk::CodecError;
 use zarrs_codec::{BytesPartialDecoderTraits, BytesToBytesCodecTraits};
 
 impl<'a, B: BytesToBytesCodecTraits> ChunkCoder<'a, B> {
-    ghost use Rattle.zarrs_codec_chain.specs.ChunkCoder.{reader_reads_parts, CoderAsksOnce, GivesOpened, SureSource, AreInside, LeavesAlone, ReadsStored, GivesSource, ReadsSource, reader_source};
+    ghost use Rattle.zarrs_codec_chain.specs.ChunkCoder.{reader_reads_parts, CoderAsksOnce, GivesOpened, IsIndexFrom, SureSource, SureSourceBy, AreInside, LeavesAlone, ReadsStored, GivesSource, ReadsSource, reader_source};
 
     /// The elements at the places of these runs, by the bytes above so many of the first
     /// bytes-to-bytes codecs, or by none. Errors, the first that holds, `OutOfMemory` aside:
@@ -88,7 +90,7 @@ impl<'a, B: BytesToBytesCodecTraits> ChunkCoder<'a, B> {
         requires count { length (joined_runs runs.now) < 2 ^ 64 }
         ensures answer { ReadsStored B.functions self.now (H.state handle.old) runs.now result }
         ensures tight { IfOk result (IsTight self.now.data_type) }
-        ensures sure { SureSource self.now (H.state handle.old) runs.now result }
+        ensures sure { SureSourceBy false self.now (H.state handle.old) runs.now result }
         ensures counted { WholeOnce H.calls
             (plain_chain self.now.chain.now) handle.old handle.new result }
         ensures left { H.state handle.new ≡ after_reading result (H.state handle.old) }
@@ -185,6 +187,39 @@ impl<'a, B: BytesToBytesCodecTraits> ChunkCoder<'a, B> {
         }
     }
 
+    /// The same, by what the handle keeps and the index of the shard that it keeps.
+    fn read_by_index<H: BytesPartialDecoderTraits>(
+        &self,
+        alloc: Global,
+        handle: &mut H,
+        index: &Option<ShardIndex>,
+        runs: &[(u64, u64)],
+    ) -> Result<ArrayBytes<'static>, CodecError>
+        requires index { IsIndexOf B.functions (plain_chain self.now.chain.now) self.now.encoded
+            (H.state handle.old).value (Cache.Index index.now) }
+        requires filled { All (λ run. 0 < run.1) runs.now }
+        requires inside { AreInside self.now runs.now }
+        requires count { length (joined_runs runs.now) < 2 ^ 64 }
+        ensures answer { ReadsStored B.functions self.now (H.state handle.old) runs.now result }
+        ensures tight { IfOk result (IsTight self.now.data_type) }
+        ensures sure { SureSourceBy true self.now (H.state handle.old) runs.now result }
+        ensures counted { WholeOnce H.calls
+            (plain_chain self.now.chain.now) handle.old handle.new result }
+        ensures left { H.state handle.new ≡ after_reading result (H.state handle.old) }
+        ensures same_reference { H.lent handle.new ≡ H.lent handle.old }
+    {
+        read_by_index::<H, B>(
+            alloc,
+            self.chain.array_to_bytes_codec(),
+            handle,
+            index,
+            &self.encoded,
+            &self.data_type,
+            &self.fill_value,
+            runs,
+        )
+    }
+
     /// The elements at the places of these runs of the chunk that the array-to-bytes codec gets.
     pub(crate) fn read_runs<H: BytesPartialDecoderTraits>(
         &self,
@@ -192,6 +227,7 @@ impl<'a, B: BytesToBytesCodecTraits> ChunkCoder<'a, B> {
         handle: &mut H,
         runs: &[(u64, u64)],
     ) -> Result<ArrayBytes<'static>, CodecError>
+        requires index { IsIndexFrom B.functions self.now (H.state handle.old).value }
         requires filled { All (λ run. 0 < run.1) runs.now }
         requires inside { AreInside self.now runs.now }
         requires count { length (joined_runs runs.now) < 2 ^ 64 }
@@ -213,6 +249,7 @@ impl<'a, B: BytesToBytesCodecTraits> ChunkCoder<'a, B> {
                     self.read_whole(alloc, handle, runs)
                 }
             }
+            Cache::Index(index) => self.read_by_index(alloc, handle, index, runs),
             Cache::Bytes(below, value) => self.read_above(alloc, lent_bytes(value), *below, runs),
             Cache::Chunk(chunk) => self.read_kept(alloc, chunk, runs),
         }

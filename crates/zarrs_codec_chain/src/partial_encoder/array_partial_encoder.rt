@@ -1,4 +1,4 @@
-ghost use Rattle.zarrs_codec_chain.specs.ChunkCoder.{coder_is_cached};
+ghost use Rattle.zarrs_codec_chain.specs.ChunkCoder.{coder_keeps_nothing};
 ghost use Rattle.std.specs.Prelude.{◌≡◌, ◌<◌, ◌&&◌, All, Ok, IfOk, None, is_some, false, true};
 ghost use Rattle.zarrs_chunk.specs.Answer.{Answers, fault};
 ghost use Rattle.zarrs_chunk.specs.Indexer.{selection_of};
@@ -36,11 +36,11 @@ use zarrs_data_type::{DataType, FillValue};
 pub struct ArrayPartialEncoder<'a, H: BytesPartialEncoderTraits, B: BytesToBytesCodecTraits> {
     pub(crate) handle: H,
     pub(crate) coder: ChunkCoder<'a, B>,
-    ghost uncached: { coder_is_cached coder ≡ false },
+    ghost uncached: { coder_keeps_nothing coder ≡ true },
 }
 
 impl<'a, H: BytesPartialEncoderTraits, B: BytesToBytesCodecTraits> ArrayPartialEncoder<'a, H, B> {
-    ghost use Rattle.zarrs_codec_chain.specs.PartialDecoder.{decoder_form, handle_of, is_cached};
+    ghost use Rattle.zarrs_codec_chain.specs.PartialDecoder.{decoder_form, handle_of, is_bare, is_cached};
     ghost use Rattle.zarrs_codec_chain.specs.PartialEncoder.{encoder_form, encoder_handle, EncoderReads, EncoderWrites, EncoderWritesOnce, EncoderLeaves};
 
     /// What the chain, the shape and the fill value are made of holds.
@@ -63,26 +63,30 @@ impl<'a, H: BytesPartialEncoderTraits, B: BytesToBytesCodecTraits> ArrayPartialE
     /// The elements that the indexer selects, in its order: those of the chunk that the stored
     /// value stands for, and the fill value at each place where nothing is stored. Without
     /// bytes-to-bytes codecs, over `bytes` and `packbits`, the answer rests on the places' bytes
-    /// alone, and over a plain `vlen` on the value's length, the offsets and the elements' bytes,
-    /// whatever else is stored. In what is given offsets begin at 0 and end at the length of the
-    /// bytes, mask bytes are 0 and 1, and absent elements stand over blank ones.
+    /// alone, over a plain `vlen` on the value's length, the offsets and the elements' bytes, and
+    /// over `sharding_indexed` on the value's length, the index and what the inner chain's reads
+    /// rest on of the inner chunks that have any of the places, whatever else is stored. In what is
+    /// given offsets begin at 0 and end at the length of the bytes, mask bytes are 0 and 1, and
+    /// absent elements stand over blank ones.
     ///
     /// Errors, the first that holds, `OutOfMemory` aside: those of `Indexer::check`; `Storage`, but
     /// never where the answer rests on such bytes alone and all of these are sure; `BytesCodec` of
     /// the last bytes-to-bytes codec, then of the one before; over `bytes` and `packbits`
     /// `InvalidByteRange` where a place's bytes lie past the end; over a plain `vlen` those of
-    /// `zarrs_plain_vlen::read_runs`, also where the indexer selects no place; over `optional`,
-    /// `sharding_indexed`, `vlen-utf8`, `vlen-bytes` and any other `vlen` what `CodecChain::decode`
-    /// rejects of the value of this codec:
+    /// `zarrs_plain_vlen::read_runs`, also where the indexer selects no place; over
+    /// `sharding_indexed`, also where it selects none, `InvalidBytesLength` where the value has
+    /// fewer bytes than the index and those of the index chain, and then of each inner chunk that
+    /// has any of the places, in the order of their numbers, `InvalidByteRange` where its bytes end
+    /// behind the value and those of the inner chain's read; over `optional`, `vlen-utf8`,
+    /// `vlen-bytes` and any other `vlen` what `CodecChain::decode` rejects of the value of this
+    /// codec:
     ///
     /// - of `vlen` `InvalidBytesLength`, `IndexLength`, `Overflow`, those of the index chain,
     ///   `InvalidOffsets`, those of the data chain;
     /// - of `vlen-utf8` and `vlen-bytes` `InvalidBytesLength`, `ElementCount`,
     ///   `InvalidBytesLength`;
     /// - of `optional` `InvalidBytesLength`, `HeaderOverflow`, `InvalidBytesLength`, those of the
-    ///   mask chain, `MaskValue`, those of the data chain;
-    /// - of `sharding_indexed` `InvalidBytesLength`, those of the index chain, and then of each
-    ///   inner chunk that is stored `InvalidByteRange`, those of the inner chain.
+    ///   mask chain, `MaskValue`, those of the data chain.
     pub fn partial_decode(
         &mut self,
         alloc: Global,
@@ -208,11 +212,12 @@ impl<'a, H: BytesPartialEncoderTraits, B: BytesToBytesCodecTraits> ArrayPartialE
         self.coder.encodes_parts() && self.handle.supports_partial_encode()
     }
 
-    /// The decoder over the same handle. It has no cache either.
+    /// The decoder over the same handle. It has no cache either, and knows no index yet.
     pub fn into_decoder(self) -> ArrayPartialDecoder<'a, H, B>
         ensures over { handle_of result ≡ encoder_handle self.entry }
         ensures form { decoder_form result ≡ encoder_form self.entry }
         ensures uncached { is_cached result ≡ false }
+        ensures index { is_bare result ≡ true }
     {
         let ArrayPartialEncoder { handle, coder } = self;
         ArrayPartialDecoder { handle, coder }

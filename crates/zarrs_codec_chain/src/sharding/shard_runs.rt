@@ -14,6 +14,7 @@ ghost use Rattle.zarrs_chunk.specs.Runs.{AreFilled, EndWithin, joined_runs};
 ghost use Rattle.zarrs_codec.specs.StorageState.{after_reading};
 ghost use Rattle.zarrs_codec_chain.specs.ChunkRead.{ChunkReadsRuns, SureRuns, TakenBy};
 ghost use Rattle.zarrs_codec_chain.specs.CodecPart.{codec_rests_on};
+ghost use Rattle.zarrs_codec_chain.specs.KeptIndex.{IsIndex, rests_behind};
 ghost use Rattle.zarrs_codec_chain.specs.SpanReads.{AreInnerRuns, PutsInOrder, AnswersRuns, StandsIn, SureWhere, TakesForm, chain_read, chain_rests, seen_state, stored_groups_read, stored_groups_rest, stored_span_read, stored_span_rests, SurePlaces};
 ghost use Rattle.zarrs_data_type.specs.FillValue.{fill_fits};
 ghost use Rattle.zarrs_data_type.specs.Form.{form_of};
@@ -155,10 +156,69 @@ fn in_order(
 }
 
 /// The elements at the places of these runs of a chunk that the codec takes, whose value stands in a
+/// span, by the numbers of its index. Errors, of each inner chunk that has any of the places, in the
+/// order of their numbers: `InvalidByteRange` where its bytes end behind the value, and those of its
+/// own read.
+#[cycle(read)]
+pub(crate) fn shard_by_index<H: BytesPartialDecoderTraits, B: BytesToBytesCodecTraits>(
+    alloc: Global,
+    codec: &ShardingCodec<B>,
+    handle: &mut H,
+    span: &ValueSpan<'_>,
+    numbers: &[usize],
+    shape: &ChunkShape,
+    kind: &DataType,
+    fill: &FillValue,
+    runs: &[(u64, u64)],
+) -> Result<ArrayBytes<'static>, CodecError>
+    requires taken { TakenBy B.functions (plain_sharding codec.now)
+        (form_of shape.now kind.now fill.now) }
+    requires stands { StandsIn span.now (H.state handle.old) }
+    requires index { IsIndex B.functions (plain_sharding codec.now) shape.now
+        (seen_state span.now (H.state handle.old)).value numbers.now }
+    requires numbers { length numbers.now ≡ length (spans_of numbers.now) * 2 }
+    requires filled { AreFilled runs.now }
+    requires below { EndWithin (product shape.now) runs.now }
+    requires count { length (joined_runs runs.now) < 2 ^ 64 }
+    ensures answer { ChunkReadsRuns B.functions (plain_sharding codec.now) (form_of shape.now
+        kind.now fill.now) (seen_state span.now (H.state handle.old)) runs.now result }
+    ensures tight { IfOk result (IsTight kind.now) }
+    ensures sure { SurePlaces (seen_state span.now (H.state handle.old)) (rests_behind B.functions
+        (plain_sharding codec.now) shape.now kind.now fill.now) (joined_runs runs.now) result }
+    ensures left { H.state handle.new ≡ after_reading result (H.state handle.old) }
+    ensures same_reference { H.lent handle.new ≡ H.lent handle.old }
+{
+    let ShardingParts {
+        chunk_shape: inner,
+        codecs: chain,
+        index_codecs: index,
+        is_index_at_end: _,
+    } = sharding_parts(codec);
+    shard_form(chain, index, inner, shape, kind, fill);
+    inner.as_slice();
+    let (encoded, representation) = taken_form(alloc, chain, inner, kind, fill)?;
+    let grouped = group_runs(alloc, inner, shape, runs)?;
+    let groups = grouped.groups.as_slice();
+    let joined = read_groups(
+        alloc,
+        chain,
+        handle,
+        span,
+        numbers,
+        groups,
+        inner,
+        &encoded,
+        &representation,
+        kind,
+        fill,
+    )?;
+    let count = count_places(runs);
+    in_order(alloc, joined, grouped.order, count, kind)
+}
+
+/// The elements at the places of these runs of a chunk that the codec takes, whose value stands in a
 /// span. Errors, the first that holds, `OutOfMemory` aside: `Storage`; `InvalidBytesLength` where the
-/// value has fewer bytes than the index; those of the index chain; then of each inner chunk that has
-/// any of the places, in the order of their numbers: `InvalidByteRange` where its bytes end behind the
-/// value, and those of its own read.
+/// value has fewer bytes than the index; those of the index chain; then those of `shard_by_index`.
 #[cycle(read)]
 pub(crate) fn shard_in_span<H: BytesPartialDecoderTraits, B: BytesToBytesCodecTraits>(
     alloc: Global,
@@ -191,27 +251,9 @@ pub(crate) fn shard_in_span<H: BytesPartialDecoderTraits, B: BytesToBytesCodecTr
         is_index_at_end: at_end,
     } = sharding_parts(codec);
     shard_form(chain, index, inner, shape, kind, fill);
-    inner.as_slice();
     let found = index_numbers(alloc, index, inner, at_end, handle, span, shape)?;
-    let (encoded, representation) = taken_form(alloc, chain, inner, kind, fill)?;
-    let grouped = group_runs(alloc, inner, shape, runs)?;
     let numbers = found.as_slice();
-    let groups = grouped.groups.as_slice();
-    let joined = read_groups(
-        alloc,
-        chain,
-        handle,
-        span,
-        numbers,
-        groups,
-        inner,
-        &encoded,
-        &representation,
-        kind,
-        fill,
-    )?;
-    let count = count_places(runs);
-    in_order(alloc, joined, grouped.order, count, kind)
+    shard_by_index(alloc, codec, handle, span, numbers, shape, kind, fill, runs)
 }
 
 /// The elements at the places of these runs of a chunk that the codec takes, over a handle that keeps

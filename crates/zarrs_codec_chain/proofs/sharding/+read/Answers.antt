@@ -1,4 +1,4 @@
-use Rattle.std.proofs.Common.{rules, arith, ◌*◌, ◌≡◌, ◌<◌, Result, Ok, Err, [], true, false, map, length, ap, sym, subst, ◌∙◌}
+use Rattle.std.proofs.Common.{rules, arith, ◌≡◌, ◌<◌, ℕ, Result, Ok, Err, List, [], true, false, map, length, ap, sym, subst, ◌∙◌}
 use Rattle.std.proofs.lemmas.Result.{err_from_is_err_and}
 use Rattle.zarrs_array_bytes.specs.Validity.{Holds}
 use Rattle.zarrs_array_regions.specs.Windows.{TakesRegion, TakeType, decoded_of, window_of}
@@ -20,17 +20,21 @@ use Rattle.std.specs.Prelude.{IsOkAnd, ◌^◌}
 use Rattle.zarrs_chain_meaning.proofs.OptionalSteps.{counted_small}
 use Rattle.zarrs_chain_meaning.specs.CodecMeaning.{codec_representation}
 use Rattle.zarrs_codec_chain.proofs.GroupWalks.{WalkedTo, walk_ends}
+use Rattle.zarrs_codec_chain.specs.KeptIndex.{IsIndex, rests_behind}
 use Rattle.zarrs_shard_runs.specs.GroupedRuns.{group, order_places}
 use Rattle.zarrs_codec_chain.proofs.ShardParts.{grid_known, index_measured, inner_taken, stored_shard}
-use Rattle.zarrs_codec_chain.proofs.ShardSpans.{inside_is, inside_sure, with_index_sure}
+use Rattle.zarrs_codec_chain.proofs.ShardSpans.{index_known, inside_is, inside_sure, with_index_sure}
+use Rattle.zarrs_codec_chain.proofs.IndexReads.{behind_sure}
 use Rattle.zarrs_codec_chain.proofs.SpanSeen.{stands_value}
+use Rattle.zarrs_codec_chain.proofs.StoredIndex.{two_each}
+use Rattle.zarrs_chain_meaning.specs.sharding.InnerChunks.{inner_chunk_count}
 use Rattle.zarrs_codec_chain.specs.ChunkRead.{are_given_sure}
 use Rattle.zarrs_codec_chain.specs.SpanReads.{AnswersRuns, StandsIn, TakesForm, chain_read, chain_rests, stored_groups_read, stored_groups_rest, seen_state}
 use Rattle.zarrs_data_type.specs.Element.{Chunk}
 use Rattle.std.proofs.lemmas.Bool.Decides.{nat_tests}
 use Rattle.zarrs_codec_chain.proofs.sharding.+read.Goals as goal
 use Rattle.std.proofs.lemmas.List.{nil_from_length}
-use Rattle.zarrs_codec_chain.proofs.GroupedShards.{counted, groups_answered, groups_error, groups_sure, inner_runs, grouped_shard}
+use Rattle.zarrs_codec_chain.proofs.GroupedShards.{groups_answered, groups_error, groups_sure, inner_runs, grouped_shard}
 use Rattle.zarrs_codec_chain.proofs.GroupSteps.{at_group, group_filled, group_inside, lent_few, group_refused, group_sure, so_far_valid, part_valid, count_fits, group_read, rest_sure}
 
 pub inner_reads::chain_in_span-returns-then-is_empty-clause-answer : goal.inner_reads::chain_in_span-returns-then-is_empty-clause-answer
@@ -128,41 +132,65 @@ shard_runs::read_group-returns-clause-sure g t c =
     let e : is_stored c.args.place ≡ true = search rules in
     λ s. c.chain_in_span.ensures.sure (inside_sure f (plain_chain c.args.chain.now) c.args.shape.now c.args.kind.now c.args.fill.now c.args.span.now (g.H.BytesPartialDecoderTraits.state c.args.handle.now) c.requires.stands c.args.place (joined_runs c.args.runs.now) c.in_ok-inside.inside e c.in_ok-inside.ensures.answer s)
 
+pub shard_runs::shard_by_index-shard_form-requires : goal.shard_runs::shard_by_index-shard_form-requires
+shard_runs::shard_by_index-shard_form-requires g t c =
+    let P = c.sharding_parts.result in
+    let shard = stored_shard g.B.BytesToBytesCodecTraits.functions (plain_sharding c.args.codec.now) P.codecs.now P.index_codecs.now P.chunk_shape.now P.is_index_at_end c.args.shape.now c.args.kind.now c.args.fill.now c.args.span.now (g.H.BytesPartialDecoderTraits.state c.args.handle.now) c.sharding_parts.ensures.parts c.requires.taken c.requires.stands in
+    record { taken = shard.taken }
+
 pub shard_runs::shard_in_span-shard_form-requires : goal.shard_runs::shard_in_span-shard_form-requires
 shard_runs::shard_in_span-shard_form-requires g t c =
-    let f = g.B.BytesToBytesCodecTraits.functions in
     let P = c.sharding_parts-at_end.result in
-    let shard = stored_shard f (plain_sharding c.args.codec.now) P.codecs.now P.index_codecs.now P.chunk_shape.now P.is_index_at_end c.args.shape.now c.args.kind.now c.args.fill.now c.args.span.now (g.H.BytesPartialDecoderTraits.state c.args.handle.now) c.sharding_parts-at_end.ensures.parts c.requires.taken c.requires.stands in
+    let shard = stored_shard g.B.BytesToBytesCodecTraits.functions (plain_sharding c.args.codec.now) P.codecs.now P.index_codecs.now P.chunk_shape.now P.is_index_at_end c.args.shape.now c.args.kind.now c.args.fill.now c.args.span.now (g.H.BytesPartialDecoderTraits.state c.args.handle.now) c.sharding_parts-at_end.ensures.parts c.requires.taken c.requires.stands in
     record { taken = shard.taken }
 
 pub shard_runs::shard_in_span-index_numbers-requires-clause-grid : goal.shard_runs::shard_in_span-index_numbers-requires-clause-grid
 shard_runs::shard_in_span-index_numbers-requires-clause-grid g t c =
-    let f = g.B.BytesToBytesCodecTraits.functions in
     let P = c.sharding_parts-at_end.result in
-    let shard = stored_shard f (plain_sharding c.args.codec.now) P.codecs.now P.index_codecs.now P.chunk_shape.now P.is_index_at_end c.args.shape.now c.args.kind.now c.args.fill.now c.args.span.now (g.H.BytesPartialDecoderTraits.state c.args.handle.now) c.sharding_parts-at_end.ensures.parts c.requires.taken c.requires.stands in
+    let shard = stored_shard g.B.BytesToBytesCodecTraits.functions (plain_sharding c.args.codec.now) P.codecs.now P.index_codecs.now P.chunk_shape.now P.is_index_at_end c.args.shape.now c.args.kind.now c.args.fill.now c.args.span.now (g.H.BytesPartialDecoderTraits.state c.args.handle.now) c.sharding_parts-at_end.ensures.parts c.requires.taken c.requires.stands in
     grid_known shard
 
 pub shard_runs::shard_in_span-index_numbers-requires-clause-measured : goal.shard_runs::shard_in_span-index_numbers-requires-clause-measured
 shard_runs::shard_in_span-index_numbers-requires-clause-measured g t c =
-    let f = g.B.BytesToBytesCodecTraits.functions in
     let P = c.sharding_parts-at_end.result in
-    let shard = stored_shard f (plain_sharding c.args.codec.now) P.codecs.now P.index_codecs.now P.chunk_shape.now P.is_index_at_end c.args.shape.now c.args.kind.now c.args.fill.now c.args.span.now (g.H.BytesPartialDecoderTraits.state c.args.handle.now) c.sharding_parts-at_end.ensures.parts c.requires.taken c.requires.stands in
+    let shard = stored_shard g.B.BytesToBytesCodecTraits.functions (plain_sharding c.args.codec.now) P.codecs.now P.index_codecs.now P.chunk_shape.now P.is_index_at_end c.args.shape.now c.args.kind.now c.args.fill.now c.args.span.now (g.H.BytesPartialDecoderTraits.state c.args.handle.now) c.sharding_parts-at_end.ensures.parts c.requires.taken c.requires.stands in
     index_measured shard
+
+pub shard_runs::shard_in_span-shard_by_index-requires : goal.shard_runs::shard_in_span-shard_by_index-requires
+shard_runs::shard_in_span-shard_by_index-requires g t c κs within =
+    let P = c.sharding_parts-at_end.result in
+    let shard = stored_shard g.B.BytesToBytesCodecTraits.functions (plain_sharding c.args.codec.now) P.codecs.now P.index_codecs.now P.chunk_shape.now P.is_index_at_end c.args.shape.now c.args.kind.now c.args.fill.now c.args.span.now (g.H.BytesPartialDecoderTraits.state c.args.handle.now) c.sharding_parts-at_end.ensures.parts c.requires.taken c.requires.stands in
+    let at = (c.in_ok-found.ensures {u = tt}).answer ∙ ap (λ (ns : List ℕ). ok (spans_of ns)) (sym c.as_slice-numbers.ensures.value) in
+    let same = sym ((c.in_ok-found.ensures {u = tt}).left) in
+    let known = subst (λ s. IsIndex g.B.BytesToBytesCodecTraits.functions (plain_sharding c.args.codec.now) c.args.shape.now (seen_state c.args.span.now s).value c.as_slice-numbers.result.now) same
+    (index_known g.B.BytesToBytesCodecTraits.functions (plain_sharding c.args.codec.now) (plain_chain P.codecs.now) (plain_chain P.index_codecs.now) P.chunk_shape.now P.is_index_at_end c.args.shape.now (seen_state c.args.span.now (g.H.BytesPartialDecoderTraits.state c.args.handle.now)).value shard.value c.as_slice-numbers.result.now shard.is shard.value_is at) in
+    let stands = subst (λ s. StandsIn c.args.span.now s) same c.requires.stands in
+    let long = two_each (inner_chunk_count P.chunk_shape.now c.args.shape.now) c.as_slice-numbers.result.now (ap length c.as_slice-numbers.ensures.value ∙ (c.in_ok-found.ensures {u = tt}).len) in
+    search (rules, known, stands, long)
+
+pub shard_runs::shard_in_span-returns-clause-sure : goal.shard_runs::shard_in_span-returns-clause-sure
+shard_runs::shard_in_span-returns-clause-sure g t c =
+    let f = g.B.BytesToBytesCodecTraits.functions in
+    let codec = plain_sharding c.args.codec.now in
+    let handle = g.H.BytesPartialDecoderTraits.state c.args.handle.now in
+    let state = seen_state c.args.span.now handle in
+    let places = joined_runs c.args.runs.now in
+    let behind : are_given_sure state.sure (rests_behind f codec c.args.shape.now c.args.kind.now c.args.fill.now state.value places) ≡ true → is_fault c.shard_by_index.result ≡ false =
+    subst (λ s. are_given_sure (seen_state c.args.span.now s).sure (rests_behind f codec c.args.shape.now c.args.kind.now c.args.fill.now (seen_state c.args.span.now s).value places) ≡ true → is_fault c.shard_by_index.result ≡ false) ((c.in_ok-found.ensures {u = tt}).left) c.shard_by_index.ensures.sure in
+    λ s. behind (behind_sure f codec c.args.shape.now c.args.kind.now c.args.fill.now state.value places state.sure s)
 
 pub shard_runs::shard_in_span-returns-in_err-found-clause-sure : goal.shard_runs::shard_in_span-returns-in_err-found-clause-sure
 shard_runs::shard_in_span-returns-in_err-found-clause-sure g t c =
-    let f = g.B.BytesToBytesCodecTraits.functions in
     let P = c.sharding_parts-at_end.result in
-    let shard = stored_shard f (plain_sharding c.args.codec.now) P.codecs.now P.index_codecs.now P.chunk_shape.now P.is_index_at_end c.args.shape.now c.args.kind.now c.args.fill.now c.args.span.now (g.H.BytesPartialDecoderTraits.state c.args.handle.now) c.sharding_parts-at_end.ensures.parts c.requires.taken c.requires.stands in
+    let shard = stored_shard g.B.BytesToBytesCodecTraits.functions (plain_sharding c.args.codec.now) P.codecs.now P.index_codecs.now P.chunk_shape.now P.is_index_at_end c.args.shape.now c.args.kind.now c.args.fill.now c.args.span.now (g.H.BytesPartialDecoderTraits.state c.args.handle.now) c.sharding_parts-at_end.ensures.parts c.requires.taken c.requires.stands in
     let p = err_from_is_err_and c.from_residual.result c.from_residual.ensures.1 in
     λ s. rw (p.1, p.2) (with_index_sure shard (joined_runs c.args.runs.now) s (is_fault {T = Unit {0}} (Err c.in_err-found.field-0.0) ≡ false) c.in_err-found.ensures.sure)
 
-pub shard_runs::shard_in_span-returns-in_err-encoded-clause-answer : goal.shard_runs::shard_in_span-returns-in_err-encoded-clause-answer
-shard_runs::shard_in_span-returns-in_err-encoded-clause-answer g t c =
-    let f = g.B.BytesToBytesCodecTraits.functions in
-    let P = c.sharding_parts-at_end.result in
-    let shard = stored_shard f (plain_sharding c.args.codec.now) P.codecs.now P.index_codecs.now P.chunk_shape.now P.is_index_at_end c.args.shape.now c.args.kind.now c.args.fill.now c.args.span.now (g.H.BytesPartialDecoderTraits.state c.args.handle.now) c.sharding_parts-at_end.ensures.parts c.requires.taken c.requires.stands in
-    let p = err_from_is_err_and c.from_residual-in_err-encoded.result c.from_residual-in_err-encoded.ensures.1 in
+pub shard_runs::shard_by_index-returns-in_err-encoded-clause-answer : goal.shard_runs::shard_by_index-returns-in_err-encoded-clause-answer
+shard_runs::shard_by_index-returns-in_err-encoded-clause-answer g t c =
+    let P = c.sharding_parts.result in
+    let shard = stored_shard g.B.BytesToBytesCodecTraits.functions (plain_sharding c.args.codec.now) P.codecs.now P.index_codecs.now P.chunk_shape.now P.is_index_at_end c.args.shape.now c.args.kind.now c.args.fill.now c.args.span.now (g.H.BytesPartialDecoderTraits.state c.args.handle.now) c.sharding_parts.ensures.parts c.requires.taken c.requires.stands in
+    let p = err_from_is_err_and c.from_residual.result c.from_residual.ensures.1 in
     rw (p.1, p.2) (λ unexcused. absurd (inner_taken shard c.in_err-encoded.field-0.0 (c.in_err-encoded.ensures.answer.is (memory_too c.in_err-encoded.field-0.0 unexcused))))
 
 pub inner_reads::chain_in_span-moved_in_span-requires-2 : goal.inner_reads::chain_in_span-moved_in_span-requires-2
@@ -278,45 +306,36 @@ shard_runs::read_groups-returns-clause-answer g t c =
     subst (λ v. IsOkAnd (stored_groups_read read c.args.shape.now c.args.kind.now c.args.fill.now v spans (map group groups)) (Holds c.args.kind.now c.loop-group.joined)) (sym there.is)
     (walk_ends read c.args.shape.now c.args.kind.now c.args.fill.now there.value spans groups c.loop-group.joined c.loop-group.count walk)
 
-pub shard_runs::shard_in_span-read_groups-requires : goal.shard_runs::shard_in_span-read_groups-requires
-shard_runs::shard_in_span-read_groups-requires g t c κs within =
-    let f = g.B.BytesToBytesCodecTraits.functions in
-    let P = c.sharding_parts-at_end.result in
-    let shard = stored_shard f (plain_sharding c.args.codec.now) P.codecs.now P.index_codecs.now P.chunk_shape.now P.is_index_at_end c.args.shape.now c.args.kind.now c.args.fill.now c.args.span.now (g.H.BytesPartialDecoderTraits.state c.args.handle.now) c.sharding_parts-at_end.ensures.parts c.requires.taken c.requires.stands in
-    let it = grouped_shard shard c.args.runs.now _ _ _ _ _ c.as_slice.ensures.value c.as_slice.ensures.positive c.shard_form.ensures.form.divided c.requires.below c.as_slice-numbers.ensures.value ((c.in_ok-found.ensures {u = tt}).answer) c.as_slice-groups.ensures.value ((c.in_ok-grouped.ensures {u = tt}).groups) in
+pub shard_runs::shard_by_index-read_groups-requires : goal.shard_runs::shard_by_index-read_groups-requires
+shard_runs::shard_by_index-read_groups-requires g t c κs within =
+    let P = c.sharding_parts.result in
+    let shard = stored_shard g.B.BytesToBytesCodecTraits.functions (plain_sharding c.args.codec.now) P.codecs.now P.index_codecs.now P.chunk_shape.now P.is_index_at_end c.args.shape.now c.args.kind.now c.args.fill.now c.args.span.now (g.H.BytesPartialDecoderTraits.state c.args.handle.now) c.sharding_parts.ensures.parts c.requires.taken c.requires.stands in
+    let it = grouped_shard shard c.args.numbers.now c.args.runs.now _ _ _ c.requires.index c.as_slice.ensures.value c.as_slice.ensures.positive c.shard_form.ensures.form.divided c.requires.below c.as_slice-groups.ensures.value ((c.in_ok-grouped.ensures {u = tt}).groups) in
     let form = c.shard_form.ensures.form in
-    let taken : TakesForm f P.codecs.now P.chunk_shape.now c.args.kind.now c.args.fill.now c.in_ok-encoded.encoded c.in_ok-encoded.representation = (c.in_ok-encoded.ensures {u = tt}).answer.is in
+    let taken : TakesForm g.B.BytesToBytesCodecTraits.functions P.codecs.now P.chunk_shape.now c.args.kind.now c.args.fill.now c.in_ok-encoded.encoded c.in_ok-encoded.representation = (c.in_ok-encoded.ensures {u = tt}).answer.is in
     let small = counted_small (product P.chunk_shape.now) form.inner_counted in
-    let stands = subst (λ s. StandsIn c.args.span.now s) (sym ((c.in_ok-found.ensures {u = tt}).left)) c.requires.stands in
     let runs = inner_runs it c.requires.count in
-    let long = ap length c.as_slice-numbers.ensures.value ∙ (c.in_ok-found.ensures {u = tt}).len ∙ ap (λ n. n * 2) (sym (counted it)) in
-    search (rules, taken, small, form.filling, stands, runs, long)
+    search (rules, taken, small, form.filling, runs)
 
-pub shard_runs::shard_in_span-returns-in_err-joined-clause-answer : goal.shard_runs::shard_in_span-returns-in_err-joined-clause-answer
-shard_runs::shard_in_span-returns-in_err-joined-clause-answer g t c =
-    let f = g.B.BytesToBytesCodecTraits.functions in
-    let P = c.sharding_parts-at_end.result in
-    let shard = stored_shard f (plain_sharding c.args.codec.now) P.codecs.now P.index_codecs.now P.chunk_shape.now P.is_index_at_end c.args.shape.now c.args.kind.now c.args.fill.now c.args.span.now (g.H.BytesPartialDecoderTraits.state c.args.handle.now) c.sharding_parts-at_end.ensures.parts c.requires.taken c.requires.stands in
-    let it = grouped_shard shard c.args.runs.now _ _ _ _ _ c.as_slice.ensures.value c.as_slice.ensures.positive c.shard_form.ensures.form.divided c.requires.below c.as_slice-numbers.ensures.value ((c.in_ok-found.ensures {u = tt}).answer) c.as_slice-groups.ensures.value ((c.in_ok-grouped.ensures {u = tt}).groups) in
+pub shard_runs::shard_by_index-returns-in_err-joined-clause-answer : goal.shard_runs::shard_by_index-returns-in_err-joined-clause-answer
+shard_runs::shard_by_index-returns-in_err-joined-clause-answer g t c =
+    let P = c.sharding_parts.result in
+    let shard = stored_shard g.B.BytesToBytesCodecTraits.functions (plain_sharding c.args.codec.now) P.codecs.now P.index_codecs.now P.chunk_shape.now P.is_index_at_end c.args.shape.now c.args.kind.now c.args.fill.now c.args.span.now (g.H.BytesPartialDecoderTraits.state c.args.handle.now) c.sharding_parts.ensures.parts c.requires.taken c.requires.stands in
+    let it = grouped_shard shard c.args.numbers.now c.args.runs.now _ _ _ c.requires.index c.as_slice.ensures.value c.as_slice.ensures.positive c.shard_form.ensures.form.divided c.requires.below c.as_slice-groups.ensures.value ((c.in_ok-grouped.ensures {u = tt}).groups) in
     let p = err_from_is_err_and c.from_residual-in_err-joined.result c.from_residual-in_err-joined.ensures.1 in
-    let same = ap (seen_state c.args.span.now) ((c.in_ok-found.ensures {u = tt}).left) in
-    rw (p.1, p.2) (λ unexcused. groups_error it _ same (order_places (length (joined_runs c.args.runs.now)) c.in_ok-grouped.grouped.order) ((c.in_ok-grouped.ensures {u = tt}).order) c.in_err-joined.field-0.0 (c.in_err-joined.ensures.answer unexcused))
+    rw (p.1, p.2) (λ unexcused. groups_error it (order_places (length (joined_runs c.args.runs.now)) c.in_ok-grouped.grouped.order) ((c.in_ok-grouped.ensures {u = tt}).order) c.in_err-joined.field-0.0 (c.in_err-joined.ensures.answer unexcused))
 
-pub shard_runs::shard_in_span-returns-in_err-joined-clause-sure : goal.shard_runs::shard_in_span-returns-in_err-joined-clause-sure
-shard_runs::shard_in_span-returns-in_err-joined-clause-sure g t c =
-    let f = g.B.BytesToBytesCodecTraits.functions in
-    let P = c.sharding_parts-at_end.result in
-    let shard = stored_shard f (plain_sharding c.args.codec.now) P.codecs.now P.index_codecs.now P.chunk_shape.now P.is_index_at_end c.args.shape.now c.args.kind.now c.args.fill.now c.args.span.now (g.H.BytesPartialDecoderTraits.state c.args.handle.now) c.sharding_parts-at_end.ensures.parts c.requires.taken c.requires.stands in
-    let it = grouped_shard shard c.args.runs.now _ _ _ _ _ c.as_slice.ensures.value c.as_slice.ensures.positive c.shard_form.ensures.form.divided c.requires.below c.as_slice-numbers.ensures.value ((c.in_ok-found.ensures {u = tt}).answer) c.as_slice-groups.ensures.value ((c.in_ok-grouped.ensures {u = tt}).groups) in
+pub shard_runs::shard_by_index-returns-in_err-joined-clause-sure : goal.shard_runs::shard_by_index-returns-in_err-joined-clause-sure
+shard_runs::shard_by_index-returns-in_err-joined-clause-sure g t c =
+    let P = c.sharding_parts.result in
+    let shard = stored_shard g.B.BytesToBytesCodecTraits.functions (plain_sharding c.args.codec.now) P.codecs.now P.index_codecs.now P.chunk_shape.now P.is_index_at_end c.args.shape.now c.args.kind.now c.args.fill.now c.args.span.now (g.H.BytesPartialDecoderTraits.state c.args.handle.now) c.sharding_parts.ensures.parts c.requires.taken c.requires.stands in
+    let it = grouped_shard shard c.args.numbers.now c.args.runs.now _ _ _ c.requires.index c.as_slice.ensures.value c.as_slice.ensures.positive c.shard_form.ensures.form.divided c.requires.below c.as_slice-groups.ensures.value ((c.in_ok-grouped.ensures {u = tt}).groups) in
     let p = err_from_is_err_and c.from_residual-in_err-joined.result c.from_residual-in_err-joined.ensures.1 in
-    let same = ap (seen_state c.args.span.now) ((c.in_ok-found.ensures {u = tt}).left) in
-    λ s. rw (p.1, p.2) (c.in_err-joined.ensures.sure (groups_sure it _ same s))
+    λ s. rw (p.1, p.2) (c.in_err-joined.ensures.sure (groups_sure it s))
 
-pub shard_runs::shard_in_span-returns-clause-answer : goal.shard_runs::shard_in_span-returns-clause-answer
-shard_runs::shard_in_span-returns-clause-answer g t c =
-    let f = g.B.BytesToBytesCodecTraits.functions in
-    let P = c.sharding_parts-at_end.result in
-    let shard = stored_shard f (plain_sharding c.args.codec.now) P.codecs.now P.index_codecs.now P.chunk_shape.now P.is_index_at_end c.args.shape.now c.args.kind.now c.args.fill.now c.args.span.now (g.H.BytesPartialDecoderTraits.state c.args.handle.now) c.sharding_parts-at_end.ensures.parts c.requires.taken c.requires.stands in
-    let it = grouped_shard shard c.args.runs.now _ _ _ _ _ c.as_slice.ensures.value c.as_slice.ensures.positive c.shard_form.ensures.form.divided c.requires.below c.as_slice-numbers.ensures.value ((c.in_ok-found.ensures {u = tt}).answer) c.as_slice-groups.ensures.value ((c.in_ok-grouped.ensures {u = tt}).groups) in
-    let same = ap (seen_state c.args.span.now) ((c.in_ok-found.ensures {u = tt}).left) in
-    groups_answered it _ same c.in_ok-joined.joined ((c.in_ok-joined.ensures {u = tt}).answer) c.in_ok-grouped.grouped.order ((c.in_ok-grouped.ensures {u = tt}).order) c.count_places-count.result c.count_places-count.ensures.count c.requires.count c.in_order.result c.in_order.ensures.answer
+pub shard_runs::shard_by_index-returns-clause-answer : goal.shard_runs::shard_by_index-returns-clause-answer
+shard_runs::shard_by_index-returns-clause-answer g t c =
+    let P = c.sharding_parts.result in
+    let shard = stored_shard g.B.BytesToBytesCodecTraits.functions (plain_sharding c.args.codec.now) P.codecs.now P.index_codecs.now P.chunk_shape.now P.is_index_at_end c.args.shape.now c.args.kind.now c.args.fill.now c.args.span.now (g.H.BytesPartialDecoderTraits.state c.args.handle.now) c.sharding_parts.ensures.parts c.requires.taken c.requires.stands in
+    let it = grouped_shard shard c.args.numbers.now c.args.runs.now _ _ _ c.requires.index c.as_slice.ensures.value c.as_slice.ensures.positive c.shard_form.ensures.form.divided c.requires.below c.as_slice-groups.ensures.value ((c.in_ok-grouped.ensures {u = tt}).groups) in
+    groups_answered it c.in_ok-joined.joined ((c.in_ok-joined.ensures {u = tt}).answer) c.in_ok-grouped.grouped.order ((c.in_ok-grouped.ensures {u = tt}).order) c.count_places-count.result c.count_places-count.ensures.count c.requires.count c.in_order.result c.in_order.ensures.answer

@@ -2,6 +2,7 @@ use Rattle.std.proofs.lemmas.Result.{err_from_is_err_and}
 use Rattle.zarrs_chain_meaning.specs.Chain.{taken_form}
 use Rattle.zarrs_chain.specs.ChainView.{plain_chain}
 use Rattle.zarrs_chain_meaning.proofs.ArraySteps.{ok_is}
+use Rattle.zarrs_codec_chain.proofs.IndexReads.{unread_index}
 use Rattle.zarrs_codec_chain.proofs.Making.{passed_first, refused_first, wanting_first}
 use Rattle.zarrs_codec_chain.proofs.PartialCalls.{kept_of}
 use Rattle.zarrs_codec_chain.proofs.WholeReads.{filled_from}
@@ -25,6 +26,10 @@ pub returns-clause-cache_filled : goal.returns-clause-cache_filled
 returns-clause-cache_filled g c =
     let taken = c.in_ok-encoded in
     filled_from g.B.BytesToBytesCodecTraits.functions (record { chain = plain_chain c.args.chain.now; sizes = c.in_ok-shape.shape; type = c.in_ok-data_type.data_type; fill = c.in_ok-fill_value.fill_value }) taken.encoded taken.representation c.cache_stage-stage.result _ (g.H.BytesPartialDecoderTraits.state c.args.handle.now).value _ taken.ensures.answer.is c.in_ok-cache.ensures.stage c.in_ok-cache.ensures.answer
+
+pub returns-clause-index : goal.returns-clause-index
+returns-clause-index g c =
+    unread_index g.B.BytesToBytesCodecTraits.functions (plain_chain c.args.chain.now) c.in_ok-encoded.encoded (g.H.BytesPartialDecoderTraits.state c.args.handle.now).value c.in_ok-cache.cache c.in_ok-cache.ensures.index
 
 pub returns-in_err-shape-clause-measured_first : goal.returns-in_err-shape-clause-measured_first
 returns-in_err-shape-clause-measured_first g c =

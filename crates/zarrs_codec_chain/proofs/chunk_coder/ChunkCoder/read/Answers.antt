@@ -2,7 +2,7 @@ use Rattle.std.proofs.Common.{ap, sym, ◌∙◌}
 use Rattle.std.proofs.lemmas.Result.{err_from_is_err_and}
 use Rattle.zarrs_chunk.specs.Indexer.{selection_of}
 use Rattle.zarrs_chunk.specs.Runs.{joined_runs}
-use Rattle.zarrs_codec_chain.specs.ChunkCoder.{coder_form}
+use Rattle.zarrs_codec_chain.specs.ChunkCoder.{coder_form, coder_knows_index}
 use Rattle.zarrs_bytes.proofs.Coding.{ok}
 use Rattle.zarrs_codec_chain.proofs.RegionReads.{kept_bounds}
 use Rattle.zarrs_codec_chain.proofs.SureReads.{in_bounds, out_of_bounds, sure_anyway, where_sure}
@@ -23,7 +23,7 @@ pub returns-in_err-runs-clause-sure : goal.returns-in_err-runs-clause-sure
 returns-in_err-runs-clause-sure g c =
     let form = coder_form c.args.self.now in
     let p = err_from_is_err_and c.from_residual.result c.from_residual.ensures.1 in
-    rw (p.1, p.2) (sure_anyway g.B.BytesToBytesCodecTraits.functions form (g.H.BytesPartialDecoderTraits.state c.args.handle.now) (selection_of c.args.indexer.now) _ c.in_err-runs.ensures.answer.no_fault)
+    rw (p.1, p.2) (sure_anyway (coder_knows_index c.args.self.now) g.B.BytesToBytesCodecTraits.functions form (g.H.BytesPartialDecoderTraits.state c.args.handle.now) (selection_of c.args.indexer.now) _ c.in_err-runs.ensures.answer.no_fault)
 
 pub returns-clause-indexer_first : goal.returns-clause-indexer_first
 returns-clause-indexer_first g c =
@@ -34,4 +34,4 @@ pub returns-clause-sure : goal.returns-clause-sure
 returns-clause-sure g c =
     let k = c.args.self.now in
     let places = c.in_ok-runs.ensures.answer.is ∙ ap (λ rs. ok (joined_runs rs)) (sym c.deref.ensures.value) in
-    where_sure g.B.BytesToBytesCodecTraits.functions (coder_form k) (g.H.BytesPartialDecoderTraits.state c.args.handle.now) (selection_of c.args.indexer.now) _ k.encoded k.representation (joined_runs c.deref.result.now) places k.taken c.read_runs.ensures.sure
+    where_sure (coder_knows_index c.args.self.now) g.B.BytesToBytesCodecTraits.functions (coder_form k) (g.H.BytesPartialDecoderTraits.state c.args.handle.now) (selection_of c.args.indexer.now) _ k.encoded k.representation (joined_runs c.deref.result.now) places k.taken c.read_runs.ensures.sure

@@ -1,4 +1,4 @@
-use Rattle.std.proofs.Common.{sym, subst, refl}
+use Rattle.std.proofs.Common.{false, sym, subst, refl}
 use Rattle.std.proofs.lemmas.Result.{err_from_is_err_and}
 use Rattle.zarrs_chunk.specs.Answer.{AnswersBy, memory_or_fault}
 use Rattle.zarrs_chunk.specs.ChunkShape.{product}
@@ -6,7 +6,7 @@ use Rattle.zarrs_chunk.specs.Indexer.{selection_of}
 use Rattle.zarrs_array_bytes.specs.Validity.{Holds}
 use Rattle.zarrs_bytes.specs.PartialRead.{place_size}
 use Rattle.zarrs_bytes.proofs.Taken.{taken_fixed, taken_small}
-use Rattle.zarrs_codec_chain.specs.ChunkCoder.{coder_form, reader_source}
+use Rattle.zarrs_codec_chain.specs.ChunkCoder.{coder_form, coder_knows_index, reader_source}
 use Rattle.zarrs_codec_chain.proofs.Counting.{asked_in_part}
 use Rattle.zarrs_codec_chain.proofs.ListedReads.{listed_is, places_end, sure_alone}
 use Rattle.zarrs_codec_chain.proofs.PlaceWrites.{in_place_taken}
@@ -23,7 +23,7 @@ pub returns-in_err-places-clause-sure : goal.returns-in_err-places-clause-sure
 returns-in_err-places-clause-sure g c =
     let form = coder_form c.args.self.now in
     let p = err_from_is_err_and c.from_residual.result c.from_residual.ensures.1 in
-    rw (p.1, p.2) (sure_anyway g.B.BytesToBytesCodecTraits.functions form (g.H.BytesPartialDecoderTraits.state c.args.handle.now) (selection_of c.args.indexer.now) _ c.in_err-places.ensures.answer.no_fault)
+    rw (p.1, p.2) (sure_anyway (coder_knows_index c.args.self.now) g.B.BytesToBytesCodecTraits.functions form (g.H.BytesPartialDecoderTraits.state c.args.handle.now) (selection_of c.args.indexer.now) _ c.in_err-places.ensures.answer.no_fault)
 
 pub read_places-requires-clause-fixed : goal.read_places-requires-clause-fixed
 read_places-requires-clause-fixed g c =
@@ -58,8 +58,9 @@ returns-clause-sure g c =
     let form = coder_form k in
     let before = g.H.BytesPartialDecoderTraits.state c.args.handle.now in
     let at = (c.in_ok-places.ensures {u = tt}).answer.is in
-    where_sure g.B.BytesToBytesCodecTraits.functions form before (selection_of c.args.indexer.now) _ k.encoded k.representation c.in_ok-places.places.items at k.taken
-    (λ asks. sure_alone g.B.BytesToBytesCodecTraits.functions form k.encoded k.representation c.args.codec.now c.requires.writes_in_place before c.in_ok-places.places.items _ c.read_places.ensures.sure)
+    rw c.requires.uncached
+    (where_sure false g.B.BytesToBytesCodecTraits.functions form before (selection_of c.args.indexer.now) _ k.encoded k.representation c.in_ok-places.places.items at k.taken
+    (λ asks. sure_alone g.B.BytesToBytesCodecTraits.functions form k.encoded k.representation c.args.codec.now c.requires.writes_in_place before c.in_ok-places.places.items _ c.read_places.ensures.sure))
 
 pub returns-clause-counted : goal.returns-clause-counted
 returns-clause-counted g c = λ uncached whole.

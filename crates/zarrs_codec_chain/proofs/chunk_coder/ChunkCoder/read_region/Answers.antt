@@ -8,7 +8,7 @@ use Rattle.zarrs_array_bytes.specs.Validity.{Holds}
 use Rattle.zarrs_array_to_array.specs.Mapping.{mapping_of}
 use Rattle.zarrs_array_regions.specs.Windows.{TakesRegion, TakeType, window_of, decoded_of}
 use Rattle.zarrs_bytes.proofs.Coding.{ok}
-use Rattle.zarrs_codec_chain.specs.ChunkCoder.{coder_form, reader_source}
+use Rattle.zarrs_codec_chain.specs.ChunkCoder.{coder_form, coder_knows_index, reader_source}
 use Rattle.zarrs_codec_chain.proofs.PartialReads.{is_readable}
 use Rattle.zarrs_codec_chain.proofs.RegionReads.{takes_region, takes_type, region_refused, region_valid, region_answered, region_sure_where, runs_at}
 use Rattle.zarrs_codec_chain.proofs.SureReads.{sure_anyway}
@@ -57,7 +57,7 @@ returns-in_err-held-clause-sure g c =
     let h = is_readable f form.chain form.sizes form.type form.fill k.encoded k.representation are positive k.taken in
     let at = runs_at form.chain.array_to_array (map mapping_of c.array_to_array_codecs-codecs.result.now) (window_of form.sizes c.args.region.now) c.in_ok-runs.runs.items c.deref.result.now c.array_to_array_codecs-codecs.ensures.value ((c.in_ok-runs.ensures {u = tt}).places.is) c.deref.ensures.value in
     let p = err_from_is_err_and c.from_residual-in_err-held.result c.from_residual-in_err-held.ensures.1 in
-    rw (p.1, p.2) (region_sure_where f form k.encoded k.representation h are positive k.counted_whole c.args.region.now c.requires.inside c.requires.region_kept (g.H.BytesPartialDecoderTraits.state c.args.handle.now) (joined_runs c.deref.result.now) _ at k.taken c.in_err-held.ensures.sure)
+    rw (p.1, p.2) (region_sure_where f form k.encoded k.representation h are positive k.counted_whole c.args.region.now c.requires.inside c.requires.region_kept (coder_knows_index k) (g.H.BytesPartialDecoderTraits.state c.args.handle.now) (joined_runs c.deref.result.now) _ at k.taken c.in_err-held.ensures.sure)
 
 pub decoded_window-requires-clause-region : goal.decoded_window-requires-clause-region
 decoded_window-requires-clause-region g c =
@@ -107,4 +107,4 @@ returns-clause-answer g c =
 pub returns-clause-sure : goal.returns-clause-sure
 returns-clause-sure g c =
     let k = c.args.self.now in
-    sure_anyway g.B.BytesToBytesCodecTraits.functions (coder_form k) (g.H.BytesPartialDecoderTraits.state c.args.handle.now) (subset c.args.region.now) _ c.decoded_window.ensures.decoded.no_fault
+    sure_anyway (coder_knows_index c.args.self.now) g.B.BytesToBytesCodecTraits.functions (coder_form k) (g.H.BytesPartialDecoderTraits.state c.args.handle.now) (subset c.args.region.now) _ c.decoded_window.ensures.decoded.no_fault

@@ -1,0 +1,38 @@
+use Rattle.std.proofs.Common.{◌≡◌, ℕ, Some, Result, Ok, Err, true, false, IfOk, ap, sym, subst, ◌∙◌}
+use Rattle.std.proofs.lemmas.Result.{err_from_is_err_and}
+use Rattle.zarrs_chain.specs.ChainView.{plain_chain, plain_sharding}
+use Rattle.zarrs_chain_meaning.proofs.ArraySteps.{ok_is}
+use Rattle.zarrs_chain_meaning.specs.sharding.InnerChunks.{inner_chunk_count}
+use Rattle.zarrs_chunk.specs.Answer.{is_fault}
+use Rattle.zarrs_chunk.specs.declared.codec_error.CodecError.{CodecError}
+use Rattle.zarrs_codec.specs.StorageState.{are_sure, value_size}
+use Rattle.zarrs_codec_chain.proofs.IndexReads.{sure_some}
+use Rattle.zarrs_codec_chain.proofs.ShardParts.{grid_known, index_measured, is_ok_so}
+use Rattle.zarrs_codec_chain.proofs.ShardSpans.{is_shard, shard_takes}
+use Rattle.zarrs_codec_chain.proofs.StoredIndex.{index_at_hand, index_found, index_rejected, two_each, whole_stands}
+use Rattle.zarrs_codec_chain.specs.SpanReads.{StandsIn, seen_state, stored_index_bytes, stored_spans}
+use Rattle.zarrs_codec_chain.proofs.sharding.kept_index.stored_index.Goals as goal
+
+pub shard_form-requires : goal.shard_form-requires
+shard_form-requires g c =
+    let P = c.sharding_parts-at_end.result in
+    record { taken = shard_takes g.B.BytesToBytesCodecTraits.functions (plain_sharding c.args.codec.now) P.codecs.now P.index_codecs.now P.chunk_shape.now P.is_index_at_end c.args.shape.now c.args.kind.now c.args.fill.now c.sharding_parts-at_end.ensures.parts (is_ok_so _ c.requires.taken) }
+
+pub index_numbers-requires : goal.index_numbers-requires
+index_numbers-requires g c =
+    let f = g.B.BytesToBytesCodecTraits.functions in
+    let P = c.sharding_parts-at_end.result in
+    let codec = plain_sharding c.args.codec.now in
+    let state = g.H.BytesPartialDecoderTraits.state c.args.handle.now in
+    let takes = shard_takes f codec P.codecs.now P.index_codecs.now P.chunk_shape.now P.is_index_at_end c.args.shape.now c.args.kind.now c.args.fill.now c.sharding_parts-at_end.ensures.parts (is_ok_so _ c.requires.taken) in
+    let sized : value_size state.value ≡ Some c.in-Some.len = ok_is _ _ c.in_ok-size.ensures.answer ∙ c.in-Some.is in
+    record {
+      grid = grid_known f P.codecs.now P.index_codecs.now P.chunk_shape.now c.args.shape.now c.args.kind.now c.args.fill.now takes;
+      measured = index_measured f P.codecs.now P.index_codecs.now P.chunk_shape.now c.args.shape.now c.args.kind.now c.args.fill.now takes;
+      stands = subst (λ s. StandsIn c.stored-span.result s) (sym c.in_ok-size.ensures.left) (whole_stands c.stored-span.result c.in-Some.len state c.stored-span.ensures.parts sized);
+    }
+
+pub invariant_of-result : goal.invariant_of-result
+invariant_of-result g c =
+    let P = c.sharding_parts-at_end.result in
+    record { count = two_each (inner_chunk_count P.chunk_shape.now c.args.shape.now) c.in_ok-numbers-in-Some.numbers.items ((c.in_ok-numbers-in-Some.ensures {u = tt}).len) }

@@ -1,0 +1,126 @@
+-- The index of a shard that a decoder keeps: what it is of what is stored, and what a read by it rests on.
+use Rattle.std.specs.Prelude.{◌≡◌, ℕ, ◌*◌, Bool, true, false, if◌then◌else◌, Option, Some, None, IfSome, IfOk, List, [], ◌∷◌, length, Result, Ok, is_some, option_map}
+use Rattle.std.proofs.Props.{props}
+use Rattle.zarrs_chunk.specs.Answer.{◌>>=◌}
+use Rattle.zarrs_chunk.specs.Selection.{Selection}
+use Rattle.zarrs_chunk.specs.declared.codec_error.CodecError.{CodecError}
+use Rattle.zarrs_codec.specs.BytesToBytesCodec.{BytesCodecs}
+use Rattle.zarrs_codec.specs.StorageState.{are_sure, StorageState}
+use Rattle.zarrs_chain_meaning.specs.Chain.{taken_form}
+use Rattle.zarrs_chain_meaning.specs.ChunkForm.{ChunkForm}
+use Rattle.zarrs_chain_meaning.specs.PlainChain.{PlainChain, PlainCodec}
+use Rattle.zarrs_chain_meaning.specs.sharding.Sharding.{Span, spans_of}
+use Rattle.zarrs_codec_chain.specs.ChunkRead.{asks_in_part, encoded_places}
+use Rattle.zarrs_codec_chain.specs.CodecPart.{IndexPart, codec_rests_on, part_of}
+use Rattle.zarrs_codec_chain.specs.PlaceLaws.{Resting}
+use Rattle.zarrs_codec_chain.specs.declared.partial_decoder.cache.Cache.{Cache}
+use Rattle.zarrs_codec_chain.specs.declared.partial_decoder.cache.Cache.TheVariants as kept
+use Rattle.zarrs_codec_chain.specs.declared.sharding.shard_index.ShardIndex.{ShardIndex}
+
+-- ---- the index
+
+-- whether a read asks for an index: it does over `sharding_indexed` where there are no bytes-to-bytes codecs
+abbrev pub asks_index : {B : Type 0} → List B → PlainCodec B → Bool
+asks_index [] codec = is_some (part_of codec).indexed
+asks_index (first ∷ rest) codec = false
+
+-- where the inner chunks of a value stand, by its index, or the first error; nowhere where its values have none
+abbrev pub spans_with : {B : Type 0} → Option (IndexPart B) → BytesCodecs B → List ℕ → List ℕ → Result (List Span) CodecError
+spans_with None f sizes value = Ok []
+spans_with (Some index) f sizes value = index.spans f sizes value
+
+abbrev pub codec_spans : {B : Type 0} → BytesCodecs B → PlainCodec B → List ℕ → List ℕ → Result (List Span) CodecError
+codec_spans f codec sizes value = spans_with (part_of codec).indexed f sizes value
+
+-- the numbers of the index's bytes, of what is stored
+abbrev pub bytes_with : {B : Type 0} → Option (IndexPart B) → BytesCodecs B → List ℕ → List ℕ → Result (List ℕ) CodecError
+bytes_with None f sizes value = Ok []
+bytes_with (Some index) f sizes value = index.bytes f sizes value
+
+abbrev pub index_rests_on : {B : Type 0} → BytesCodecs B → PlainCodec B → List ℕ → Option (List ℕ) → Result (List ℕ) CodecError
+index_rests_on f codec sizes None = Ok []
+index_rests_on f codec sizes (Some value) = bytes_with (part_of codec).indexed f sizes value
+
+-- these numbers are the index of what is stored: they say where the inner chunks stand
+abbrev pub IsIndex : {B : Type 0} → BytesCodecs B → PlainCodec B → List ℕ → Option (List ℕ) → List ℕ → Type 0
+IsIndex f codec sizes stored numbers = IfSome stored (λ value. codec_spans f codec sizes value ≡ Ok (spans_of numbers))
+
+-- of what is stored, how many bytes it has and where the inner chunks stand; or the first error of the index
+abbrev pub codec_index : {B : Type 0} → BytesCodecs B → PlainCodec B → List ℕ → Option (List ℕ) → Result (Option (ℕ × List Span)) CodecError
+codec_index f codec sizes None = Ok None
+codec_index f codec sizes (Some value) = do
+  spans ← codec_spans f codec sizes value
+  Ok (Some (length value, spans))
+
+-- the same of a chunk of this form, through its chain: the chain's representation comes first
+abbrev pub form_index : {B : Type 0} → BytesCodecs B → ChunkForm B → Option (List ℕ) → Result (Option (ℕ × List Span)) CodecError
+form_index f form stored = do
+  taken ← taken_form f form.chain form.sizes form.type form.fill
+  codec_index f form.chain.array_to_bytes taken.0 stored
+
+-- ---- what is kept
+
+-- how many bytes a value has, and where the inner chunks stand, by what is kept of it
+abbrev pub index_seen : ShardIndex → ℕ × List Span
+index_seen index = (index.len, spans_of index.numbers.items)
+
+-- a shard's index is kept
+abbrev pub knows_index : Cache → Bool
+knows_index kept.Handle = false
+knows_index (kept.Index index) = true
+knows_index (kept.Bytes below value) = false
+knows_index (kept.Chunk held) = false
+
+-- nothing is kept
+abbrev pub keeps_nothing : Cache → Bool
+keeps_nothing kept.Handle = true
+keeps_nothing (kept.Index index) = false
+keeps_nothing (kept.Bytes below value) = false
+keeps_nothing (kept.Chunk held) = false
+
+-- an index that is kept is that of what is stored, of a chunk that the array-to-bytes codec gets
+abbrev pub IsIndexOf : {B : Type 0} → BytesCodecs B → PlainChain B → List ℕ → Option (List ℕ) → Cache → Type 0
+IsIndexOf f chain sizes stored kept.Handle = Unit {0}
+IsIndexOf f chain sizes stored (kept.Index index) =
+    (asks_index chain.bytes_to_bytes chain.array_to_bytes ≡ true) × (codec_index f chain.array_to_bytes sizes stored ≡ Ok (option_map index_seen index))
+IsIndexOf f chain sizes stored (kept.Bytes below value) = Unit {0}
+IsIndexOf f chain sizes stored (kept.Chunk held) = Unit {0}
+
+pub IsIndexOf-prop : {B : Type 0} (f : BytesCodecs B) (chain : PlainChain B) (sizes : List ℕ) (stored : Option (List ℕ)) (cache : Cache) → IsProp (IsIndexOf f chain sizes stored cache)
+IsIndexOf-prop f chain sizes stored kept.Handle = hlevel props
+IsIndexOf-prop f chain sizes stored (kept.Index index) = hlevel props
+IsIndexOf-prop f chain sizes stored (kept.Bytes below value) = hlevel props
+IsIndexOf-prop f chain sizes stored (kept.Chunk held) = hlevel props
+
+-- so many bytes are kept beside those of the handle: 16 for each inner chunk of a value that is stored
+abbrev pub index_bytes : Option (ℕ × List Span) → ℕ
+index_bytes None = 0
+index_bytes (Some index) = 16 * length index.1
+
+-- ---- what a read by it rests on
+
+-- of `sharding_indexed` what the inner reads rest on; of any other codec all that a read rests on
+abbrev pub rests_with : {B : Type 0} → Option (IndexPart B) → BytesCodecs B → Resting → Resting
+rests_with None f rests sizes type fill stored places = rests sizes type fill stored places
+rests_with (Some index) f rests sizes type fill stored places = index.rests_behind f sizes type fill stored places
+
+abbrev pub rests_behind : {B : Type 0} → BytesCodecs B → PlainCodec B → Resting
+rests_behind f codec sizes type fill stored places = rests_with (part_of codec).indexed f (codec_rests_on f codec) sizes type fill stored places
+
+-- what a read rests on where the index is known, or isn't
+abbrev pub rests_where : {B : Type 0} → Bool → BytesCodecs B → PlainCodec B → Resting
+rests_where false f codec sizes type fill stored places = codec_rests_on f codec sizes type fill stored places
+rests_where true f codec sizes type fill stored places = rests_behind f codec sizes type fill stored places
+
+-- the numbers of these bytes of what is stored, where a read asks for a part alone; or the first error
+abbrev pub read_rests_where : {B : Type 0} → Bool → BytesCodecs B → ChunkForm B → Option (List ℕ) → Selection → Result (Option (List ℕ)) CodecError
+read_rests_where known f form stored selection = do
+  places ← encoded_places form.type form.chain.array_to_array form.sizes selection
+  taken ← taken_form f form.chain form.sizes form.type form.fill
+  numbers ← rests_where known f form.chain.array_to_bytes taken.0 form.type form.fill stored places
+  Ok (if asks_in_part form.chain.bytes_to_bytes form.chain.array_to_bytes then Some numbers else None)
+
+-- P, where a read asks for a part of the value alone and these bytes are sure
+abbrev pub WhereSureBy : {B : Type 0} → Bool → BytesCodecs B → ChunkForm B → StorageState → Selection → Type 0 → Type 0
+WhereSureBy known f form before selection P =
+    IfOk (read_rests_where known f form before.value selection) (λ asked. IfSome asked (λ numbers. are_sure before.sure numbers ≡ true → P))
