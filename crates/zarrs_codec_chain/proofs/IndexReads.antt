@@ -73,6 +73,22 @@ else_indexed (kept.Index index) cached bare = refl
 else_indexed (kept.Bytes below value) cached bare = absurd cc
 else_indexed (kept.Chunk held) cached bare = absurd cc
 
+-- with a cache, or where no index is asked for, none is wanted
+pub cached_unwanted : (cache : Cache) (asks : Bool) → is_cache cache ≡ true → (keeps_nothing cache && asks) ≡ false
+cached_unwanted kept.Handle asks e = absurd cc
+cached_unwanted (kept.Index index) asks e = absurd cc
+cached_unwanted (kept.Bytes below value) asks e = refl
+cached_unwanted (kept.Chunk held) asks e = refl
+
+pub unasked_unwanted : {B : Type 0} (bare : Bool) (outer : List B) (codec : PlainCodec B) → asks_in_part outer codec ≡ false → (bare && asks_index outer codec) ≡ false
+unasked_unwanted false outer codec e = refl
+unasked_unwanted true [] codec e = by (asks_index [] codec) refl
+  where
+    by : (b : Bool) → asks_index [] codec ≡ b → asks_index [] codec ≡ false
+    by true h = absurd (let part = (part_laws codec).index_asks h in cc)
+    by false h = h
+unasked_unwanted true (first ∷ rest) codec e = refl
+
 -- ---- the index of what is stored
 
 some_found : (r : Result (List Span) CodecError) (len : ℕ) → ◌≡◌ {A = Result (Option (ℕ × List Span)) CodecError} (r >>= λ spans. Ok (Some (len, spans))) (Ok None) → ⊥

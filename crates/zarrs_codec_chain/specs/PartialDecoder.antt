@@ -7,7 +7,7 @@ use Rattle.zarrs_codec.specs.ArrayReader.{ArrayReader}
 use Rattle.zarrs_codec.specs.BytesToBytesCodec.{BytesCodecs}
 use Rattle.zarrs_codec.specs.StorageState.{StorageState, after_reading}
 use Rattle.zarrs_codec.specs.declared.refused.Refused.{Refused}
-use Rattle.zarrs_codec_chain.specs.ChunkCoder.{coder_form, coder_keeps_nothing, coder_knows_index, reader_source}
+use Rattle.zarrs_codec_chain.specs.ChunkCoder.{coder_form, coder_keeps_nothing, coder_knows_index, coder_wants_index, reader_source}
 use Rattle.zarrs_codec_chain.specs.ChunkRead.{reads_surely, stored_read}
 use Rattle.zarrs_codec_chain.specs.KeptIndex.{WhereSureBy, asks_index, form_index, index_bytes}
 use Rattle.zarrs_chain_meaning.specs.ChunkForm.{ChunkForm}
@@ -34,6 +34,10 @@ is_cached decoder = is_cache decoder.coder.cache
 -- a decoder keeps a shard's index
 abbrev pub is_indexed : {H B : Type 0} {h : _} {b : _} → ArrayPartialDecoder H B h b → Bool
 is_indexed decoder = coder_knows_index decoder.coder
+
+-- it reads a shard by its index, and keeps nothing yet
+abbrev pub wants_index : {H B : Type 0} {h : _} {b : _} → ArrayPartialDecoder H B h b → Bool
+wants_index decoder = coder_wants_index decoder.coder
 
 -- a decoder keeps nothing
 abbrev pub is_bare : {H B : Type 0} {h : _} {b : _} → ArrayPartialDecoder H B h b → Bool

@@ -47,7 +47,7 @@ pub struct ArrayPartialDecoder<'a, H: BytesPartialDecoderTraits, B: BytesToBytes
 }
 
 impl<'a, H: BytesPartialDecoderTraits, B: BytesToBytesCodecTraits> ArrayPartialDecoder<'a, H, B> {
-    ghost use Rattle.zarrs_codec_chain.specs.PartialDecoder.{decoder_held, decoder_form, handle_of, is_bare, is_cached, is_indexed, DecoderLeaves, DecoderLeavesAlone, KeepsCache, KeepsIndex, LeavesIndex, SureByIndex};
+    ghost use Rattle.zarrs_codec_chain.specs.PartialDecoder.{decoder_held, decoder_form, handle_of, is_bare, is_cached, is_indexed, DecoderLeaves, DecoderLeavesAlone, KeepsCache, KeepsIndex, LeavesIndex, SureByIndex, wants_index};
 
     /// The type of the elements.
     pub fn data_type(&self) -> &DataType
@@ -66,9 +66,7 @@ impl<'a, H: BytesPartialDecoderTraits, B: BytesToBytesCodecTraits> ArrayPartialD
         ensures index { LeavesIndex self.old self.new result }
         ensures sure_by_index { is_indexed self.old ≡ true → IsOk result }
         ensures no_fault_if_cached { is_cached self.old ≡ true → IsOk result }
-        ensures alone { asks_index (decoder_form self.old).chain.bytes_to_bytes
-            (decoder_form self.old).chain.array_to_bytes ≡ false
-            → handle_of self.new ≡ handle_of self.old }
+        ensures alone { wants_index self.old ≡ false → handle_of self.new ≡ handle_of self.old }
     {
         let Some(codec) = self.coder.unread_shard() else {
             return Ok(());
