@@ -256,7 +256,7 @@ module _ {B : Type 0} (f : BytesCodecs B) (codec : PlainCodec B) (inner index : 
       let rests_are : codec_rests_on f codec sizes type fill state.value places ≡ shard_rests shape at_end (chain_representation f (plain_chain index)) (chain_chunk f (plain_chain index)) (chain_rests f (plain_chain inner)) sizes type fill (Some value) places =
       (λ i. codec_rests_on f (is i) sizes type fill (value_is i) places) ∙ shard_rests_are f (plain_chain inner) (plain_chain index) shape at_end sizes type fill value places in
       ap (λ (v : Option (List ℕ)). are_sure state.sure (stored_index_bytes at_end size v)) value_is
-      ∙ (shard_sure shape at_end (chain_representation f (plain_chain index)) (chain_chunk f (plain_chain index)) (chain_rests f (plain_chain inner)) sizes type fill value places g.0 state.sure size sized (sym rests_are ∙ g.1) g.2).index_bytes
+      ∙ shard_sure shape at_end (chain_representation f (plain_chain index)) (chain_chunk f (plain_chain index)) (chain_rests f (plain_chain inner)) sizes type fill value places g.0 state.sure size sized (sym rests_are ∙ g.1) g.2
     where
       given : (r : Result (List ℕ) CodecError) → are_given_sure state.sure r ≡ true → (numbers : List ℕ) × (r ≡ Ok numbers) × (are_sure state.sure numbers ≡ true)
       given (Ok numbers) h = (numbers, refl, h)

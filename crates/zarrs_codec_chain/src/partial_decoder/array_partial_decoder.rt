@@ -59,6 +59,7 @@ impl<'a, H: BytesPartialDecoderTraits, B: BytesToBytesCodecTraits> ArrayPartialD
     /// Reads the index of a shard, where the chain has one and it isn't kept yet, and keeps it. Errors:
     /// those of `ChunkCoder::read_index`.
     fn keep_index(&mut self, alloc: Global, indexer: &Indexer) -> Result<(), CodecError>
+        // Wide: the chunk, what is stored of it, and the selection.
         ensures reads { IfErr result (λ cause. ReadsStoredChunk B.functions
             (decoder_form self.old) (H.state (handle_of self.old)) (selection_of indexer.now)
             (Err cause)) }

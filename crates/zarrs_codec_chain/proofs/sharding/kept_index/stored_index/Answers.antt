@@ -9,7 +9,7 @@ use Rattle.zarrs_codec.specs.StorageState.{are_sure, value_size}
 use Rattle.zarrs_codec_chain.proofs.IndexReads.{sure_some}
 use Rattle.zarrs_codec_chain.proofs.ShardParts.{grid_known, index_measured, is_ok_so}
 use Rattle.zarrs_codec_chain.proofs.ShardSpans.{is_shard, shard_takes}
-use Rattle.zarrs_codec_chain.proofs.StoredIndex.{index_at_hand, index_found, index_rejected, two_each, whole_stands}
+use Rattle.zarrs_codec_chain.proofs.StoredIndex.{two_each, whole_stands}
 use Rattle.zarrs_codec_chain.specs.SpanReads.{StandsIn, seen_state, stored_index_bytes, stored_spans}
 use Rattle.zarrs_codec_chain.proofs.sharding.kept_index.stored_index.Goals as goal
 
