@@ -33,7 +33,7 @@ use Rattle.zarrs_codec_chain.specs.KeptIndex.{IsIndex, rests_behind}
 use Rattle.zarrs_codec_chain.specs.ShardRead.{groups_read, groups_rest, span_read}
 use Rattle.zarrs_shard_runs.specs.GroupedRuns.{AreGroups, IsReadingOrder, group, order_places}
 use Rattle.zarrs_codec_chain.proofs.ShardParts.{chain_count, grid_known, groups_long, index_measured, inner_taken, is_ok_so}
-use Rattle.zarrs_codec_chain.proofs.ShardSpans.{counted, index_known, spans_known, groups_answered, groups_error, groups_found, groups_sure, inner_runs, index_sure, inside_is, inside_sure, is_shard, shard_takes}
+use Rattle.zarrs_codec_chain.proofs.ShardSpans.{index_known, spans_known, groups_answered, groups_error, groups_found, groups_sure, inner_runs, index_sure, inside_is, inside_sure, is_shard, shard_takes}
 use Rattle.zarrs_codec_chain.proofs.IndexReads.{behind_sure}
 use Rattle.zarrs_codec_chain.proofs.SpanSeen.{stands_value}
 use Rattle.zarrs_codec_chain.proofs.StoredIndex.{two_each}
