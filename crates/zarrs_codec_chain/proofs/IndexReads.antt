@@ -1,21 +1,18 @@
 -- Reads by the index of a shard that is kept, or that is read first.
-use Rattle.std.proofs.Common.{◌≡◌, ℕ, ◌<◌, ◌^◌, ◌+◌, ◌*◌, ◌&&◌, Bool, true, false, if◌then◌else◌, Option, Some, None, List, [], ◌∷◌, ◌++◌, length, map, Result, Ok, Err, arith, refl, ap, sym, subst, ◌∙◌}
-use Rattle.std.specs.Prelude.{IfErr, IfOk, IfSome, IsOk, is_some}
+use Rattle.std.proofs.Common.{◌≡◌, ℕ, ◌<◌, ◌^◌, ◌&&◌, Bool, true, false, if◌then◌else◌, Option, Some, None, List, [], ◌∷◌, length, map, Result, Ok, Err, refl, ap, sym, subst, ◌∙◌}
+use Rattle.std.specs.Prelude.{IfErr, IfOk, IfSome, is_some}
 use Rattle.std.specs.Option.{option_map}
-use Rattle.zarrs_array_bytes.specs.Elements.{select}
 use Rattle.zarrs_array_bytes.specs.Held.{Held}
 use Rattle.zarrs_array_bytes.specs.Validity.{Holds}
-use Rattle.zarrs_array_to_array.specs.ArrayToArrayCodec.{ArrayMapping, IsMapping}
 use Rattle.zarrs_bytes.proofs.Coding.{ok, bind_ok}
 use Rattle.zarrs_chain.proofs.ShardForms.{small_counted}
 use Rattle.zarrs_chain_meaning.proofs.CodecLaws.{chain_chunk_only}
-use Rattle.zarrs_chain_meaning.specs.ArrayStages.{arrays_map}
 use Rattle.zarrs_chain_meaning.specs.Chain.{taken_form}
 use Rattle.zarrs_chain_meaning.specs.ChunkForm.{ChunkForm}
 use Rattle.zarrs_chain_meaning.specs.Laws.{IsChainOfMappings}
 use Rattle.zarrs_chain_meaning.specs.PlainChain.{PlainChain, PlainCodec}
 use Rattle.zarrs_chain_meaning.specs.sharding.Sharding.{Span}
-use Rattle.zarrs_chunk.specs.Answer.{◌>>=◌, Answers, AnswersBy, is_fault, memory, memory_or_fault, seen}
+use Rattle.zarrs_chunk.specs.Answer.{◌>>=◌, Answers, AnswersBy, is_fault, memory, memory_or_fault}
 use Rattle.zarrs_chunk.specs.ChunkShape.{product}
 use Rattle.zarrs_chunk.specs.Selection.{Selection, bounds_of, tuples_of}
 use Rattle.zarrs_chunk.specs.Tuples.{row_major}
@@ -37,7 +34,6 @@ use Rattle.zarrs_codec_chain.specs.ChunkSource.{is_cache}
 use Rattle.zarrs_codec_chain.specs.declared.partial_decoder.cache.Cache.{Cache}
 use Rattle.zarrs_codec_chain.specs.declared.partial_decoder.cache.Cache.TheVariants as kept
 use Rattle.zarrs_codec_chain.specs.declared.sharding.shard_index.ShardIndex.{ShardIndex}
-use Rattle.zarrs_data_type.specs.Element.{Chunk, fill_element}
 use Rattle.zarrs_data_type.specs.ElementType.{ElementType}
 
 -- ---- what is kept

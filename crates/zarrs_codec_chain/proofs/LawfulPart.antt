@@ -41,7 +41,7 @@ use Rattle.zarrs_plain_vlen.specs.VlenRead.{stored_rests_on}
 use Rattle.zarrs_codec_chain.proofs.IndexLaws.{IndexLaws, shard_index}
 use Rattle.zarrs_codec_chain.proofs.PlaceCodecs.{bytes_places, packbits_places, vlen_places, whole_places}
 use Rattle.zarrs_codec_chain.proofs.ShardPlaces.{shard_places, through_places}
-use Rattle.zarrs_codec_chain.specs.CodecPart.{part_of, codec_read, codec_rests_on, form_rests_on, Part, bytes_part, packbits_part, shard_part, vlen_part, whole_part}
+use Rattle.zarrs_codec_chain.specs.CodecPart.{part_of, codec_read, form_rests_on, Part, bytes_part, packbits_part, shard_part, vlen_part, whole_part}
 use Rattle.zarrs_codec_chain.specs.PartRead.{read_by_form, whole_read}
 use Rattle.zarrs_codec_chain.specs.PlaceLaws.{SameMembers, ReadsEach, IsLawfulReader}
 

@@ -1,26 +1,10 @@
 -- The whole value of a handle as a span of it, and the numbers of an index.
-use Rattle.std.proofs.Common.{◌≡◌, ℕ, ◌+◌, ◌*◌, ◌≤◌, nat_le, Bool, true, Option, Some, None, List, length, Result, Ok, Err, arith, refl, ap, sym, subst, ◌∙◌}
+use Rattle.std.proofs.Common.{◌≡◌, ℕ, ◌*◌, true, Option, Some, None, List, length, arith, ap, sym, ◌∙◌}
 use Rattle.std.proofs.lemmas.Bool.Decides.{nat_tests}
-use Rattle.zarrs_bytes.proofs.Coding.{ok}
-use Rattle.zarrs_chain.specs.ChainView.{plain_chain}
-use Rattle.zarrs_chain.specs.declared.codec_chain.CodecChain.{CodecChain}
-use Rattle.zarrs_chain.specs.sharding.ShardingCalls.{index_size_of}
 use Rattle.zarrs_chain_meaning.proofs.ShardReads.{spans_long}
-use Rattle.zarrs_chain_meaning.specs.CodecMeaning.{meaning}
-use Rattle.zarrs_chain_meaning.specs.PlainChain.{PlainChain, PlainCodec, sharding_codec_of}
-use Rattle.zarrs_chain_meaning.specs.sharding.InnerChunks.{grid}
-use Rattle.zarrs_chain_meaning.specs.sharding.Sharding.{Span, spans_of}
-use Rattle.zarrs_chunk.specs.Answer.{◌>>=◌, memory_or_fault}
-use Rattle.zarrs_chunk.specs.declared.codec_error.CodecError.{CodecError}
-use Rattle.zarrs_codec.specs.BytesToBytesCodec.{BytesCodecs}
-use Rattle.zarrs_codec.specs.StorageState.{StorageState, are_sure, value_size}
-use Rattle.zarrs_codec_chain.proofs.ShardSpans.{spans_are}
-use Rattle.zarrs_codec_chain.proofs.WholeSpans.{stored_seen}
-use Rattle.zarrs_codec_chain.specs.ChunkRead.{are_given_sure}
-use Rattle.zarrs_codec_chain.specs.KeptIndex.{bytes_with, codec_index, codec_spans, index_rests_on}
-use Rattle.zarrs_codec_chain.specs.CodecPart.{part_of}
-use Rattle.zarrs_codec_chain.specs.ShardRead.{index_bytes_at}
-use Rattle.zarrs_codec_chain.specs.SpanReads.{StandsIn, held_state, seen_state, span_held, span_parts, stored_index_bytes, stored_spans}
+use Rattle.zarrs_chain_meaning.specs.sharding.Sharding.{spans_of}
+use Rattle.zarrs_codec.specs.StorageState.{StorageState, value_size}
+use Rattle.zarrs_codec_chain.specs.SpanReads.{StandsIn, held_state, span_parts}
 use Rattle.zarrs_codec_chain.specs.declared.sharding.value_span.ValueSpan.{ValueSpan}
 use Rattle.zarrs_lent_handles.specs.SpanHandle.{is_span_of}
 

@@ -1,5 +1,5 @@
 -- The index of a shard that a decoder keeps: what it is of what is stored, and what a read by it rests on.
-use Rattle.std.specs.Prelude.{◌≡◌, ℕ, ◌+◌, ◌-◌, ◌*◌, ◌^◌, min, Bool, true, false, if◌then◌else◌, Option, Some, None, IfSome, IfOk, List, [], ◌∷◌, length, Result, Ok, is_some, option_map}
+use Rattle.std.specs.Prelude.{◌≡◌, ℕ, ◌*◌, Bool, true, false, if◌then◌else◌, Option, Some, None, IfSome, IfOk, List, [], ◌∷◌, length, Result, Ok, is_some, option_map}
 use Rattle.std.proofs.Props.{props}
 use Rattle.zarrs_chunk.specs.Answer.{◌>>=◌}
 use Rattle.zarrs_chunk.specs.Selection.{Selection}
