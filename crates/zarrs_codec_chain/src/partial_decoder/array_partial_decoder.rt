@@ -9,7 +9,7 @@ ghost use Rattle.zarrs_codec_chain.specs.ChunkRead.{PlansRead, decodes_parts, Re
 ghost use Rattle.zarrs_codec_chain.specs.ChunkSource.{source_made};
 ghost use Rattle.zarrs_codec_chain.specs.ElementCode.{Chunk-set};
 ghost use Rattle.zarrs_codec_chain.specs.ChunkCalls.{WholeOnce};
-ghost use Rattle.zarrs_codec_chain.specs.KeptIndex.{IsIndexOf-prop, asks_index};
+ghost use Rattle.zarrs_codec_chain.specs.KeptIndex.{IsIndexOf-prop};
 ghost use Rattle.zarrs_chain.specs.ChainView.{plain_chain};
 
 use crate::chunk_coder::ChunkCoder;
