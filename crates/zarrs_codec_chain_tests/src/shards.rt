@@ -6,6 +6,7 @@ use crate::chunks::{Case, FIRST_OF_TWO, SHARD, case_of};
 use crate::coders::{Decoder, decoder};
 use crate::fenced::{FENCED, Row, all_through_chains};
 use std::alloc::Global;
+use std::process::Abort;
 use std::test::Fail;
 use zarrs_chunk::CodecError;
 use zarrs_codec::testing::RecordingHandle;
@@ -347,20 +348,55 @@ fn calls_and_held(alloc: Global, case: &Case, times: u32) -> Result<(u64, usize)
     }
 }
 
+/// How many times the part is read, how many reading calls that makes, and how many bytes are kept.
+struct Reads {
+    times: u32,
+    calls: u64,
+    held: usize,
+}
+
 /// The first read asks for the size, the index and the element's byte, the next ones for that byte
 /// alone. Beside the value's 36 bytes, which the handle keeps, the index of two inner chunks is kept.
-#[test]
-fn a_decoder_reads_the_index_once(rt: HostRuntime) -> Result<(), Fail> {
-    let alloc = rt.alloc();
-    let case = case_of(
-        alloc,
-        SHARD,
-        r#"{"at":{"ranges":[[1,2],[0,1]]},"data":["03"]}"#,
-    )?;
-    let rows = [(0, (0, 36)), (1, (3, 68)), (2, (4, 68)), (5, (7, 68))];
-    for (times, wanted) in rows {
-        let came = calls_and_held(alloc, &case, times)?;
-        is(&rt, "the index", "calls, held", &came, &wanted);
+const READS: &'static [Reads] = &[
+    Reads {
+        times: 0,
+        calls: 0,
+        held: 36,
+    },
+    Reads {
+        times: 1,
+        calls: 3,
+        held: 68,
+    },
+    Reads {
+        times: 2,
+        calls: 4,
+        held: 68,
+    },
+    Reads {
+        times: 5,
+        calls: 7,
+        held: 68,
+    },
+];
+
+fn reads_the_index_once(rt: &impl Abort, alloc: Global, case: &Case) -> Result<(), CodecError> {
+    for row in READS.iter() {
+        let came = calls_and_held(alloc, case, row.times)?;
+        is(
+            rt,
+            "an element",
+            "calls, held",
+            &came,
+            &(row.calls, row.held),
+        );
     }
     Ok(())
+}
+
+#[test]
+fn a_decoder_reads_the_index_once(rt: HostRuntime) -> Result<(), Fail> {
+    let part = r#"{"at":{"ranges":[[1,2],[0,1]]},"data":["03"]}"#;
+    let case = case_of(rt.alloc(), SHARD, part)?;
+    Ok(reads_the_index_once(&rt, rt.alloc(), &case)?)
 }
