@@ -155,9 +155,6 @@ grouped_rests rests shape sizes type fill value places spans count =
 abbrev pub moved_sure : ℕ → Option (ℕ → Bool) → Option (ℕ → Bool)
 moved_sure at sure = option_map (λ sure number. sure (at + number)) sure
 
-given : (sure : Option (ℕ → Bool)) (r : Result (List ℕ) CodecError) (numbers : List ℕ) → r ≡ Ok numbers → are_sure sure numbers ≡ true → are_given_sure sure r ≡ true
-given sure r numbers is e = rw is e
-
 two_sure : (sure : Option (ℕ → Bool)) (one other : Result (List ℕ) CodecError) → are_given_sure sure (one >>= λ here. other >>= λ behind. ok (here ++ behind)) ≡ true → (are_given_sure sure one ≡ true) × (are_given_sure sure other ≡ true)
 two_sure sure (Ok here) (Ok behind) e = sure_parts sure here behind e
 two_sure sure (Ok here) (Err cause) e = absurd cc
@@ -182,26 +179,15 @@ pub span_sure : (rests : Resting) (shape : List ℕ) (type : ElementType) (fill 
 span_sure rests shape type fill value span places sure inside e =
     then_given sure (nat_le (span.0 + span.1) (length value)) span.0 (rests shape type fill (Some (spanned_bytes value span)) places) inside e
 
--- The index's bytes are sure; and so are those that each group's read rests on.
-pub record ShardSure (shape : List ℕ) (at_end : Bool) (index : Decoder) (rests : Resting) (sizes : List ℕ) (type : ElementType) (fill value places : List ℕ) (sure : Option (ℕ → Bool)) (size : ℕ) : Type 0 where
-  pub index_bytes : are_sure sure (index_bytes_at at_end size value) ≡ true
-  pub groups : (spans : List Span) → spans_by shape at_end index sizes value size ≡ Ok spans → length spans ≡ inner_chunk_count shape sizes → are_given_sure sure (groups_rest rests shape type fill value spans (groups_of shape sizes places)) ≡ true
-
--- where what a shard's read rests on is sure
+-- where what a shard's read rests on is sure, the index's bytes are
 pub shard_sure : (shape : List ℕ) (at_end : Bool) (measure : Measure) (index : Decoder) (rests : Resting) (sizes : List ℕ) (type : ElementType) (fill value places numbers : List ℕ) (sure : Option (ℕ → Bool)) (size : ℕ)
-    → index_size measure shape sizes ≡ Ok size → shard_rests shape at_end measure index rests sizes type fill (Some value) places ≡ Ok numbers → are_sure sure numbers ≡ true → ShardSure shape at_end index rests sizes type fill value places sure size
+    → index_size measure shape sizes ≡ Ok size → shard_rests shape at_end measure index rests sizes type fill (Some value) places ≡ Ok numbers → are_sure sure numbers ≡ true → are_sure sure (index_bytes_at at_end size value) ≡ true
 shard_sure shape at_end measure index rests sizes type fill value places numbers sure size sized e h =
     let a = bind_ok (index_size measure shape sizes) _ numbers e in
     let same : a.0 ≡ size = ok_is a.0 size (sym a.1 ∙ sized) in
     let here = subst (λ (n : ℕ). (spans_rest rests shape sizes type fill value places (spans_by shape at_end index sizes value n) >>= λ behind. ok (index_bytes_at at_end n value ++ behind)) ≡ Ok numbers) same a.2 in
     let b = bind_ok (spans_rest rests shape sizes type fill value places (spans_by shape at_end index sizes value size)) _ numbers here in
-    let both = sure_parts sure (index_bytes_at at_end size value) b.0 (subst (λ (ns : List ℕ). are_sure sure ns ≡ true) (sym (ok_is (index_bytes_at at_end size value ++ b.0) numbers b.2)) h) in
-    record {
-      index_bytes = both.0;
-      groups = λ spans is count.
-          given sure (groups_rest rests shape type fill value spans (groups_of shape sizes places)) b.0
-          (sym (grouped_rests rests shape sizes type fill value places spans count) ∙ ap (spans_rest rests shape sizes type fill value places) (sym is) ∙ b.1) both.1;
-    }
+    (sure_parts sure (index_bytes_at at_end size value) b.0 (subst (λ (ns : List ℕ). are_sure sure ns ≡ true) (sym (ok_is (index_bytes_at at_end size value ++ b.0) numbers b.2)) h)).0
 
 -- ---- an inner chain's reads
 

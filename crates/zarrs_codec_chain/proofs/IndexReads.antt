@@ -1,5 +1,5 @@
 -- Reads by the index of a shard that is kept, or that is read first.
-use Rattle.std.proofs.Common.{◌≡◌, ℕ, ◌<◌, ◌^◌, Bool, true, false, if◌then◌else◌, Option, Some, None, List, [], ◌∷◌, length, map, Result, Ok, Err, refl, ap, sym, subst, ◌∙◌}
+use Rattle.std.proofs.Common.{◌≡◌, ℕ, ◌<◌, ◌^◌, ◌&&◌, Bool, true, false, if◌then◌else◌, Option, Some, None, List, [], ◌∷◌, length, map, Result, Ok, Err, refl, ap, sym, subst, ◌∙◌}
 use Rattle.std.specs.Prelude.{IfErr, IfOk, IfSome, is_some}
 use Rattle.std.specs.Option.{option_map}
 use Rattle.zarrs_array_bytes.specs.Held.{Held}
@@ -56,28 +56,23 @@ bare_uncached (kept.Index index) e = refl
 bare_uncached (kept.Bytes below value) e = absurd cc
 bare_uncached (kept.Chunk held) e = absurd cc
 
-pub bare_is : (cache : Cache) → keeps_nothing cache ≡ true → cache ≡ kept.Handle
-bare_is kept.Handle e = refl
-bare_is (kept.Index index) e = absurd cc
-bare_is (kept.Bytes below value) e = absurd cc
-bare_is (kept.Chunk held) e = absurd cc
+-- with a cache, or where no index is asked for, none is wanted
+pub cached_unwanted : (cache : Cache) (asks : Bool) → is_cache cache ≡ true → (keeps_nothing cache && asks) ≡ false
+cached_unwanted kept.Handle asks e = absurd cc
+cached_unwanted (kept.Index index) asks e = absurd cc
+cached_unwanted (kept.Bytes below value) asks e = refl
+cached_unwanted (kept.Chunk held) asks e = refl
 
--- what is kept is a cache, an index or nothing
-pub else_indexed : (cache : Cache) → is_cache cache ≡ false → keeps_nothing cache ≡ false → knows_index cache ≡ true
-else_indexed kept.Handle cached bare = absurd cc
-else_indexed (kept.Index index) cached bare = refl
-else_indexed (kept.Bytes below value) cached bare = absurd cc
-else_indexed (kept.Chunk held) cached bare = absurd cc
+pub unasked_unwanted : {B : Type 0} (bare : Bool) (outer : List B) (codec : PlainCodec B) → asks_in_part outer codec ≡ false → (bare && asks_index outer codec) ≡ false
+unasked_unwanted false outer codec e = refl
+unasked_unwanted true [] codec e = by (asks_index [] codec) refl
+  where
+    by : (b : Bool) → asks_index [] codec ≡ b → asks_index [] codec ≡ false
+    by true h = absurd (let part = (part_laws codec).index_asks h in cc)
+    by false h = h
+unasked_unwanted true (first ∷ rest) codec e = refl
 
 -- ---- the index of what is stored
-
-some_found : (r : Result (List Span) CodecError) (len : ℕ) → ◌≡◌ {A = Result (Option (ℕ × List Span)) CodecError} (r >>= λ spans. Ok (Some (len, spans))) (Ok None) → ⊥
-some_found (Ok spans) len e = cc
-some_found (Err x) len e = cc
-
-pub nothing_stored : {B : Type 0} (f : BytesCodecs B) (codec : PlainCodec B) (sizes : List ℕ) (stored : Option (List ℕ)) → codec_index f codec sizes stored ≡ Ok None → stored ≡ None
-nothing_stored f codec sizes None e = refl
-nothing_stored f codec sizes (Some value) e = absurd (some_found (codec_spans f codec sizes value) (length value) e)
 
 -- the value whose index it is
 pub record HasIndex {B : Type 0} (f : BytesCodecs B) (codec : PlainCodec B) (sizes : List ℕ) (stored : Option (List ℕ)) (len : ℕ) (spans : List Span) : Type 0 where
@@ -108,11 +103,6 @@ asks_part [] codec e = (part_laws codec).index_asks e
 asks_part (first ∷ rest) codec e = absurd cc
 
 -- ---- what a read rests on behind the index
-
-pub sure_some : (sure : Option (ℕ → Bool)) (r : Result (List ℕ) CodecError) → are_given_sure sure r ≡ true → is_some sure ≡ true
-sure_some None (Ok numbers) e = absurd cc
-sure_some None (Err x) e = absurd cc
-sure_some (Some test) r e = refl
 
 none_asked : (sure : Option (ℕ → Bool)) (r : Result (List ℕ) CodecError) → are_given_sure sure r ≡ true → are_sure sure [] ≡ true
 none_asked None (Ok numbers) e = absurd cc
@@ -261,9 +251,3 @@ module _ {B : Type 0} (f : BytesCodecs B) (form : ChunkForm B) (encoded : List �
         → (are_given_sure before.sure (index_rests_on f form.chain.array_to_bytes encoded before.value) ≡ true → is_fault result ≡ false) → IfErr result (λ error. ReadsStoredChunk f form before selection (Err error))
     index_refused_by (Ok index) answer sure = tt
     index_refused_by (Err error) answer sure = index_refused_read error answer sure
-
--- the index that is read is that of what is stored
-pub index_found_by : {B : Type 0} (f : BytesCodecs B) (chain : PlainChain B) (sizes : List ℕ) (stored : Option (List ℕ)) (result : Result (Option ShardIndex) CodecError) → asks_index chain.bytes_to_bytes chain.array_to_bytes ≡ true
-    → Answers memory_or_fault (option_map index_seen) result (codec_index f chain.array_to_bytes sizes stored) → IfOk result (λ index. IsIndexOf f chain sizes stored (kept.Index index))
-index_found_by f chain sizes stored (Ok index) asks answer = (asks, answer)
-index_found_by f chain sizes stored (Err error) asks answer = tt

@@ -22,12 +22,12 @@ use Rattle.zarrs_chunk.specs.declared.codec_error.CodecError.TheVariants.{Invali
 use Rattle.zarrs_codec.specs.BytesToBytesCodec.{BytesCodecs}
 use Rattle.zarrs_codec.specs.StorageState.{StorageState, are_sure}
 use Rattle.zarrs_codec.specs.declared.bytes_representation.BytesRepresentation.{BytesRepresentation}
-use Rattle.zarrs_codec_chain.proofs.GroupedReads.{ShardSure, moved_sure, shard_sure, span_sure}
+use Rattle.zarrs_codec_chain.proofs.GroupedReads.{moved_sure, shard_sure, span_sure}
 use Rattle.zarrs_codec_chain.proofs.SpanSeen.{HasValue, IsInside, inside_seen, span_value, stands_value}
 use Rattle.zarrs_codec_chain.specs.ChunkRead.{are_given_sure}
 use Rattle.zarrs_codec_chain.specs.CodecPart.{codec_read, codec_rests_on}
 use Rattle.zarrs_codec_chain.specs.KeptIndex.{IsIndex, codec_spans, rests_behind}
-use Rattle.zarrs_codec_chain.specs.ShardRead.{span_read, span_rests, spans_read, spans_rest, shard_rests}
+use Rattle.zarrs_codec_chain.specs.ShardRead.{index_bytes_at, span_read, span_rests, spans_read, spans_rest, shard_rests}
 use Rattle.zarrs_codec_chain.specs.SpanReads.{StandsIn, chain_read, chain_rests, inner_span, seen_state, span_parts, stored_index_bytes, stored_span_read, stored_span_rests, stored_spans}
 use Rattle.zarrs_codec_chain.specs.declared.sharding.value_span.ValueSpan.{ValueSpan}
 use Rattle.zarrs_data_type.specs.Element.{absent, Chunk}
@@ -181,8 +181,8 @@ module _ {B : Type 0} {f : BytesCodecs B} {codec : PlainCodec B} {inner index : 
     given (Ok numbers) h = (numbers, refl, h)
     given (Err error) h = absurd cc
 
-    all_sure : ShardSure shape at_end (chain_chunk f (plain_chain index)) (chain_rests f (plain_chain inner)) sizes type fill shard.value places state.sure known.size
-    all_sure =
+    index_sure : are_sure state.sure (index_bytes_at at_end known.size shard.value) ≡ true
+    index_sure =
         let rests_are : codec_rests_on f codec sizes type fill state.value places ≡ shard_rests shape at_end (chain_representation f (plain_chain index)) (chain_chunk f (plain_chain index)) (chain_rests f (plain_chain inner)) sizes type fill (Some shard.value) places =
         (λ i. codec_rests_on f (shard.is i) sizes type fill (shard.value_is i) places) ∙ shard_rests_are f (plain_chain inner) (plain_chain index) shape at_end sizes type fill shard.value places in
         let g = given (codec_rests_on f codec sizes type fill state.value places) sure in
@@ -192,4 +192,4 @@ module _ {B : Type 0} {f : BytesCodecs B} {codec : PlainCodec B} {inner index : 
     pub with_index_sure : (P : Type 0) → IfOk (index_size_of f index (grid shape sizes)) (λ size. are_sure state.sure (stored_index_bytes at_end size state.value) ≡ true → P) → P
     with_index_sure P h =
         subst (λ (r : Result ℕ CodecError). IfOk r (λ size. are_sure state.sure (stored_index_bytes at_end size state.value) ≡ true → P)) known.sized h
-        (ap (λ (v : Option (List ℕ)). are_sure state.sure (stored_index_bytes at_end known.size v)) shard.value_is ∙ all_sure.index_bytes)
+        (ap (λ (v : Option (List ℕ)). are_sure state.sure (stored_index_bytes at_end known.size v)) shard.value_is ∙ index_sure)

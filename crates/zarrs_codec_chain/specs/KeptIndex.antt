@@ -24,19 +24,21 @@ abbrev pub asks_index : {B : Type 0} → List B → PlainCodec B → Bool
 asks_index [] codec = is_some (part_of codec).indexed
 asks_index (first ∷ rest) codec = false
 
--- where the inner chunks of a value stand, by its index, or the first error; nowhere where its values have none
+-- where the inner chunks of a value stand, by its index, or the first error; nowhere where values have none
 abbrev pub spans_with : {B : Type 0} → Option (IndexPart B) → BytesCodecs B → List ℕ → List ℕ → Result (List Span) CodecError
 spans_with None f sizes value = Ok []
 spans_with (Some index) f sizes value = index.spans f sizes value
 
+-- the same of a codec's value
 abbrev pub codec_spans : {B : Type 0} → BytesCodecs B → PlainCodec B → List ℕ → List ℕ → Result (List Span) CodecError
 codec_spans f codec sizes value = spans_with (part_of codec).indexed f sizes value
 
--- the numbers of the index's bytes, of what is stored
+-- the numbers of the index's bytes of a value
 abbrev pub bytes_with : {B : Type 0} → Option (IndexPart B) → BytesCodecs B → List ℕ → List ℕ → Result (List ℕ) CodecError
 bytes_with None f sizes value = Ok []
 bytes_with (Some index) f sizes value = index.bytes f sizes value
 
+-- the same of what is stored
 abbrev pub index_rests_on : {B : Type 0} → BytesCodecs B → PlainCodec B → List ℕ → Option (List ℕ) → Result (List ℕ) CodecError
 index_rests_on f codec sizes None = Ok []
 index_rests_on f codec sizes (Some value) = bytes_with (part_of codec).indexed f sizes value
@@ -93,17 +95,18 @@ IsIndexOf-prop f chain sizes stored (kept.Bytes below value) = hlevel props
 IsIndexOf-prop f chain sizes stored (kept.Chunk held) = hlevel props
 
 -- so many bytes are kept beside those of the handle: 16 for each inner chunk of a value that is stored
-abbrev pub index_bytes : Option (ℕ × List Span) → ℕ
-index_bytes None = 0
-index_bytes (Some index) = 16 * length index.1
+abbrev pub index_held : Option (ℕ × List Span) → ℕ
+index_held None = 0
+index_held (Some index) = 16 * length index.1
 
 -- ---- what a read by it rests on
 
--- of `sharding_indexed` what the inner reads rest on; of any other codec all that a read rests on
+-- what a read rests on behind the index; all of it where values have none
 abbrev pub rests_with : {B : Type 0} → Option (IndexPart B) → BytesCodecs B → Resting → Resting
 rests_with None f rests sizes type fill stored places = rests sizes type fill stored places
 rests_with (Some index) f rests sizes type fill stored places = index.rests_behind f sizes type fill stored places
 
+-- the same of a codec: of `sharding_indexed` what the inner reads rest on
 abbrev pub rests_behind : {B : Type 0} → BytesCodecs B → PlainCodec B → Resting
 rests_behind f codec sizes type fill stored places = rests_with (part_of codec).indexed f (codec_rests_on f codec) sizes type fill stored places
 

@@ -7,9 +7,9 @@ use Rattle.zarrs_codec.specs.ArrayReader.{ArrayReader}
 use Rattle.zarrs_codec.specs.BytesToBytesCodec.{BytesCodecs}
 use Rattle.zarrs_codec.specs.StorageState.{StorageState, after_reading}
 use Rattle.zarrs_codec.specs.declared.refused.Refused.{Refused}
-use Rattle.zarrs_codec_chain.specs.ChunkCoder.{coder_form, coder_keeps_nothing, coder_knows_index, reader_source}
+use Rattle.zarrs_codec_chain.specs.ChunkCoder.{coder_form, coder_keeps_nothing, coder_knows_index, coder_wants_index, reader_source}
 use Rattle.zarrs_codec_chain.specs.ChunkRead.{reads_surely, stored_read}
-use Rattle.zarrs_codec_chain.specs.KeptIndex.{WhereSureBy, asks_index, form_index, index_bytes}
+use Rattle.zarrs_codec_chain.specs.KeptIndex.{WhereSureBy, asks_index, form_index, index_held}
 use Rattle.zarrs_chain_meaning.specs.ChunkForm.{ChunkForm}
 use Rattle.zarrs_codec_chain.specs.ChunkSource.{Source, held_by, is_cache, IsSizeOf, source_made}
 use Rattle.zarrs_codec_chain.specs.declared.partial_decoder.array_partial_decoder.ArrayPartialDecoder.{ArrayPartialDecoder}
@@ -34,6 +34,10 @@ is_cached decoder = is_cache decoder.coder.cache
 -- a decoder keeps a shard's index
 abbrev pub is_indexed : {H B : Type 0} {h : _} {b : _} → ArrayPartialDecoder H B h b → Bool
 is_indexed decoder = coder_knows_index decoder.coder
+
+-- it reads a shard by its index, and keeps nothing yet
+abbrev pub wants_index : {H B : Type 0} {h : _} {b : _} → ArrayPartialDecoder H B h b → Bool
+wants_index decoder = coder_wants_index decoder.coder
 
 -- a decoder keeps nothing
 abbrev pub is_bare : {H B : Type 0} {h : _} {b : _} → ArrayPartialDecoder H B h b → Bool
@@ -80,7 +84,7 @@ KeepsCache state f reads decoder size =
 -- beside what its handle keeps in memory, a decoder that keeps a shard's index has its bytes: 16 for each inner chunk
 abbrev pub KeepsIndex : {H B : Type 0} {h : _} {b : _} → (H → StorageState) → BytesCodecs B → (H → ℕ) → ArrayPartialDecoder H B h b → ℕ → Type 0
 KeepsIndex state f held decoder size =
-    is_indexed decoder ≡ true → IsOkAnd (form_index f (decoder_form decoder) (state (handle_of decoder)).value) (λ index. size ≡ min (held (handle_of decoder) + index_bytes index) (2 ^ 64 - 1))
+    is_indexed decoder ≡ true → IsOkAnd (form_index f (decoder_form decoder) (state (handle_of decoder)).value) (λ index. size ≡ min (held (handle_of decoder) + index_held index) (2 ^ 64 - 1))
 
 -- Over `sharding_indexed` without bytes-to-bytes codecs a read that is answered leaves the index kept; and one that is kept stays.
 pub record LeavesIndex {H B T : Type 0} {h : _} {b : _} (before after : ArrayPartialDecoder H B h b) (result : Result T CodecError) : Type 0 where

@@ -1,5 +1,5 @@
 //! What reading and writing a chunk in part share: the chain, the form of the chunk, and the cache.
-ghost use Rattle.std.specs.Prelude.{◌≡◌, ◌<◌, ◌^◌, All, Ok, IfOk, length, is_ok, true, false};
+ghost use Rattle.std.specs.Prelude.{◌≡◌, ◌<◌, ◌^◌, All, Ok, IfOk, length, is_ok, true};
 ghost use Rattle.zarrs_chunk.specs.ChunkShape.{product};
 ghost use Rattle.zarrs_data_type.specs.FillValue.{fill_fits};
 ghost use Rattle.zarrs_codec.specs.StorageState.{after_reading};

@@ -369,7 +369,8 @@ pub(crate) const WITH_CACHE: &'static [Row] = &[
         refusals: NONE,
         in_part: true,
         planned: None,
-        size_held: 36,
+        // 36 of the value, and 32 of the index.
+        size_held: 68,
     },
     Row {
         name: "no turned texts",

@@ -9,7 +9,7 @@ ghost use Rattle.zarrs_codec_chain.specs.ChunkRead.{PlansRead, decodes_parts, Re
 ghost use Rattle.zarrs_codec_chain.specs.ChunkSource.{source_made};
 ghost use Rattle.zarrs_codec_chain.specs.ElementCode.{Chunk-set};
 ghost use Rattle.zarrs_codec_chain.specs.ChunkCalls.{WholeOnce};
-ghost use Rattle.zarrs_codec_chain.specs.KeptIndex.{IsIndexOf-prop, asks_index};
+ghost use Rattle.zarrs_codec_chain.specs.KeptIndex.{IsIndexOf-prop};
 ghost use Rattle.zarrs_chain.specs.ChainView.{plain_chain};
 
 use crate::chunk_coder::ChunkCoder;
@@ -47,7 +47,7 @@ pub struct ArrayPartialDecoder<'a, H: BytesPartialDecoderTraits, B: BytesToBytes
 }
 
 impl<'a, H: BytesPartialDecoderTraits, B: BytesToBytesCodecTraits> ArrayPartialDecoder<'a, H, B> {
-    ghost use Rattle.zarrs_codec_chain.specs.PartialDecoder.{decoder_held, decoder_form, handle_of, is_bare, is_cached, is_indexed, DecoderLeaves, DecoderLeavesAlone, KeepsCache, KeepsIndex, LeavesIndex, SureByIndex};
+    ghost use Rattle.zarrs_codec_chain.specs.PartialDecoder.{decoder_held, decoder_form, handle_of, is_bare, is_cached, is_indexed, DecoderLeaves, DecoderLeavesAlone, KeepsCache, KeepsIndex, LeavesIndex, SureByIndex, wants_index};
 
     /// The type of the elements.
     pub fn data_type(&self) -> &DataType
@@ -59,6 +59,7 @@ impl<'a, H: BytesPartialDecoderTraits, B: BytesToBytesCodecTraits> ArrayPartialD
     /// Reads the index of a shard, where the chain has one and it isn't kept yet, and keeps it. Errors:
     /// those of `ChunkCoder::read_index`.
     fn keep_index(&mut self, alloc: Global, indexer: &Indexer) -> Result<(), CodecError>
+        // Wide: the chunk, what is stored of it, and the selection.
         ensures reads { IfErr result (λ cause. ReadsStoredChunk B.functions
             (decoder_form self.old) (H.state (handle_of self.old)) (selection_of indexer.now)
             (Err cause)) }
@@ -66,9 +67,7 @@ impl<'a, H: BytesPartialDecoderTraits, B: BytesToBytesCodecTraits> ArrayPartialD
         ensures index { LeavesIndex self.old self.new result }
         ensures sure_by_index { is_indexed self.old ≡ true → IsOk result }
         ensures no_fault_if_cached { is_cached self.old ≡ true → IsOk result }
-        ensures alone { asks_index (decoder_form self.old).chain.bytes_to_bytes
-            (decoder_form self.old).chain.array_to_bytes ≡ false
-            → handle_of self.new ≡ handle_of self.old }
+        ensures alone { wants_index self.old ≡ false → handle_of self.new ≡ handle_of self.old }
     {
         let Some(codec) = self.coder.unread_shard() else {
             return Ok(());

@@ -209,6 +209,7 @@ impl<'a, B: BytesToBytesCodecTraits> ChunkCoder<'a, B> {
         ensures reads { ReadsStoredChunk B.functions (coder_form self.now) (H.state handle.old)
             (selection_of indexer.now) result }
         ensures tight { IfOk result (IsTight self.now.data_type) }
+        // Wide: the chunk, what is stored of it, and the selection.
         ensures sure_by_index { coder_knows_index self.now ≡ true → WhereSureBy true B.functions
             (coder_form self.now) (H.state handle.old) (selection_of indexer.now)
             (is_fault result ≡ false) }

@@ -1,16 +1,12 @@
-use Rattle.std.proofs.Common.{◌≡◌, ℕ, Some, Result, Ok, Err, true, false, IfOk, ap, sym, subst, ◌∙◌}
-use Rattle.std.proofs.lemmas.Result.{err_from_is_err_and}
-use Rattle.zarrs_chain.specs.ChainView.{plain_chain, plain_sharding}
+use Rattle.std.proofs.Common.{◌≡◌, Some, sym, subst, ◌∙◌}
+use Rattle.zarrs_chain.specs.ChainView.{plain_sharding}
 use Rattle.zarrs_chain_meaning.proofs.ArraySteps.{ok_is}
 use Rattle.zarrs_chain_meaning.specs.sharding.InnerChunks.{inner_chunk_count}
-use Rattle.zarrs_chunk.specs.Answer.{is_fault}
-use Rattle.zarrs_chunk.specs.declared.codec_error.CodecError.{CodecError}
-use Rattle.zarrs_codec.specs.StorageState.{are_sure, value_size}
-use Rattle.zarrs_codec_chain.proofs.IndexReads.{sure_some}
+use Rattle.zarrs_codec.specs.StorageState.{value_size}
 use Rattle.zarrs_codec_chain.proofs.ShardParts.{grid_known, index_measured, is_ok_so}
-use Rattle.zarrs_codec_chain.proofs.ShardSpans.{is_shard, shard_takes}
-use Rattle.zarrs_codec_chain.proofs.StoredIndex.{index_at_hand, index_found, index_rejected, two_each, whole_stands}
-use Rattle.zarrs_codec_chain.specs.SpanReads.{StandsIn, seen_state, stored_index_bytes, stored_spans}
+use Rattle.zarrs_codec_chain.proofs.ShardSpans.{shard_takes}
+use Rattle.zarrs_codec_chain.proofs.StoredIndex.{two_each, whole_stands}
+use Rattle.zarrs_codec_chain.specs.SpanReads.{StandsIn}
 use Rattle.zarrs_codec_chain.proofs.sharding.kept_index.stored_index.Goals as goal
 
 pub shard_form-requires : goal.shard_form-requires
