@@ -1,15 +1,10 @@
 //! Reads of shards over a handle that is read inside some ranges alone: they ask for the index, and of
 //! each inner chunk that has any of the places for what its own chain rests on.
 
-use crate::checks::is;
-use crate::chunks::{Case, FIRST_OF_TWO, SHARD, case_of};
-use crate::coders::{Decoder, decoder};
+use crate::chunks::{FIRST_OF_TWO, SHARD};
 use crate::fenced::{FENCED, Row, all_through_chains};
-use std::alloc::Global;
-use std::process::Abort;
 use std::test::Fail;
 use zarrs_chunk::CodecError;
-use zarrs_codec::testing::RecordingHandle;
 
 /// Four rows of four bytes, two rows in each inner chunk, with the index before them.
 const BEFORE: &'static str =
@@ -318,85 +313,4 @@ fn reads_of_shards_ask_for_the_index_and_inner_bytes(rt: HostRuntime) -> Result<
 #[test]
 fn and_inner_chains_for_what_they_rest_on(rt: HostRuntime) -> Result<(), Fail> {
     Ok(all_through_chains(&rt, rt.alloc(), OF_CHAINS)?)
-}
-
-/// Reads the part so many times.
-fn read_times(
-    alloc: Global,
-    decoder: &mut Decoder<'_, RecordingHandle>,
-    case: &Case,
-    times: u32,
-) -> Result<(), CodecError> {
-    for _ in 0..times {
-        decoder.partial_decode(alloc, &case.part.indexer)?;
-    }
-    Ok(())
-}
-
-/// How many reading calls a decoder makes that reads the part so many times, and how many bytes are
-/// kept then.
-fn calls_and_held(alloc: Global, case: &Case, times: u32) -> Result<(u64, usize), CodecError> {
-    let value = FIRST_OF_TWO.to_vec(alloc)?;
-    let handle = RecordingHandle::new(alloc, Some(value));
-    match decoder(alloc, &case.chunk, handle) {
-        Err(refused) => Err(refused.error),
-        Ok(mut decoder) => {
-            read_times(alloc, &mut decoder, case, times)?;
-            let held = decoder.size_held();
-            Ok((decoder.into_handle().reads(), held))
-        }
-    }
-}
-
-/// How many times the part is read, how many reading calls that makes, and how many bytes are kept.
-struct Reads {
-    times: u32,
-    calls: u64,
-    held: usize,
-}
-
-/// The first read asks for the size, the index and the element's byte, the next ones for that byte
-/// alone. Beside the value's 36 bytes, which the handle keeps, the index of two inner chunks is kept.
-const READS: &'static [Reads] = &[
-    Reads {
-        times: 0,
-        calls: 0,
-        held: 36,
-    },
-    Reads {
-        times: 1,
-        calls: 3,
-        held: 68,
-    },
-    Reads {
-        times: 2,
-        calls: 4,
-        held: 68,
-    },
-    Reads {
-        times: 5,
-        calls: 7,
-        held: 68,
-    },
-];
-
-fn reads_the_index_once(rt: &impl Abort, alloc: Global, case: &Case) -> Result<(), CodecError> {
-    for row in READS.iter() {
-        let came = calls_and_held(alloc, case, row.times)?;
-        is(
-            rt,
-            "an element",
-            "calls, held",
-            &came,
-            &(row.calls, row.held),
-        );
-    }
-    Ok(())
-}
-
-#[test]
-fn a_decoder_reads_the_index_once(rt: HostRuntime) -> Result<(), Fail> {
-    let part = r#"{"at":{"ranges":[[1,2],[0,1]]},"data":["03"]}"#;
-    let case = case_of(rt.alloc(), SHARD, part)?;
-    Ok(reads_the_index_once(&rt, rt.alloc(), &case)?)
 }
