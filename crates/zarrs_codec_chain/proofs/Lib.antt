@@ -39,5 +39,6 @@ pub mod LeafReads
 pub mod WholeSpans
 pub mod ShardParts
 pub mod GroupedShards
+pub mod JointReads
 pub mod StoredIndex
 pub mod GroupSteps

@@ -27,6 +27,7 @@ pub mod ShardRead
 pub mod BoxRows
 pub mod FewerExcused
 pub mod SpanReads
+pub mod JointReads
 pub mod KeptIndex
 pub use Rattle.zarrs_chunk.specs.Answer
 pub use Rattle.zarrs_chunk.specs.Selection

@@ -1,6 +1,7 @@
 //! Reading a chunk of `sharding_indexed` in part.
 mod index_read;
 mod inner_reads;
+mod joint_reads;
 pub(crate) mod kept_index;
 mod leaf_reads;
 pub(crate) mod shard_index;

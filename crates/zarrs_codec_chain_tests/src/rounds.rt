@@ -4,6 +4,7 @@ use crate::checks::{are_ranges, is};
 use crate::chunks::{A_AND_BC, BYTES, Case, FIRST_OF_TWO, OPTIONAL, SHARD, TEXTS, case_of};
 use crate::coders::{Decoder, decoder};
 use crate::reads::is_read;
+use crate::shards::{INNER_FLAGS, INNER_SIZED, TURNED_INSIDE};
 use std::alloc::Global;
 use std::process::Abort;
 use std::test::Fail;
@@ -85,6 +86,27 @@ const ROWS: &'static [Row] = &[
         value: FIRST_OF_TWO,
         part: r#"{"at":{"ranges":[[1,2],[1,3]]},"data":["04","00"]}"#,
         rounds: &[&[(4, 36)], &[(3, 4)]],
+    },
+    Row {
+        name: "a row over two inner chunks whose axes are turned: their bytes in one round",
+        chunk: TURNED_INSIDE,
+        value: b"\x01\x03\x02\x04\x05\x07\x06\x08\0\0\0\0\0\0\0\0\x04\0\0\0\0\0\0\0\x04\0\0\0\0\0\0\0\x04\0\0\0\0\0\0\0",
+        part: r#"{"at":{"ranges":[[1,2],[0,3]]},"data":["03","04","07"]}"#,
+        rounds: &[&[(8, 40)], &[(1, 2), (3, 4), (5, 6)]],
+    },
+    Row {
+        name: "flags of two inner chunks",
+        chunk: INNER_FLAGS,
+        value: b"\x05\x80\0\0\0\0\0\0\0\0\x01\0\0\0\0\0\0\0\x01\0\0\0\0\0\0\0\x01\0\0\0\0\0\0\0",
+        part: r#"{"at":{"indices":[[15],[2]]},"data":["01","01"]}"#,
+        rounds: &[&[(2, 34)], &[(0, 2)]],
+    },
+    Row {
+        name: "elements of two inner chunks that are read whole",
+        chunk: INNER_SIZED,
+        value: b"\x02\0\0\0\0\0\0\0\x01\x02\x02\0\0\0\0\0\0\0\x03\x04\0\0\0\0\0\0\0\0\x0a\0\0\0\0\0\0\0\x0a\0\0\0\0\0\0\0\x0a\0\0\0\0\0\0\0",
+        part: r#"{"at":{"ranges":[[1,3]]},"data":["02","03"]}"#,
+        rounds: &[&[(20, 52)], &[(0, 20)]],
     },
     Row {
         name: "two of three bytes with their length",

@@ -23,7 +23,7 @@ const INNER_LENGTHS: &'static str =
     r#"{"shape":[4],"data_type":"string","fill_value":"","codecs":[{"name":"sharding_indexed","configuration":{"chunk_shape":[2],"codecs":["vlen-utf8"],"index_codecs":[{"name":"bytes","configuration":{"endian":"little"}}]}}]}"#;
 
 /// Four bytes, two in each inner chunk, with their length before them.
-const INNER_SIZED: &'static str =
+pub(crate) const INNER_SIZED: &'static str =
     r#"{"shape":[4],"data_type":"uint8","fill_value":"00","codecs":[{"name":"sharding_indexed","configuration":{"chunk_shape":[2],"codecs":["bytes","sample.length"],"index_codecs":[{"name":"bytes","configuration":{"endian":"little"}}]}}]}"#;
 
 /// Four words in shards of one element with their length before them, in a shard of two.
@@ -31,7 +31,7 @@ const NESTED_SIZED: &'static str =
     r#"{"shape":[4],"data_type":"uint16","fill_value":"0000","codecs":[{"name":"sharding_indexed","configuration":{"chunk_shape":[2],"codecs":[{"name":"sharding_indexed","configuration":{"chunk_shape":[1],"codecs":[{"name":"bytes","configuration":{"endian":"little"}}],"index_codecs":[{"name":"bytes","configuration":{"endian":"little"}}]}},"sample.length"],"index_codecs":[{"name":"bytes","configuration":{"endian":"little"}}]}}]}"#;
 
 /// Two rows of four bytes, the axes of whose inner chunks are turned.
-const TURNED_INSIDE: &'static str =
+pub(crate) const TURNED_INSIDE: &'static str =
     r#"{"shape":[2,4],"data_type":"uint8","fill_value":"00","codecs":[{"name":"sharding_indexed","configuration":{"chunk_shape":[2,2],"codecs":[{"name":"transpose","configuration":{"order":[1,0]}},"bytes"],"index_codecs":[{"name":"bytes","configuration":{"endian":"little"}}]}}]}"#;
 
 /// Four rows of two bytes, whose axes are turned before they are divided.
@@ -39,7 +39,7 @@ const TURNED_OUTSIDE: &'static str =
     r#"{"shape":[4,2],"data_type":"uint8","fill_value":"00","codecs":[{"name":"transpose","configuration":{"order":[1,0]}},{"name":"sharding_indexed","configuration":{"chunk_shape":[2,2],"codecs":["bytes"],"index_codecs":[{"name":"bytes","configuration":{"endian":"little"}}]}}]}"#;
 
 /// Sixteen flags, eight in each inner chunk.
-const INNER_FLAGS: &'static str =
+pub(crate) const INNER_FLAGS: &'static str =
     r#"{"shape":[16],"data_type":"bool","fill_value":"00","codecs":[{"name":"sharding_indexed","configuration":{"chunk_shape":[8],"codecs":["packbits"],"index_codecs":[{"name":"bytes","configuration":{"endian":"little"}}]}}]}"#;
 
 /// Four bytes that may be absent, two in each inner chunk.

@@ -3,3 +3,4 @@ pub mod LackingLemmas
 pub mod PieceLemmas
 pub mod RoundLemmas
 pub mod SpanLemmas
+pub mod AheadLemmas

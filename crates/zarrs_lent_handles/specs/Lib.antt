@@ -6,3 +6,4 @@ pub mod Pieces
 pub mod PiecesHandle
 pub mod Rounds
 pub mod SpanHandle
+pub mod AheadHandle

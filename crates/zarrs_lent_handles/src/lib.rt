@@ -10,6 +10,7 @@
 //! read as a value.
 #![tactic(auto)]
 
+mod ahead_handle;
 mod joined;
 mod lacking;
 pub mod laws;
@@ -18,6 +19,7 @@ mod piece;
 mod pieces_handle;
 mod span_handle;
 
+pub use ahead_handle::{AheadHandle, ReadAheadTraits};
 pub use joined::join_ranges;
 pub use lent_handle::LentHandle;
 pub use piece::Piece;

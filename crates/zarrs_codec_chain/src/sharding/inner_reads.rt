@@ -25,15 +25,16 @@ use zarrs_array_regions::{decoded_window, kept_region, region_runs};
 use zarrs_chain::stages::{chain_is_sound, decode_bytes};
 use zarrs_chain::{ArrayToBytesCodec, CodecChain};
 use zarrs_chunk::{ArraySubset, ChunkShape, CodecError};
-use zarrs_codec::{BytesPartialDecoderTraits, BytesRepresentation, BytesToBytesCodecTraits};
+use zarrs_codec::{BytesRepresentation, BytesToBytesCodecTraits};
 use zarrs_data_type::{DataType, FillValue};
+use zarrs_lent_handles::ReadAheadTraits;
 use zarrs_shard_runs::runs_indexer;
 
 /// The elements at the places of these runs of a chunk that the codec takes, whose value stands in a
 /// span.
 #[cycle(read)]
 #[tactic(auto, unfolding(zarrs_chain::specs::ChainView::plain_codec), using(zarrs_chain::specs::ChainView::plain_vlen_at, zarrs_chain::specs::ChainView::plain_optional_at, zarrs_chain::specs::ChainView::plain_sharding_at, crate::proofs::SureReads::given_surely))]
-fn codec_in_span<H: BytesPartialDecoderTraits, B: BytesToBytesCodecTraits>(
+fn codec_in_span<H: ReadAheadTraits, B: BytesToBytesCodecTraits>(
     alloc: Global,
     codec: &ArrayToBytesCodec<B>,
     handle: &mut H,
@@ -74,7 +75,7 @@ fn codec_in_span<H: BytesPartialDecoderTraits, B: BytesToBytesCodecTraits>(
 /// The elements at the places of these runs of the chunk that the chain's array-to-bytes codec gets.
 /// Where there are bytes-to-bytes codecs, the whole span is read, and then of the bytes below them.
 #[cycle(read)]
-fn moved_in_span<H: BytesPartialDecoderTraits, B: BytesToBytesCodecTraits>(
+fn moved_in_span<H: ReadAheadTraits, B: BytesToBytesCodecTraits>(
     alloc: Global,
     chain: &CodecChain<B>,
     handle: &mut H,
@@ -115,7 +116,7 @@ fn moved_in_span<H: BytesPartialDecoderTraits, B: BytesToBytesCodecTraits>(
 
 /// The elements of a region that goes through the array-to-array codecs as one, in row-major order.
 #[cycle(read)]
-fn region_in_span<H: BytesPartialDecoderTraits, B: BytesToBytesCodecTraits>(
+fn region_in_span<H: ReadAheadTraits, B: BytesToBytesCodecTraits>(
     alloc: Global,
     chain: &CodecChain<B>,
     handle: &mut H,
@@ -159,7 +160,7 @@ fn region_in_span<H: BytesPartialDecoderTraits, B: BytesToBytesCodecTraits>(
 /// The elements at the places of these runs of a chunk that the chain takes, whose value stands in a
 /// span. Through array-to-array codecs the places of a box go as a box, where the codecs keep regions.
 #[cycle(read)]
-pub(crate) fn chain_in_span<H: BytesPartialDecoderTraits, B: BytesToBytesCodecTraits>(
+pub(crate) fn chain_in_span<H: ReadAheadTraits, B: BytesToBytesCodecTraits>(
     alloc: Global,
     chain: &CodecChain<B>,
     handle: &mut H,

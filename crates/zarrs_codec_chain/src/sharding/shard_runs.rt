@@ -23,6 +23,7 @@ ghost use Rattle.zarrs_shard_runs.specs.GroupedRuns.{group, order_places};
 use crate::partial_decoder::fill_runs::fill_runs;
 use crate::sharding::index_read::index_numbers;
 use crate::sharding::inner_reads::chain_in_span;
+use crate::sharding::joint_reads::read_groups_ahead;
 use crate::sharding::value_span::ValueSpan;
 use std::alloc::Global;
 use zarrs_array_bytes::{ArrayBytes, append_elements};
@@ -31,11 +32,12 @@ use zarrs_chain::{CodecChain, ShardingCodec};
 use zarrs_chunk::{ChunkShape, CodecError, count_places};
 use zarrs_codec::{BytesPartialDecoderTraits, BytesRepresentation, BytesToBytesCodecTraits};
 use zarrs_data_type::{DataType, FillValue};
+use zarrs_lent_handles::{AheadHandle, ReadAheadTraits};
 use zarrs_shard_runs::{InnerRuns, group_runs};
 
 /// The elements at the places of these runs of the inner chunk of these two numbers of the index.
 #[cycle(read)]
-fn read_group<H: BytesPartialDecoderTraits, B: BytesToBytesCodecTraits>(
+fn read_group<H: ReadAheadTraits, B: BytesToBytesCodecTraits>(
     alloc: Global,
     chain: &CodecChain<B>,
     handle: &mut H,
@@ -77,9 +79,10 @@ fn read_group<H: BytesPartialDecoderTraits, B: BytesToBytesCodecTraits>(
     )
 }
 
-/// The elements at the places of groups, one group behind the other.
+/// The elements at the places of groups, one group behind the other. Where it is known what is read of
+/// each of them, the handle gets all of it by one call.
 #[cycle(read)]
-fn read_groups<H: BytesPartialDecoderTraits, B: BytesToBytesCodecTraits>(
+fn read_groups<H: ReadAheadTraits, B: BytesToBytesCodecTraits>(
     alloc: Global,
     chain: &CodecChain<B>,
     handle: &mut H,
@@ -111,6 +114,9 @@ fn read_groups<H: BytesPartialDecoderTraits, B: BytesToBytesCodecTraits>(
     ensures left { H.state handle.new ≡ after_reading result (H.state handle.old) }
     ensures same_reference { H.lent handle.new ≡ H.lent handle.old }
 {
+    read_groups_ahead(
+        alloc, chain, handle, span, numbers, groups, shape, encoded, measured, kind, fill,
+    )?;
     let mut joined = fill_runs(alloc, kind, fill, &[])?;
     let mut count = 0;
     for group in groups {
@@ -160,7 +166,7 @@ fn in_order(
 /// order of their numbers: `InvalidByteRange` where its bytes end behind the value, and those of its
 /// own read.
 #[cycle(read)]
-pub(crate) fn shard_by_index<H: BytesPartialDecoderTraits, B: BytesToBytesCodecTraits>(
+pub(crate) fn shard_by_index<H: ReadAheadTraits, B: BytesToBytesCodecTraits>(
     alloc: Global,
     codec: &ShardingCodec<B>,
     handle: &mut H,
@@ -220,7 +226,7 @@ pub(crate) fn shard_by_index<H: BytesPartialDecoderTraits, B: BytesToBytesCodecT
 /// span. Errors, the first that holds, `OutOfMemory` aside: `Storage`; `InvalidBytesLength` where the
 /// value has fewer bytes than the index; those of the index chain; then those of `shard_by_index`.
 #[cycle(read)]
-pub(crate) fn shard_in_span<H: BytesPartialDecoderTraits, B: BytesToBytesCodecTraits>(
+pub(crate) fn shard_in_span<H: ReadAheadTraits, B: BytesToBytesCodecTraits>(
     alloc: Global,
     codec: &ShardingCodec<B>,
     handle: &mut H,
@@ -254,6 +260,39 @@ pub(crate) fn shard_in_span<H: BytesPartialDecoderTraits, B: BytesToBytesCodecTr
     let found = index_numbers(alloc, index, inner, at_end, handle, span, shape)?;
     let numbers = found.as_slice();
     shard_by_index(alloc, codec, handle, span, numbers, shape, kind, fill, runs)
+}
+
+/// The same over any handle, which is asked by one call for what is known to be read.
+fn shard_ahead<H: BytesPartialDecoderTraits, B: BytesToBytesCodecTraits>(
+    alloc: Global,
+    codec: &ShardingCodec<B>,
+    handle: &mut H,
+    span: &ValueSpan<'_>,
+    shape: &ChunkShape,
+    kind: &DataType,
+    fill: &FillValue,
+    runs: &[(u64, u64)],
+) -> Result<ArrayBytes<'static>, CodecError>
+    requires taken { TakenBy B.functions (plain_sharding codec.now)
+        (form_of shape.now kind.now fill.now) }
+    requires stands { StandsIn span.now (H.state handle.old) }
+    requires filled { AreFilled runs.now }
+    requires below { EndWithin (product shape.now) runs.now }
+    requires count { length (joined_runs runs.now) < 2 ^ 64 }
+    ensures answer { ChunkReadsRuns B.functions (plain_sharding codec.now) (form_of shape.now
+        kind.now fill.now) (seen_state span.now (H.state handle.old)) runs.now result }
+    ensures tight { IfOk result (IsTight kind.now) }
+    ensures sure { SurePlaces (seen_state span.now (H.state handle.old)) (codec_rests_on B.functions
+        (plain_sharding codec.now) shape.now kind.now fill.now) (joined_runs runs.now) result }
+    ensures left { H.state handle.new ≡ after_reading result (H.state handle.old) }
+    ensures same_reference { H.lent handle.new ≡ H.lent handle.old }
+{
+    let mut ahead = AheadHandle::new(alloc, handle);
+    let read = shard_in_span::<AheadHandle<'_, H>, B>(
+        alloc, codec, &mut ahead, span, shape, kind, fill, runs,
+    );
+    ahead.into_handle();
+    read
 }
 
 /// The elements at the places of these runs of a chunk that the codec takes, over a handle that keeps
@@ -292,7 +331,7 @@ pub(crate) fn shard_runs<H: BytesPartialDecoderTraits, B: BytesToBytesCodecTrait
         None => fill_runs(alloc, kind, fill, runs),
         Some(len) => {
             let span = ValueSpan::stored(len);
-            shard_in_span(alloc, codec, handle, &span, shape, kind, fill, runs)
+            shard_ahead(alloc, codec, handle, &span, shape, kind, fill, runs)
         }
     }
 }

@@ -27,5 +27,5 @@ returns-in-Some-clause-sure g c =
     let index = c.in-Some.index in
     let found = index_stored f codec c.args.shape.now state.value index.len (spans_of index.numbers.items) (c.requires.index ∙ ap (λ (i : Option ShardIndex). ok (option_map index_seen i)) c.in-Some.is) in
     let sized : value_size state.value ≡ Some index.len = ap value_size found.is ∙ ap (λ (n : ℕ). Some n) found.long in
-    subst (λ (s : StorageState). are_given_sure s.sure (rests_behind f codec c.args.shape.now c.args.kind.now c.args.fill.now s.value (joined_runs c.args.runs.now)) ≡ true → is_fault c.shard_by_index.result ≡ false)
-    (stored_seen c.stored-span.result index.len state c.stored-span.ensures.parts sized) c.shard_by_index.ensures.sure
+    subst (λ (s : StorageState). are_given_sure s.sure (rests_behind f codec c.args.shape.now c.args.kind.now c.args.fill.now s.value (joined_runs c.args.runs.now)) ≡ true → is_fault c.index_ahead.result ≡ false)
+    (stored_seen c.stored-span.result index.len state c.stored-span.ensures.parts sized) c.index_ahead.ensures.sure

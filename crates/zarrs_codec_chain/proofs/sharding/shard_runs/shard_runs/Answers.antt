@@ -24,4 +24,4 @@ returns-in-Some-clause-sure g c =
     let sized : value_size state.value ≡ Some c.in-Some.len = ok_is _ _ c.in_ok-size.ensures.answer ∙ c.in-Some.is in
     let same = stored_seen c.stored-span.result c.in-Some.len state c.stored-span.ensures.parts sized in
     where_sure_runs state.sure _ (codec_rests_on f (plain_sharding c.args.codec.now) c.args.shape.now c.args.kind.now c.args.fill.now state.value (joined_runs c.args.runs.now))
-    (subst (λ (s : StorageState). SureWhere s (codec_rests_on f (plain_sharding c.args.codec.now) c.args.shape.now c.args.kind.now c.args.fill.now s.value (joined_runs c.args.runs.now)) c.shard_in_span.result) same (subst (λ (st : StorageState). SureWhere (seen_state c.stored-span.result st) (codec_rests_on f (plain_sharding c.args.codec.now) c.args.shape.now c.args.kind.now c.args.fill.now (seen_state c.stored-span.result st).value (joined_runs c.args.runs.now)) c.shard_in_span.result) left c.shard_in_span.ensures.sure))
+    (subst (λ (s : StorageState). SureWhere s (codec_rests_on f (plain_sharding c.args.codec.now) c.args.shape.now c.args.kind.now c.args.fill.now s.value (joined_runs c.args.runs.now)) c.shard_ahead.result) same (subst (λ (st : StorageState). SureWhere (seen_state c.stored-span.result st) (codec_rests_on f (plain_sharding c.args.codec.now) c.args.shape.now c.args.kind.now c.args.fill.now (seen_state c.stored-span.result st).value (joined_runs c.args.runs.now)) c.shard_ahead.result) left c.shard_ahead.ensures.sure))

@@ -1,0 +1,293 @@
+-- What is read of inner chunks before they are decoded.
+use Rattle.std.proofs.Common.{◌≡◌, ℕ, ◌+◌, ◌-◌, ◌≤◌, ◌<◌, ◌^◌, ◌&&◌, nat_le, not, Bool, true, false, Option, Some, None, Bor, get_or, List, [], ◌∷◌, ◌++◌, length, take, drop, map, Result, Ok, Err, arith, refl, ap, sym, subst, ◌∙◌}
+use Rattle.std.specs.List.{All, flat_map, list_all, range_with_len}
+use Rattle.std.specs.Option.{option_map}
+use Rattle.std.specs.Prelude.{is_ok, is_some, IfErr, IfOk, Vec}
+use Rattle.std.specs.declared.alloc.Global.{Global}
+use Rattle.std.proofs.lemmas.List.{append-nil, length-append, take-append-drop}
+use Rattle.std.proofs.Math.Nat.{add_assoc}
+use Rattle.std.proofs.lemmas.List.Concat.{flat_map-append}
+use Rattle.std.proofs.lemmas.List.Folds.{list_all-append}
+use Rattle.zarrs_array_regions.specs.KeptRegions.{IsKept}
+use Rattle.zarrs_array_regions.specs.WindowLaws.{region_places}
+use Rattle.zarrs_array_regions.specs.Windows.{last_window, window_of, window_places}
+use Rattle.zarrs_array_to_array.specs.ArrayToArrayCodec.{IsMapping}
+use Rattle.zarrs_bytes.proofs.Coding.{bind_ok, demand_ok, ok}
+use Rattle.zarrs_chain_meaning.proofs.ArraySteps.{ok_is, ok_no_err}
+use Rattle.zarrs_chain_meaning.specs.ChunkForm.{ChunkForm}
+use Rattle.zarrs_chunk.specs.ChunkShape.{product}
+use Rattle.zarrs_chunk.specs.Region.{Region}
+use Rattle.zarrs_chunk.specs.Selection.{Selection, places_of}
+use Rattle.zarrs_codec_chain.proofs.PlaceWrites.{memory_too}
+use Rattle.zarrs_codec_chain.proofs.RegionReads.{region_goes}
+use Rattle.zarrs_chain_meaning.specs.PlainChain.{PlainChain}
+use Rattle.zarrs_chain_meaning.specs.sharding.Sharding.{Span, is_stored, spanned_bytes}
+use Rattle.zarrs_chunk.proofs.Inside.{from_le_test, le_test}
+use Rattle.zarrs_chunk.specs.Answer.{Answers, AnswersBy, demand, memory, memory_or_fault, seen}
+use Rattle.zarrs_chunk.specs.declared.codec_error.CodecError.{CodecError}
+use Rattle.zarrs_chunk.specs.declared.codec_error.CodecError.TheVariants.{InvalidByteRange}
+use Rattle.zarrs_codec.proofs.Fences.{first_true, second_true}
+use Rattle.zarrs_codec.specs.ByteRanges.{bytes_in_ranges, range_indices, ranges_are_sure, read_ranges}
+use Rattle.zarrs_codec.specs.ByteSpan.{ByteSpan}
+use Rattle.zarrs_codec.specs.BytesToBytesCodec.{BytesCodecs}
+use Rattle.std.specs.Borrow.{GName}
+use Rattle.zarrs_codec.specs.Lent.{Lent, whole_reference}
+use Rattle.zarrs_codec.specs.StorageState.{StorageState, are_sure, value_indices}
+use Rattle.zarrs_codec.specs.declared.bytes_representation.BytesRepresentation.{BytesRepresentation}
+use Rattle.zarrs_codec_chain.proofs.GroupedReads.{first_sure, span_sure as inner_sure}
+use Rattle.zarrs_codec_chain.proofs.LeafReads.{rests_wholly}
+use Rattle.zarrs_codec_chain.proofs.PartialReads.{IsReadable}
+use Rattle.zarrs_codec_chain.proofs.SpanChains.{chain_rests_moved, selected_go, window_sure}
+use Rattle.zarrs_codec_chain.proofs.SpanSeen.{HasValue, stands_value}
+use Rattle.zarrs_codec_chain.specs.ChunkRead.{are_given_sure, asks_in_part, encoded_places}
+use Rattle.zarrs_codec_chain.specs.CodecPart.{codec_rests_on}
+use Rattle.zarrs_codec_chain.specs.JointReads.{AddsRanges, AddsSpan, AreGroupRanges, AreRestedOn, RestMoved, all_pass, end_within}
+use Rattle.zarrs_codec_chain.specs.PlaceLaws.{Resting}
+use Rattle.zarrs_codec_chain.specs.ShardRead.{groups_rest, span_rests}
+use Rattle.zarrs_codec_chain.specs.SpanReads.{StandsIn, chain_rests, held_state, inner_span, moved_rests, outer_rests, seen_state, span_held, span_parts, stored_groups_rest}
+use Rattle.zarrs_codec_chain.specs.declared.sharding.value_span.ValueSpan.{ValueSpan}
+use Rattle.zarrs_data_type.specs.ElementType.{ElementType}
+use Rattle.zarrs_lent_handles.proofs.SpanLemmas.{span_sure as moved_are_sure, spanned_long}
+use Rattle.zarrs_lent_handles.specs.AheadHandle.{ReadsAhead}
+use Rattle.zarrs_lent_handles.specs.SpanHandle.{is_span_of, moved_ranges, span_state}
+use Rattle.zarrs_chunk.specs.Runs.{EndWithin, joined_runs}
+use Rattle.zarrs_shard_runs.specs.GroupedRuns.{group}
+use Rattle.zarrs_shard_runs.specs.declared.grouped_runs.InnerRuns.{InnerRuns}
+
+-- ---- an inner chunk that is read whole
+
+-- a chain that isn't read in part rests on all bytes
+chain_wholly : {B : Type 0} (f : BytesCodecs B) (chain : PlainChain B) (sizes : List ℕ) (type : ElementType) (fill encoded : List ℕ) (r : BytesRepresentation) → IsReadable f chain sizes type fill encoded r → asks_in_part chain.bytes_to_bytes chain.array_to_bytes ≡ false
+    → (value places : List ℕ) → chain_rests f chain sizes type fill (Some value) places ≡ Ok (value_indices (Some value))
+chain_wholly {B} f chain sizes type fill encoded r h whole value places = chain_rests_moved f chain sizes type fill encoded r h (Some value) value refl places ∙ by chain.bytes_to_bytes whole
+  where
+    by : (codecs : List B) → asks_in_part codecs chain.array_to_bytes ≡ false → outer_rests codecs (codec_rests_on f chain.array_to_bytes) encoded type fill (Some value) (map h.map_is.to places) ≡ Ok (value_indices (Some value))
+    by [] e = rests_wholly f chain.array_to_bytes encoded type fill (Some value) (map h.map_is.to places) e
+    by (codec ∷ codecs) e = refl
+
+pub is_whole : (test : Bool) → true ≡ not test → test ≡ false
+is_whole true e = absurd cc
+is_whole false e = refl
+
+pub rested_wholly : {B : Type 0} (f : BytesCodecs B) (chain : PlainChain B) (sizes : List ℕ) (type : ElementType) (fill encoded : List ℕ) (r : BytesRepresentation) → IsReadable f chain sizes type fill encoded r → asks_in_part chain.bytes_to_bytes chain.array_to_bytes ≡ false
+    → (len : ℕ) (places : List ℕ) (ranges : List ByteSpan) → ranges ≡ record { start = 0; end = len } ∷ [] → AreRestedOn (chain_rests f chain) sizes type fill len places ranges
+rested_wholly f chain sizes type fill encoded r h whole len places ranges are = λ value test long given.
+    let all : list_all test (range_with_len 0 (length value)) ≡ true = ap (are_given_sure (Some test)) (sym (chain_wholly f chain sizes type fill encoded r h whole value places)) ∙ given in
+    let count : len - 0 ≡ length value = omega (arith, long) in
+    ap (all_pass test) are ∙ ap (list_all test) (append-nil (range_with_len 0 (len - 0))) ∙ ap (λ (n : ℕ). list_all test (range_with_len 0 n)) count ∙ all
+
+-- ---- an inner chunk whose bytes are planned
+
+pub refused_of : {A B : Type 0} (view : A → B) (r : Result A CodecError) (x : B) → Answers memory view r (Ok x) → IfErr r (λ error. memory_or_fault error ≡ true)
+refused_of view (Ok a) x h = tt
+refused_of view (Err e) x h = by (memory_or_fault e) refl
+  where
+    by : (test : Bool) → memory_or_fault e ≡ test → memory_or_fault e ≡ true
+    by true is = is
+    by false is = absurd (ok_no_err x e (h (memory_too e is)))
+
+-- only lack of memory refuses what is taken
+pub refused_by : {A B : Type 0} (R : A → B → Type 0) (r : Result A CodecError) (expected : Result B CodecError) → AnswersBy memory R r expected → is_ok expected ≡ true → IfErr r (λ error. memory_or_fault error ≡ true)
+refused_by R (Ok a) expected h taken = tt
+refused_by R (Err e) (Ok x) h taken = refused_of (λ (y : _). y) (Err e) x h
+refused_by R (Err e) (Err cause) h taken = absurd cc
+
+-- ---- as they stand in the whole value
+
+moved_within : (at len limit : ℕ) (own : List ByteSpan) → at + len ≤ limit → end_within len own ≡ true → end_within limit (moved_ranges at own) ≡ true
+moved_within at len limit [] l h = refl
+moved_within at len limit (range ∷ own) l h =
+    let fits = from_le_test range.end len (first_true (nat_le range.end len) (end_within len own) h) in
+    let here = le_test (at + range.end) limit (omega (arith, fits, l)) in
+    let rest = moved_within at len limit own l (second_true (nat_le range.end len) (end_within len own) h) in
+    rw (here, rest) refl
+
+both_pass : (one other : Bool) → one ≡ true → other ≡ true → (one && other) ≡ true
+both_pass one other a b = rw (a, b) refl
+
+pub adds_ranges : (rests : Resting) (shape : List ℕ) (type : ElementType) (fill : List ℕ) (at len : ℕ) (places : List ℕ) (before own after : List ByteSpan) → AreRestedOn rests shape type fill len places own → end_within len own ≡ true → after ≡ before ++ moved_ranges at own
+    → AddsRanges rests shape type fill at len places before after
+adds_ranges rests shape type fill at len places before own after rested fit are = record {
+  inside = λ limit l h.
+      ap (end_within limit) are
+      ∙ list_all-append (λ (range : ByteSpan). nat_le range.end limit) before (moved_ranges at own)
+      ∙ both_pass (end_within limit before) (end_within limit (moved_ranges at own)) h (moved_within at len limit own l fit);
+  rested = λ value test long given h.
+      let mine : all_pass test (moved_ranges at own) ≡ true = sym (moved_are_sure at (Some test) own) ∙ rested value (λ number. test (at + number)) long given in
+      ap (all_pass test) are
+      ∙ ap (list_all test) (flat_map-append _ before (moved_ranges at own))
+      ∙ list_all-append test (range_indices before) (range_indices (moved_ranges at own))
+      ∙ both_pass (all_pass test before) (all_pass test (moved_ranges at own)) h mine;
+}
+
+-- ---- an inner chunk at a span
+
+pub adds_none : (rests : Resting) (shape : List ℕ) (type : ElementType) (fill : List ℕ) (at len : ℕ) (span : Span) (places : List ℕ) (ranges : List ByteSpan) → AddsSpan rests shape type fill at len span places ranges ranges
+adds_none rests shape type fill at len span places ranges = record { inside = λ h. h; rested = λ value test long given h. h }
+
+-- ---- where the places of an inner chunk go
+
+pub end_below : (r : Result (Vec (ℕ × ℕ) Global) CodecError) (n m : ℕ) → n ≡ m → IfOk r (λ moved. EndWithin m moved.items) → IfOk r (λ moved. EndWithin n moved.items)
+end_below r n m e h = subst (λ (k : ℕ). IfOk r (λ moved. EndWithin k moved.items)) (sym e) h
+
+module _ {B : Type 0} (f : BytesCodecs B) (form : ChunkForm B) (encoded : List ℕ) (r : BytesRepresentation) (h : IsReadable f form.chain form.sizes form.type form.fill encoded r) (places : List ℕ) (selection : Selection) (selects : places_of selection form.sizes ≡ Ok places) where
+  abbrev Moves : List ℕ → Type 0
+  Moves moved = RestMoved f form.chain form.sizes encoded form.type form.fill places moved
+
+  to_moved : Moves (map h.map_is.to places)
+  to_moved = λ value test given. ap (are_given_sure (Some test)) (sym (chain_rests_moved f form.chain form.sizes form.type form.fill encoded r h (Some value) value refl places)) ∙ given
+
+  go : encoded_places form.type form.chain.array_to_array form.sizes selection ≡ Ok (map h.map_is.to places)
+  go = selected_go form.type form.chain.array_to_array form.sizes places selection h.map_is selects h.mapped
+
+  -- place by place
+  pub encoded_moved : (result : Result (Vec (ℕ × ℕ) Global) CodecError) → Answers memory (λ v. joined_runs v.items) result (encoded_places form.type form.chain.array_to_array form.sizes selection) → IfOk result (λ moved. Moves (joined_runs moved.items))
+  encoded_moved (Ok runs) answer = subst Moves (ok_is (map h.map_is.to places) (joined_runs runs.items) (sym go ∙ answer)) to_moved
+  encoded_moved (Err e) answer = tt
+
+  pub encoded_refused : (result : Result (Vec (ℕ × ℕ) Global) CodecError) → Answers memory (λ v. joined_runs v.items) result (encoded_places form.type form.chain.array_to_array form.sizes selection) → IfErr result (λ error. memory_or_fault error ≡ true)
+  encoded_refused result answer = refused_of (λ v. joined_runs v.items) result (map h.map_is.to places) (subst (Answers memory (λ v. joined_runs v.items) result) go answer)
+
+  -- as a region
+  module _ (are : All IsMapping form.chain.array_to_array) (positive : All (λ size. 0 < size) form.sizes) (counted : product form.sizes < 2 ^ 64) (region : Region) (kept : IsKept form.chain.array_to_array form.sizes selection region) where
+    same : map h.map_is.to (region_places form.sizes region) ≡ map h.map_is.to places
+    same = ok_is (map h.map_is.to (region_places form.sizes region)) (map h.map_is.to places) (sym (region_goes f form encoded r h are positive counted region kept.inside kept.kept) ∙ ap (encoded_places form.type form.chain.array_to_array form.sizes) (sym kept.selection_is) ∙ go)
+
+    to_window : (moved : List ℕ) → ok (window_places (last_window form.chain.array_to_array (window_of form.sizes region))) ≡ ok moved → Moves moved
+    to_window moved at = λ value test given.
+        window_sure f form encoded r h are positive counted region kept.inside kept.kept (Some value) value refl moved (Some test) at
+        (ap (are_given_sure (Some test)) (chain_rests_moved f form.chain form.sizes form.type form.fill encoded r h (Some value) value refl (region_places form.sizes region))
+        ∙ ap (λ (ps : List ℕ). are_given_sure (Some test) (moved_rests f form.chain encoded form.type form.fill (Some value) ps)) same
+        ∙ to_moved value test given)
+
+    pub region_moved : (result : Result (Vec (ℕ × ℕ) Global) CodecError) → Answers memory (λ v. joined_runs v.items) result (ok (window_places (last_window form.chain.array_to_array (window_of form.sizes region)))) → IfOk result (λ moved. Moves (joined_runs moved.items))
+    region_moved (Ok runs) answer = to_window (joined_runs runs.items) answer
+    region_moved (Err e) answer = tt
+
+-- ---- a stored inner chunk of a value
+
+pub adds_span : (rests : Resting) (shape : List ℕ) (type : ElementType) (fill : List ℕ) (span inside : ValueSpan) (place : Span) (places : List ℕ) (before after : List ByteSpan) → is_stored place ≡ true → ok (span_parts inside) ≡ inner_span span place.0 place.1
+    → AddsRanges rests shape type fill inside.at inside.len places before after → AddsSpan rests shape type fill span.at span.len place places before after
+adds_span rests shape type fill span inside place places before after e parts adds =
+    let a = bind_ok (demand (nat_le (place.0 + place.1) span.len) InvalidByteRange) _ (span_parts inside) (sym parts) in
+    let fits = from_le_test (place.0 + place.1) span.len (demand_ok (nat_le (place.0 + place.1) span.len) InvalidByteRange a.0 a.1) in
+    let same : (span_held span, span.at + place.0, place.1) ≡ span_parts inside = ok_is (span_held span, span.at + place.0, place.1) (span_parts inside) a.2 in
+    let own : AddsRanges rests shape type fill (span.at + place.0) place.1 places before after = subst (λ (p : Option (List ℕ) × ℕ × ℕ). AddsRanges rests shape type fill p.1 p.2 places before after) (sym same) adds in
+    record {
+      inside = own.inside (span.at + span.len) (omega (arith, fits));
+      rested = λ value test long given h.
+          let within : nat_le (place.0 + place.1) (length value) ≡ true = le_test (place.0 + place.1) (length value) (omega (arith, fits, long)) in
+          let stored : are_given_sure (Some (λ number. test (span.at + number))) (span_rests true rests shape type fill value place places) ≡ true = ap (λ (b : Bool). are_given_sure (Some (λ number. test (span.at + number))) (span_rests b rests shape type fill value place places)) (sym e) ∙ given in
+          let mine = inner_sure rests shape type fill value place places (Some (λ number. test (span.at + number))) within stored in
+          own.rested (spanned_bytes value place) test (spanned_long place.0 place.1 value (from_le_test (place.0 + place.1) (length value) within))
+          ((λ i. are_given_sure (Some (λ number. test (add_assoc span.at place.0 number i))) (rests shape type fill (Some (spanned_bytes value place)) places)) ∙ mine) h;
+    }
+
+-- ---- group by group
+
+module _ (rests : Resting) (shape : List ℕ) (type : ElementType) (fill : List ℕ) (at len : ℕ) (spans : List Span) (groups : List InnerRuns) where
+  abbrev Given : List ℕ → (ℕ → Bool) → List InnerRuns → Type 0
+  Given value test gs = are_given_sure (Some (λ number. test (at + number))) (groups_rest rests shape type fill value spans (map group gs)) ≡ true
+
+  -- the ranges of so many groups
+  pub record RangesTo (index : ℕ) (ranges : List ByteSpan) : Type 0 where
+    pub inside : end_within (at + len) ranges ≡ true
+    pub rested : (value : List ℕ) (test : ℕ → Bool) → length value ≡ len → Given value test groups → (all_pass test ranges ≡ true) × Given value test (drop index groups)
+
+  pub no_ranges : RangesTo 0 []
+  no_ranges = record { inside = refl; rested = λ value test long given. (refl, given) }
+
+  pub ranges_go_on : (index : ℕ) (it : InnerRuns) (before after : List ByteSpan) → drop index groups ≡ it ∷ drop (index + 1) groups → RangesTo index before → AddsSpan rests shape type fill at len (get_or spans it.number (0, 0)) (joined_runs it.runs.items) before after → RangesTo (index + 1) after
+  ranges_go_on index it before after next walk adds = record {
+    inside = adds.inside walk.inside;
+    rested = λ value test long given.
+        let so_far = walk.rested value test long given in
+        let from : Given value test (it ∷ drop (index + 1) groups) = subst (Given value test) next so_far.1 in
+        let parts = first_sure rests shape type fill value spans (group it) (map group (drop (index + 1) groups)) (Some (λ number. test (at + number))) from in
+        (adds.rested value test long parts.0 so_far.0, parts.1);
+  }
+
+  pub ranges_end : (index : ℕ) (ranges : List ByteSpan) → RangesTo index ranges → AreGroupRanges rests shape type fill at len spans groups ranges
+  ranges_end index ranges walk = record { inside = walk.inside; rested = λ value test long given. (walk.rested value test long given).0 }
+
+-- 64 bits count the places of one of them
+pub one_counted : (groups : List InnerRuns) (index : ℕ) (it : InnerRuns) (rest : List InnerRuns) → drop index groups ≡ it ∷ rest → length (joined_runs it.runs.items) ≤ length (flat_map (λ it. joined_runs it.runs.items) groups)
+one_counted groups index it rest next =
+    let places : InnerRuns → List ℕ = λ it. joined_runs it.runs.items in
+    let split = ap (λ (gs : List InnerRuns). length (flat_map places gs)) (sym (take-append-drop index groups)) ∙ ap length (flat_map-append places (take index groups) (drop index groups)) ∙ length-append (flat_map places (take index groups)) (flat_map places (drop index groups)) in
+    let mine = ap (λ (gs : List InnerRuns). length (flat_map places gs)) next ∙ length-append (places it) (flat_map places rest) in
+    omega (arith, split, mine)
+
+-- ---- by one call
+
+pub not_held : (span : ValueSpan) → is_some span.held ≡ false → span_held span ≡ None
+not_held span e = by span.held e
+  where
+    by : (held : Option (Bor (List ℕ))) → is_some held ≡ false → option_map (λ bytes. bytes.now) held ≡ None
+    by None e = refl
+    by (Some bytes) e = absurd cc
+
+module _ (rests : Resting) (shape : List ℕ) (type : ElementType) (fill : List ℕ) (span : ValueSpan) (state : StorageState) (stands : StandsIn span state) (free : span_held span ≡ None) (spans : List Span) (groups : List InnerRuns) (ranges : List ByteSpan) (are : AreGroupRanges rests shape type fill span.at span.len spans groups ranges) where
+  there : HasValue (seen_state span state) span.len
+  there = stands_value span state stands
+
+  stands_below : is_span_of span.at span.len state.value ≡ true
+  stands_below = ap (λ (h : Option (List ℕ)). is_span_of span.at span.len (held_state h state).value) (sym free) ∙ stands
+
+  within_by : (whole : List ℕ) (rs : List ByteSpan) → span.at + span.len ≤ length whole → end_within (span.at + span.len) rs ≡ true → end_within (length whole) rs ≡ true
+  within_by whole [] l h = refl
+  within_by whole (range ∷ rs) l h =
+      let here = from_le_test range.end (span.at + span.len) (first_true (nat_le range.end (span.at + span.len)) (end_within (span.at + span.len) rs) h) in
+      let first = le_test range.end (length whole) (omega (arith, here, l)) in
+      both_pass (nat_le range.end (length whole)) (end_within (length whole) rs) first (within_by whole rs l (second_true (nat_le range.end (span.at + span.len)) (end_within (span.at + span.len) rs) h))
+
+  read_by : (stored : Option (List ℕ)) → is_span_of span.at span.len stored ≡ true → (bytes : Option (List ℕ)) × (read_ranges stored ranges ≡ Ok bytes)
+  read_by None h = absurd cc
+  read_by (Some whole) h =
+      let l = from_le_test (span.at + span.len) (length whole) h in
+      (Some (bytes_in_ranges whole ranges), rw (within_by whole ranges l are.inside) refl)
+
+  -- nothing but lack of memory or a failure of the handle comes in their place
+  pub ahead_refused : (result : Result (Unit {0}) CodecError) → ReadsAhead result state.value ranges → IfErr result (λ error. memory_or_fault error ≡ true)
+  ahead_refused (Ok u) h = tt
+  ahead_refused (Err e) h = by (memory_or_fault e) refl
+    where
+      by : (test : Bool) → memory_or_fault e ≡ test → memory_or_fault e ≡ true
+      by true is = is
+      by false is =
+          let read = read_by state.value stands_below in
+          absurd (ok_no_err tt e (sym (ap (seen (λ _. tt)) read.1) ∙ h is))
+
+  sure_by : (sure : Option (ℕ → Bool)) → are_given_sure (option_map (λ p number. p (span.at + number)) sure) (groups_rest rests shape type fill there.value spans (map group groups)) ≡ true → are_sure sure (range_indices ranges) ≡ true
+  sure_by None h = absurd (never (groups_rest rests shape type fill there.value spans (map group groups)) h)
+    where
+      never : (r : Result (List ℕ) CodecError) → are_given_sure None r ≡ true → ⊥
+      never (Ok numbers) e = cc
+      never (Err error) e = cc
+  sure_by (Some p) h = are.rested there.value p there.long h
+
+  -- and no failure, where the bytes are sure that the reads rest on
+  pub ahead_sure : are_given_sure (seen_state span state).sure (stored_groups_rest rests shape type fill (seen_state span state).value spans (map group groups)) ≡ true → ranges_are_sure state ranges ≡ true
+  ahead_sure h =
+      sure_by state.sure
+      (ap (λ (held : Option (List ℕ)). are_given_sure (span_state span.at span.len (held_state held state)).sure (groups_rest rests shape type fill there.value spans (map group groups))) (sym free)
+      ∙ ap (λ (v : Option (List ℕ)). are_given_sure (seen_state span state).sure (stored_groups_rest rests shape type fill v spans (map group groups))) (sym there.is)
+      ∙ h)
+
+-- ---- over a handle that is lent
+
+first_name : List Lent → GName → GName
+first_name [] name = name
+first_name (one ∷ rest) name = one.name
+
+-- the same reference, and the same ones behind it
+pub record IsSameWhole {H : Type 0} (lent : H → List Lent) (name other : GName) (before after : H) : Type 0 where
+  pub name_is : other ≡ name
+  pub lent_is : lent after ≡ lent before
+
+pub same_whole : {H : Type 0} (lent : H → List Lent) (name other : GName) (before after : H) → whole_reference other ∷ lent after ≡ whole_reference name ∷ lent before → IsSameWhole lent name other before after
+unfolding first_name
+same_whole lent name other before after e = record {
+  name_is = ap (λ (ls : List Lent). first_name ls name) e;
+  lent_is = ap (λ (ls : List Lent). drop 1 ls) e;
+}

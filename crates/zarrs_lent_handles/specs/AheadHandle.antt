@@ -1,0 +1,24 @@
+-- What a handle has read ahead of another handle's value.
+use Rattle.std.specs.Prelude.{ℕ, ◌||◌, nat_le, Bool, Option, List, length, is_some, Result}
+use Rattle.std.specs.List.{list_all}
+use Rattle.zarrs_chunk.specs.Answer.{Answers, memory_or_fault, seen}
+use Rattle.zarrs_chunk.specs.declared.codec_error.CodecError.{CodecError}
+use Rattle.zarrs_codec.specs.ByteRanges.{bytes_in_ranges, read_ranges}
+use Rattle.zarrs_codec.specs.ByteSpan.{ByteSpan}
+use Rattle.zarrs_codec.specs.StorageState.{value_or_empty}
+
+-- there are no ranges, or there is a value
+abbrev pub none_or_stored : Option (List ℕ) → List ByteSpan → Bool
+none_or_stored stored ranges = nat_le (length ranges) 0 || is_some stored
+
+-- the ranges end inside the value
+abbrev pub end_inside : Option (List ℕ) → List ByteSpan → Bool
+end_inside stored ranges = list_all (λ range. nat_le range.end (length (value_or_empty stored))) ranges
+
+-- the ranges' bytes, joined in order
+abbrev pub stored_bytes : Option (List ℕ) → List ByteSpan → List ℕ
+stored_bytes stored ranges = bytes_in_ranges (value_or_empty stored) ranges
+
+-- The call passes where the ranges can be read of what is stored; else the first error is returned. Only lack of memory or a failure of the handle may come in its place.
+abbrev pub ReadsAhead : Result (Unit {0}) CodecError → Option (List ℕ) → List ByteSpan → Type 0
+ReadsAhead result stored ranges = Answers memory_or_fault (λ read. read) result (seen (λ _. tt) (read_ranges stored ranges))

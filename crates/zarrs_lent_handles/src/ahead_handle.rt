@@ -1,0 +1,169 @@
+//! A handle that reads ahead of another handle.
+ghost use Rattle.std.specs.Prelude.{◌≡◌, ◌+◌, ◌<◌, ◌≤◌, ◌^◌, ◌-◌, IfOk, IfSome, Ok, Some, drop, length, min, take, true};
+ghost use Rattle.zarrs_codec.specs.ByteRanges.{range_indices, ranges_are_sure, read_ranges};
+ghost use Rattle.zarrs_codec.specs.HandleCalls.{NeverFailsIf};
+ghost use Rattle.zarrs_codec.specs.StorageState.{after_reading};
+ghost use Rattle.zarrs_lent_handles.specs.AheadHandle.{ReadsAhead, end_inside, none_or_stored, stored_bytes};
+
+use std::alloc::{AllocError, Global};
+use zarrs_chunk::CodecError;
+use zarrs_codec::{ByteRange, BytesPartialDecoderTraits};
+
+/// A storage handle that can be told what is going to be read, and gets it by one call.
+pub trait ReadAheadTraits: BytesPartialDecoderTraits {
+    /// Reads the ranges' bytes by one call, and keeps them for the calls behind it: those that ask for
+    /// the same ranges in the same order ask for nothing more. Errors: `InvalidByteRange` where a
+    /// range ends past the value; `OutOfMemory` and `Storage`, which may come before. `Storage` never
+    /// comes where all bytes of the ranges are sure.
+    fn read_ahead(&mut self, alloc: Global, ranges: Vec<ByteRange>) -> Result<(), CodecError>
+        ensures answer { ReadsAhead result (Self.state self.old).value ranges.items }
+        ensures sure { NeverFailsIf (ranges_are_sure (Self.state self.old) ranges.items) result }
+        ensures left { Self.state self.new ≡ after_reading result (Self.state self.old) }
+        ensures same_reference { Self.lent self.new ≡ Self.lent self.old };
+}
+
+/// A handle that passes on to another one what it is asked for, and reads ahead of it.
+#[derive(Drop)]
+pub struct AheadHandle<'a, H: BytesPartialDecoderTraits> {
+    handle: &'a mut H,
+    ranges: Vec<ByteRange>,
+    bytes: Vec<u8>,
+    next: usize,
+    at: usize,
+    ghost stored: { none_or_stored (H.state handle.now).value (drop next ranges.items) ≡ true },
+    ghost inside: { end_inside (H.state handle.now).value (drop next ranges.items) ≡ true },
+    ghost kept: { drop at bytes.items ≡ stored_bytes (H.state handle.now).value (drop next ranges.items) },
+    ghost counted: { next ≤ length ranges.items },
+    ghost within: { at ≤ length bytes.items },
+}
+
+/// How many bytes ranges have, or `u64::MAX` where they have more.
+fn ranges_len(ranges: &[ByteRange]) -> usize
+    ensures value { result ≡ min (length (range_indices ranges.now)) (2 ^ 64 - 1) }
+{
+    let mut len: u64 = 0;
+    for range in ranges {
+        len = len.saturating_add(range.end() - range.start());
+    }
+    len as usize
+}
+
+/// Whether these ranges, one at least, come first.
+fn come_first(ranges: &[ByteRange], asked: &[ByteRange]) -> bool
+    ensures some { result ≡ true → 0 < length asked.now }
+    ensures within { result ≡ true → length asked.now ≤ length ranges.now }
+    ensures first { result ≡ true → take (length asked.now) ranges.now ≡ asked.now }
+{
+    let count = asked.len();
+    count > 0 && count <= ranges.len() && &ranges[..count] == asked
+}
+
+impl<'a, H: BytesPartialDecoderTraits> AheadHandle<'a, H> {
+    /// A handle that has read nothing yet. It takes no memory, and asks for nothing.
+    pub fn new(alloc: Global, handle: &'a mut H) -> AheadHandle<'a, H>
+        ensures same_reference { result.handle.ghost_name ≡ handle.entry.ghost_name }
+        ensures handle { result.handle.now ≡ handle.old }
+    {
+        AheadHandle {
+            handle,
+            ranges: Vec::new(alloc),
+            bytes: Vec::new(alloc),
+            next: 0,
+            at: 0,
+        }
+    }
+
+    /// Lets go of what has been read ahead, and hands the handle back.
+    pub fn into_handle(self) -> &'a mut H
+        ensures same_reference { result.ghost_name ≡ self.entry.handle.ghost_name }
+        ensures handle { result.now ≡ self.entry.handle.now }
+    {
+        self.handle
+    }
+
+    /// The bytes of these ranges, where they are the next ones that have been read ahead.
+    fn next_bytes(
+        &mut self,
+        alloc: Global,
+        asked: &[ByteRange],
+    ) -> Result<Option<Vec<u8>>, AllocError>
+        ensures bytes { IfOk result (λ found. IfSome found (λ bytes.
+            read_ranges (H.state self.old.handle.now).value asked.now ≡ Ok (Some bytes.items))) }
+        ensures handle { self.new.handle ≡ self.old.handle }
+    {
+        let count = asked.len();
+        if !come_first(&self.ranges[self.next..], asked) {
+            return Ok(None);
+        }
+        let len = ranges_len(asked);
+        let rest = &self.bytes[self.at..];
+        if rest.len() < len {
+            return Ok(None);
+        }
+        let bytes = Vec::from_slice(alloc, &rest[..len])?;
+        self.next += count;
+        self.at += len;
+        Ok(Some(bytes))
+    }
+}
+
+impl<'a, H: BytesPartialDecoderTraits> BytesPartialDecoderTraits for AheadHandle<'a, H> {
+    ghost use Rattle.std.specs.Prelude.{◌∷◌};
+    ghost use Rattle.zarrs_codec.specs.Lent.{whole_reference};
+
+    ghost state = { λ handle. H.state handle.handle.now };
+
+    ghost lent = { λ handle. whole_reference handle.handle.ghost_name ∷ H.lent handle.handle.now };
+
+    ghost held = { λ handle. min (H.held handle.handle.now + length handle.bytes.items) (2 ^ 64 - 1) };
+
+    ghost reads_ranges = { H.reads_ranges };
+
+    fn exists(&mut self) -> Result<bool, CodecError> {
+        self.handle.exists()
+    }
+
+    fn size(&mut self) -> Result<Option<u64>, CodecError> {
+        self.handle.size()
+    }
+
+    /// Those that the handle keeps, and those that have been read ahead.
+    fn size_held(&self) -> usize {
+        self.handle.size_held().saturating_add(self.bytes.len())
+    }
+
+    /// What has been read ahead is taken from there, without a call of the handle.
+    fn partial_decode_many(
+        &mut self,
+        alloc: Global,
+        ranges: &[ByteRange],
+    ) -> Result<Option<Vec<u8>>, CodecError> {
+        match self.next_bytes(alloc, ranges)? {
+            Some(bytes) => Ok(Some(bytes)),
+            None => self.handle.partial_decode_many(alloc, ranges),
+        }
+    }
+
+    fn decode(&mut self, alloc: Global) -> Result<Option<Vec<u8>>, CodecError> {
+        self.handle.decode(alloc)
+    }
+
+    fn supports_partial_decode(&self) -> bool {
+        self.handle.supports_partial_decode()
+    }
+}
+
+impl<'a, H: BytesPartialDecoderTraits> ReadAheadTraits for AheadHandle<'a, H> {
+    fn read_ahead(&mut self, alloc: Global, ranges: Vec<ByteRange>) -> Result<(), CodecError> {
+        match self.handle.partial_decode_many(alloc, ranges.as_slice())? {
+            None => Ok(()),
+            Some(bytes) => {
+                self.ranges = ranges;
+                self.bytes = bytes;
+                self.next = 0;
+                self.at = 0;
+                Ok(())
+            }
+        }
+    }
+}
