@@ -135,7 +135,7 @@ bytes_kept flag bytes before (Ok x) kept = tt
 bytes_kept true bytes before (Err e) kept = (let g = kept refl in cc)
 bytes_kept false bytes before (Err e) kept = absurd (let g = kept refl in cc)
 
-abbrev first_name : GName → List Lent → GName
+abbrev pub first_name : GName → List Lent → GName
 first_name other [] = other
 first_name other (lent ∷ more) = lent.name
 

@@ -12,6 +12,7 @@ pub mod LackingLemmas
 pub mod RangesLacking
 pub mod ListLemmas
 pub mod ManyLemmas
+pub mod OnceLemmas
 pub mod PlanLemmas
 pub mod SelectionLemmas
 pub mod TellLemmas

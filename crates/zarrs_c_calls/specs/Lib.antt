@@ -10,6 +10,8 @@ pub mod Reads
 pub mod JoinedParts
 pub mod ManyReads
 pub mod EachRead
+pub mod Written
+pub mod OneWriteHandle
 pub mod Writes
 pub mod BufferHandle
 pub mod Edits

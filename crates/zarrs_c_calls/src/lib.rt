@@ -23,6 +23,7 @@ mod lacking;
 pub mod laws;
 mod many_reads;
 mod names;
+mod one_write_handle;
 mod part_reads;
 #[cfg(test)]
 mod part_tests;
@@ -44,6 +45,9 @@ mod tell_many;
 #[cfg(test)]
 mod tests;
 mod write;
+#[cfg(test)]
+mod write_tests;
+mod written;
 
 pub use check::zarrs_check;
 pub use decode::zarrs_decode;

@@ -1,33 +1,39 @@
 //! Writing a chunk in part, before the value is returned to C.
-ghost use Rattle.std.specs.Prelude.{◌≡◌, ℕ, List, Ok, Some};
-ghost use Rattle.zarrs_chunk.specs.Answer.{memory, seen, Answers, AnswersItems};
-ghost use Rattle.zarrs_chunk.specs.Indexer.{selection_of};
-ghost use Rattle.zarrs_codec.specs.MemoryHandle.{handle_value};
-ghost use Rattle.zarrs_c_calls.specs.Codes.{cause_memory};
-ghost use Rattle.zarrs_c_calls.specs.Reads.{form_seen, lent_stored};
-ghost use Rattle.zarrs_c_calls.specs.Writes.{known_written, GivesPartWritten};
+ghost use Rattle.std.specs.Prelude.{◌≡◌, OnErr};
+ghost use Rattle.zarrs_chunk.specs.Answer.{memory, memory_or_fault, Answers};
+ghost use Rattle.zarrs_codec.specs.CodersOverHandles.{HandleWrites};
+ghost use Rattle.zarrs_c_calls.specs.OneWriteHandle.{apart_bytes, apart_name, fresh_state, newly_written, once_state, once_value, out_bytes, out_name};
+ghost use Rattle.zarrs_c_calls.specs.Reads.{stored_value};
+ghost use Rattle.zarrs_c_calls.specs.Writes.{write_due, stored_due, WritesEdit};
+ghost use Rattle.zarrs_c_calls.specs.Written.{WritesDue};
 
 use crate::calls::form_given;
 use crate::cause::Cause;
 use crate::given::elements_given;
+use crate::one_write_handle::{Before, OneWriteHandle};
 use crate::selection::selection_given;
+use crate::written::Written;
 use std::alloc::Global;
+use std::marker::Brand;
 use zarrs_array_bytes::ArrayBytes;
 use zarrs_chunk::{CodecError, Indexer};
-use zarrs_codec::MemoryHandle;
+use zarrs_codec::BytesPartialEncoderTraits;
 use zarrs_codec_chain::CodecChainPartialTraits;
 use zarrs_json::ChunkHeader;
 
-/// Writes new elements over what is stored, by an encoder that is made for this call.
-fn write_part(
+/// Writes new elements over what a handle has, by an encoder that is made for this call, and gives the
+/// handle back.
+fn write_handle<H: BytesPartialEncoderTraits>(
     alloc: Global,
     form: &ChunkHeader,
-    handle: &mut MemoryHandle,
+    handle: H,
     indexer: &Indexer,
     new: &ArrayBytes<'_>,
-) -> Result<(), CodecError>
-    ensures answer { Answers memory (λ _. handle_value handle.new) result (seen Some (known_written
-        (form_seen form.now) (handle_value handle.old) (selection_of indexer.now) new.now)) }
+    outcome: &mut Result<(), CodecError>,
+) -> H
+    ensures answer { Answers memory_or_fault (λ _. (H.state result).value) outcome.new
+        (stored_due form.now (H.state handle).value indexer.now new.now) }
+    ensures left { HandleWrites H.state H.lent H.atomic handle result outcome.new }
 {
     let chain = &form.chain;
     match chain.partial_encoder(
@@ -37,34 +43,110 @@ fn write_part(
         &form.data_type,
         &form.fill_value,
     ) {
-        Err(refused) => Err(refused.error),
+        Err(refused) => {
+            *outcome = Err(refused.error);
+            refused.handle
+        }
         Ok(mut encoder) => {
-            let written = encoder.partial_encode(alloc, indexer, new);
-            let _ = encoder.into_handle();
-            written
+            *outcome = encoder.partial_encode(alloc, indexer, new);
+            encoder.into_handle()
         }
     }
 }
 
-/// A handle on a copy of a value, or on none.
-fn handle_with(alloc: Global, stored: Option<&[u8]>) -> Result<MemoryHandle, Cause>
-    ensures answer { Answers cause_memory handle_value result (Ok (lent_stored stored.entry)) }
+/// Writes new elements over what a handle is on that wasn't written yet, and gives the handle back.
+fn write_once<'h, B: Before>(
+    alloc: Global,
+    form: &ChunkHeader,
+    handle: OneWriteHandle<'h, B>,
+    indexer: &Indexer,
+    new: &ArrayBytes<'_>,
+    outcome: &mut Result<(), CodecError>,
+) -> OneWriteHandle<'h, B>
+    requires no_writes { once_state handle ≡ fresh_state (once_value handle) }
+    ensures answer { Answers memory (λ _. newly_written result) outcome.new
+        (stored_due form.now (once_value handle.entry) indexer.now new.now) }
+    ensures kept { OnErr outcome.new (out_bytes result ≡ B.before) }
+    ensures same_reference { out_name result ≡ out_name handle.entry }
+    ensures lent { apart_name result ≡ apart_name handle.entry }
 {
-    match stored {
-        Some(value) => Ok(MemoryHandle::with_value(Vec::from_slice(alloc, value)?)),
-        None => Ok(MemoryHandle::new()),
-    }
+    write_handle(alloc, form, handle, indexer, new, outcome)
 }
 
-/// What is stored after a write, which stores something.
-fn stored_after(handle: MemoryHandle) -> Result<Vec<u8>, Cause>
-    ensures answer { (value : List ℕ) → handle_value handle ≡ Some value
-        → AnswersItems cause_memory result (Ok value) }
+/// Writes new elements over what is stored, into a buffer that is as `B` says, and gives the handle on it
+/// back: by that its caller learns what the buffer is.
+fn write_buffer<'h, B: Before>(
+    alloc: Global,
+    form: &ChunkHeader,
+    is_stored: bool,
+    value: &'h [u8],
+    indexer: &Indexer,
+    new: &ArrayBytes<'_>,
+    out: &'h mut [u8],
+    apart: &'h mut Vec<u8>,
+    outcome: &mut Result<Written, CodecError>,
+) -> OneWriteHandle<'h, B>
+    requires same { out.old ≡ B.before }
+    ensures writes { WritesDue memory (write_due form.now (stored_value is_stored value.now)
+        indexer.now new.now) B.before (out_bytes result) (apart_bytes result) outcome.new }
+    ensures same_reference { out_name result ≡ out.entry.ghost_name }
+    ensures lent { apart_name result ≡ apart.entry.ghost_name }
 {
-    match handle.into_value() {
-        Some(value) => Ok(value),
-        None => Err(Cause::Argument),
-    }
+    let handle = OneWriteHandle::<B>::new(is_stored, value, out, apart);
+    let mut edited = Ok(());
+    let handle = write_once(alloc, form, handle, indexer, new, &mut edited);
+    *outcome = match edited {
+        Err(error) => Err(error),
+        Ok(()) => Ok(handle.written()),
+    };
+    handle
+}
+
+/// Writes new elements over what is stored, into a buffer that is as `B` says.
+fn write_branded<B: Before>(
+    alloc: Global,
+    form: &ChunkHeader,
+    is_stored: bool,
+    value: &[u8],
+    indexer: &Indexer,
+    new: &ArrayBytes<'_>,
+    out: &mut [u8],
+    apart: &mut Vec<u8>,
+) -> Result<Written, CodecError>
+    requires same { out.old ≡ B.before }
+    ensures writes { WritesDue memory (write_due form.now (stored_value is_stored value.now)
+        indexer.now new.now) B.before out.new apart.new.items result }
+{
+    let mut outcome = Ok(Written::Nothing);
+    let _handle = write_buffer::<B>(
+        alloc,
+        form,
+        is_stored,
+        value,
+        indexer,
+        new,
+        out,
+        apart,
+        &mut outcome,
+    );
+    outcome
+}
+
+/// Writes new elements over what is stored, into the buffer where it has room, and else apart.
+fn write_part(
+    alloc: Global,
+    form: &ChunkHeader,
+    is_stored: bool,
+    value: &[u8],
+    indexer: &Indexer,
+    new: &ArrayBytes<'_>,
+    out: &mut [u8],
+    apart: &mut Vec<u8>,
+) -> Result<Written, CodecError>
+    ensures writes { WritesDue memory (write_due form.now (stored_value is_stored value.now)
+        indexer.now new.now) out.old out.new apart.new.items result }
+{
+    write_branded::<Brand>(alloc, form, is_stored, value, indexer, new, out, apart)
 }
 
 /// New elements, and where they go: as they cross.
@@ -77,19 +159,23 @@ pub(crate) struct Edit<'a> {
     pub(crate) bytes: &'a [u8],
 }
 
-/// The value that new elements at the selected places leave of a value, or of nothing.
+/// Writes the value that new elements at the selected places leave of a value, or of nothing, into the
+/// buffer where it has room, and else apart.
 pub(crate) fn write(
     alloc: Global,
     text: &[u8],
-    stored: Option<&[u8]>,
+    is_stored: bool,
+    value: &[u8],
     edit: &Edit<'_>,
-) -> Result<Vec<u8>, Cause>
-    ensures answer { GivesPartWritten text.now (lent_stored stored.entry) edit.now result }
+    out: &mut [u8],
+    apart: &mut Vec<u8>,
+) -> Result<Written, Cause>
+    ensures writes { WritesEdit text.now (stored_value is_stored value.now)
+        edit.now out.old out.new apart.new.items result }
 {
     let form = form_given(alloc, text)?;
     let indexer = selection_given(alloc, &form, edit.tuples, edit.numbers)?;
     let new = elements_given(alloc, &form.data_type, edit.masks, edit.offsets, edit.bytes)?;
-    let mut handle = handle_with(alloc, stored)?;
-    write_part(alloc, &form, &mut handle, &indexer, &new)?;
-    stored_after(handle)
+    let written = write_part(alloc, &form, is_stored, value, &indexer, &new, out, apart)?;
+    Ok(written)
 }

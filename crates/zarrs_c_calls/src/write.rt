@@ -5,9 +5,8 @@ ghost use Rattle.zarrs_c_calls.specs.Told.{TellsBytes};
 ghost use Rattle.zarrs_c_calls.specs.Writes.{part_written};
 
 use crate::cause::cause_code;
-use crate::part_reads::stored_given;
 use crate::part_writes::{Edit, write};
-use crate::tell::tell_bytes;
+use crate::written::tell_written;
 use std::alloc::Global;
 
 /// The value that is left where new elements are written at the selected places, in the selection's
@@ -37,7 +36,6 @@ pub fn zarrs_write(
         tuples numbers.now (buffers masks.now offsets.now bytes.now)) result
         out.old out.new needed.old needed.new }
 {
-    let stored = stored_given(is_stored, value);
     let edit = Edit {
         tuples,
         numbers,
@@ -45,8 +43,9 @@ pub fn zarrs_write(
         offsets,
         bytes,
     };
-    match write(alloc, text, stored, &edit) {
-        Ok(value) => tell_bytes(value.as_slice(), out, needed),
+    let mut apart = Vec::new(alloc);
+    match write(alloc, text, is_stored, value, &edit, out, &mut apart) {
+        Ok(written) => tell_written(written, apart.as_slice(), out, needed),
         Err(cause) => cause_code(&cause),
     }
 }
