@@ -6,6 +6,7 @@ use Rattle.std.specs.Prelude.{is_ok, is_some, IfErr, IfOk, Vec}
 use Rattle.std.specs.declared.alloc.Global.{Global}
 use Rattle.std.proofs.lemmas.List.{append-nil, length-append, take-append-drop}
 use Rattle.std.proofs.Math.Nat.{add_assoc}
+use Rattle.std.proofs.lemmas.Bool.{and_from}
 use Rattle.std.proofs.lemmas.List.Concat.{flat_map-append}
 use Rattle.std.proofs.lemmas.List.Folds.{list_all-append}
 use Rattle.zarrs_array_regions.specs.KeptRegions.{IsKept}
@@ -38,7 +39,7 @@ use Rattle.zarrs_codec_chain.proofs.GroupedReads.{first_sure, span_sure as inner
 use Rattle.zarrs_codec_chain.proofs.LeafReads.{rests_wholly}
 use Rattle.zarrs_codec_chain.proofs.PartialReads.{IsReadable}
 use Rattle.zarrs_codec_chain.proofs.SpanChains.{chain_rests_moved, selected_go, window_sure}
-use Rattle.zarrs_codec_chain.proofs.SpanSeen.{HasValue, stands_value}
+use Rattle.zarrs_codec_chain.proofs.SpanSeen.{stands_value}
 use Rattle.zarrs_codec_chain.specs.ChunkRead.{are_given_sure, asks_in_part, encoded_places}
 use Rattle.zarrs_codec_chain.specs.CodecPart.{codec_rests_on}
 use Rattle.zarrs_codec_chain.specs.JointReads.{AddsRanges, AddsSpan, AreGroupRanges, AreRestedOn, RestMoved, all_pass, end_within}
@@ -47,7 +48,7 @@ use Rattle.zarrs_codec_chain.specs.ShardRead.{groups_rest, span_rests}
 use Rattle.zarrs_codec_chain.specs.SpanReads.{StandsIn, chain_rests, held_state, inner_span, moved_rests, outer_rests, seen_state, span_held, span_parts, stored_groups_rest}
 use Rattle.zarrs_codec_chain.specs.declared.sharding.value_span.ValueSpan.{ValueSpan}
 use Rattle.zarrs_data_type.specs.ElementType.{ElementType}
-use Rattle.zarrs_lent_handles.proofs.SpanLemmas.{span_sure as moved_are_sure, spanned_long}
+use Rattle.zarrs_lent_handles.proofs.SpanLemmas.{first_name, span_sure as moved_are_sure, spanned_long}
 use Rattle.zarrs_lent_handles.specs.AheadHandle.{ReadsAhead}
 use Rattle.zarrs_lent_handles.specs.SpanHandle.{is_span_of, moved_ranges, span_state}
 use Rattle.zarrs_chunk.specs.Runs.{EndWithin, joined_runs}
@@ -86,7 +87,7 @@ refused_of view (Err e) x h = by (memory_or_fault e) refl
     by true is = is
     by false is = absurd (ok_no_err x e (h (memory_too e is)))
 
--- only lack of memory refuses what is taken
+-- what is taken fails for lack of memory alone
 pub refused_by : {A B : Type 0} (R : A → B → Type 0) (r : Result A CodecError) (expected : Result B CodecError) → AnswersBy memory R r expected → is_ok expected ≡ true → IfErr r (λ error. memory_or_fault error ≡ true)
 refused_by R (Ok a) expected h taken = tt
 refused_by R (Err e) (Ok x) h taken = refused_of (λ (y : _). y) (Err e) x h
@@ -102,22 +103,19 @@ moved_within at len limit (range ∷ own) l h =
     let rest = moved_within at len limit own l (second_true (nat_le range.end len) (end_within len own) h) in
     rw (here, rest) refl
 
-both_pass : (one other : Bool) → one ≡ true → other ≡ true → (one && other) ≡ true
-both_pass one other a b = rw (a, b) refl
-
 pub adds_ranges : (rests : Resting) (shape : List ℕ) (type : ElementType) (fill : List ℕ) (at len : ℕ) (places : List ℕ) (before own after : List ByteSpan) → AreRestedOn rests shape type fill len places own → end_within len own ≡ true → after ≡ before ++ moved_ranges at own
     → AddsRanges rests shape type fill at len places before after
 adds_ranges rests shape type fill at len places before own after rested fit are = record {
   inside = λ limit l h.
       ap (end_within limit) are
       ∙ list_all-append (λ (range : ByteSpan). nat_le range.end limit) before (moved_ranges at own)
-      ∙ both_pass (end_within limit before) (end_within limit (moved_ranges at own)) h (moved_within at len limit own l fit);
+      ∙ and_from (end_within limit before) (end_within limit (moved_ranges at own)) h (moved_within at len limit own l fit);
   rested = λ value test long given h.
       let mine : all_pass test (moved_ranges at own) ≡ true = sym (moved_are_sure at (Some test) own) ∙ rested value (λ number. test (at + number)) long given in
       ap (all_pass test) are
       ∙ ap (list_all test) (flat_map-append _ before (moved_ranges at own))
       ∙ list_all-append test (range_indices before) (range_indices (moved_ranges at own))
-      ∙ both_pass (all_pass test before) (all_pass test (moved_ranges at own)) h mine;
+      ∙ and_from (all_pass test before) (all_pass test (moved_ranges at own)) h mine;
 }
 
 -- ---- an inner chunk at a span
@@ -194,9 +192,6 @@ module _ (rests : Resting) (shape : List ℕ) (type : ElementType) (fill : List 
     pub inside : end_within (at + len) ranges ≡ true
     pub rested : (value : List ℕ) (test : ℕ → Bool) → length value ≡ len → Given value test groups → (all_pass test ranges ≡ true) × Given value test (drop index groups)
 
-  pub no_ranges : RangesTo 0 []
-  no_ranges = record { inside = refl; rested = λ value test long given. (refl, given) }
-
   pub ranges_go_on : (index : ℕ) (it : InnerRuns) (before after : List ByteSpan) → drop index groups ≡ it ∷ drop (index + 1) groups → RangesTo index before → AddsSpan rests shape type fill at len (get_or spans it.number (0, 0)) (joined_runs it.runs.items) before after → RangesTo (index + 1) after
   ranges_go_on index it before after next walk adds = record {
     inside = adds.inside walk.inside;
@@ -228,9 +223,6 @@ not_held span e = by span.held e
     by (Some bytes) e = absurd cc
 
 module _ (rests : Resting) (shape : List ℕ) (type : ElementType) (fill : List ℕ) (span : ValueSpan) (state : StorageState) (stands : StandsIn span state) (free : span_held span ≡ None) (spans : List Span) (groups : List InnerRuns) (ranges : List ByteSpan) (are : AreGroupRanges rests shape type fill span.at span.len spans groups ranges) where
-  there : HasValue (seen_state span state) span.len
-  there = stands_value span state stands
-
   stands_below : is_span_of span.at span.len state.value ≡ true
   stands_below = ap (λ (h : Option (List ℕ)). is_span_of span.at span.len (held_state h state).value) (sym free) ∙ stands
 
@@ -239,7 +231,7 @@ module _ (rests : Resting) (shape : List ℕ) (type : ElementType) (fill : List 
   within_by whole (range ∷ rs) l h =
       let here = from_le_test range.end (span.at + span.len) (first_true (nat_le range.end (span.at + span.len)) (end_within (span.at + span.len) rs) h) in
       let first = le_test range.end (length whole) (omega (arith, here, l)) in
-      both_pass (nat_le range.end (length whole)) (end_within (length whole) rs) first (within_by whole rs l (second_true (nat_le range.end (span.at + span.len)) (end_within (span.at + span.len) rs) h))
+      and_from (nat_le range.end (length whole)) (end_within (length whole) rs) first (within_by whole rs l (second_true (nat_le range.end (span.at + span.len)) (end_within (span.at + span.len) rs) h))
 
   read_by : (stored : Option (List ℕ)) → is_span_of span.at span.len stored ≡ true → (bytes : Option (List ℕ)) × (read_ranges stored ranges ≡ Ok bytes)
   read_by None h = absurd cc
@@ -258,27 +250,23 @@ module _ (rests : Resting) (shape : List ℕ) (type : ElementType) (fill : List 
           let read = read_by state.value stands_below in
           absurd (ok_no_err tt e (sym (ap (seen (λ _. tt)) read.1) ∙ h is))
 
-  sure_by : (sure : Option (ℕ → Bool)) → are_given_sure (option_map (λ p number. p (span.at + number)) sure) (groups_rest rests shape type fill there.value spans (map group groups)) ≡ true → are_sure sure (range_indices ranges) ≡ true
-  sure_by None h = absurd (never (groups_rest rests shape type fill there.value spans (map group groups)) h)
+  sure_by : (sure : Option (ℕ → Bool)) → are_given_sure (option_map (λ p number. p (span.at + number)) sure) (groups_rest rests shape type fill (stands_value span state stands).value spans (map group groups)) ≡ true → are_sure sure (range_indices ranges) ≡ true
+  sure_by None h = absurd (never (groups_rest rests shape type fill (stands_value span state stands).value spans (map group groups)) h)
     where
       never : (r : Result (List ℕ) CodecError) → are_given_sure None r ≡ true → ⊥
       never (Ok numbers) e = cc
       never (Err error) e = cc
-  sure_by (Some p) h = are.rested there.value p there.long h
+  sure_by (Some p) h = are.rested (stands_value span state stands).value p (stands_value span state stands).long h
 
   -- and no failure, where the bytes are sure that the reads rest on
   pub ahead_sure : are_given_sure (seen_state span state).sure (stored_groups_rest rests shape type fill (seen_state span state).value spans (map group groups)) ≡ true → ranges_are_sure state ranges ≡ true
   ahead_sure h =
       sure_by state.sure
-      (ap (λ (held : Option (List ℕ)). are_given_sure (span_state span.at span.len (held_state held state)).sure (groups_rest rests shape type fill there.value spans (map group groups))) (sym free)
-      ∙ ap (λ (v : Option (List ℕ)). are_given_sure (seen_state span state).sure (stored_groups_rest rests shape type fill v spans (map group groups))) (sym there.is)
+      (ap (λ (held : Option (List ℕ)). are_given_sure (span_state span.at span.len (held_state held state)).sure (groups_rest rests shape type fill (stands_value span state stands).value spans (map group groups))) (sym free)
+      ∙ ap (λ (v : Option (List ℕ)). are_given_sure (seen_state span state).sure (stored_groups_rest rests shape type fill v spans (map group groups))) (sym (stands_value span state stands).is)
       ∙ h)
 
 -- ---- over a handle that is lent
-
-first_name : List Lent → GName → GName
-first_name [] name = name
-first_name (one ∷ rest) name = one.name
 
 -- the same reference, and the same ones behind it
 pub record IsSameWhole {H : Type 0} (lent : H → List Lent) (name other : GName) (before after : H) : Type 0 where

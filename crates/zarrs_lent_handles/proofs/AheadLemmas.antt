@@ -12,7 +12,7 @@ use Rattle.std.proofs.Math.Seq.{take-append_seam, drop-append_seam}
 use Rattle.zarrs_codec.proofs.Fences.{first_true, second_true}
 use Rattle.zarrs_codec.specs.ByteRanges.{bytes_in_ranges, range_indices, read_ranges}
 use Rattle.zarrs_codec.specs.ByteSpan.{ByteSpan}
-use Rattle.zarrs_lent_handles.specs.AheadHandle.{end_inside, none_or_stored, stored_bytes}
+use Rattle.zarrs_lent_handles.specs.AheadHandle.{end_inside, none_or_stored, bytes_ahead}
 
 abbrev ends_within : List ℕ → ByteSpan → Bool
 ends_within value range = nat_le range.end (length value)
@@ -57,7 +57,7 @@ pub record IsTaken (stored : Option (List ℕ)) (ranges asked : List ByteSpan) (
   pub read : read_ranges stored asked ≡ Ok (Some (take len bytes))
   pub some_left : none_or_stored stored (drop (length asked) ranges) ≡ true
   pub inside_left : end_inside stored (drop (length asked) ranges) ≡ true
-  pub bytes_left : drop len bytes ≡ stored_bytes stored (drop (length asked) ranges)
+  pub bytes_left : drop len bytes ≡ bytes_ahead stored (drop (length asked) ranges)
 
 taken_of : (value : List ℕ) (asked rest : List ByteSpan) (bytes : List ℕ) (len : ℕ) → list_all (ends_within value) (asked ++ rest) ≡ true → bytes ≡ bytes_in_ranges value (asked ++ rest) → len ≡ length (range_indices asked)
     → (read_ranges (Some value) asked ≡ Ok (Some (take len bytes))) × (list_all (ends_within value) rest ≡ true) × (drop len bytes ≡ bytes_in_ranges value rest)
@@ -89,7 +89,7 @@ any_left : (test : Bool) → (test || true) ≡ true
 any_left true = refl
 any_left false = refl
 
-pub is_taken : (stored : Option (List ℕ)) (ranges asked : List ByteSpan) (bytes : List ℕ) (len : ℕ) → none_or_stored stored ranges ≡ true → end_inside stored ranges ≡ true → bytes ≡ stored_bytes stored ranges
+pub is_taken : (stored : Option (List ℕ)) (ranges asked : List ByteSpan) (bytes : List ℕ) (len : ℕ) → none_or_stored stored ranges ≡ true → end_inside stored ranges ≡ true → bytes ≡ bytes_ahead stored ranges
     → take (length asked) ranges ≡ asked → 0 < length asked → length asked ≤ length ranges → len ≡ min (length (range_indices asked)) (2 ^ 64 - 1) → length bytes < 2 ^ 64 → IsTaken stored ranges asked bytes len
 is_taken None ranges asked bytes len some inside are first any few long small = absurd (not_some (some_of None ranges (omega (arith, any, few)) some))
   where
@@ -113,7 +113,7 @@ is_taken (Some value) ranges asked bytes len some inside are first any few long 
     }
 
 -- behind what has been passed by before
-pub is_taken_on : (stored : Option (List ℕ)) (ranges asked : List ByteSpan) (bytes : List ℕ) (next at len : ℕ) → none_or_stored stored (drop next ranges) ≡ true → end_inside stored (drop next ranges) ≡ true → drop at bytes ≡ stored_bytes stored (drop next ranges)
+pub is_taken_on : (stored : Option (List ℕ)) (ranges asked : List ByteSpan) (bytes : List ℕ) (next at len : ℕ) → none_or_stored stored (drop next ranges) ≡ true → end_inside stored (drop next ranges) ≡ true → drop at bytes ≡ bytes_ahead stored (drop next ranges)
     → take (length asked) (drop next ranges) ≡ asked → 0 < length asked → length asked ≤ length (drop next ranges) → len ≡ min (length (range_indices asked)) (2 ^ 64 - 1) → length bytes < 2 ^ 64 → IsTaken stored (drop next ranges) asked (drop at bytes) len
 is_taken_on stored ranges asked bytes next at len some inside are first any few long small =
     is_taken stored (drop next ranges) asked (drop at bytes) len some inside are first any few long (omega (arith, small, length-drop at bytes))
@@ -121,7 +121,7 @@ is_taken_on stored ranges asked bytes next at len some inside are first any few 
 pub record IsLeft (stored : Option (List ℕ)) (ranges : List ByteSpan) (bytes : List ℕ) (next at : ℕ) : Type 0 where
   pub some : none_or_stored stored (drop next ranges) ≡ true
   pub inside : end_inside stored (drop next ranges) ≡ true
-  pub kept : drop at bytes ≡ stored_bytes stored (drop next ranges)
+  pub kept : drop at bytes ≡ bytes_ahead stored (drop next ranges)
 
 pub is_left : (stored : Option (List ℕ)) (ranges asked : List ByteSpan) (bytes : List ℕ) (next at len : ℕ) → IsTaken stored (drop next ranges) asked (drop at bytes) len → IsLeft stored ranges bytes (next + length asked) (at + len)
 is_left stored ranges asked bytes next at len t =
@@ -129,7 +129,7 @@ is_left stored ranges asked bytes next at len t =
     record {
       some = subst (λ (rs : List ByteSpan). none_or_stored stored rs ≡ true) on t.some_left;
       inside = subst (λ (rs : List ByteSpan). end_inside stored rs ≡ true) on t.inside_left;
-      kept = sym (drop-drop len at bytes) ∙ t.bytes_left ∙ ap (stored_bytes stored) on;
+      kept = sym (drop-drop len at bytes) ∙ t.bytes_left ∙ ap (bytes_ahead stored) on;
     }
 
 -- as many elements behind a place as there are

@@ -153,7 +153,7 @@ span_of_span outer size at len state l = λ i. record state { value = values_twi
 
 -- ---- what is left of the handle behind a span
 
-first_name : List Lent → GName → GName
+pub first_name : List Lent → GName → GName
 first_name [] name = name
 first_name (one ∷ rest) name = one.name
 

@@ -16,8 +16,8 @@ abbrev pub end_inside : Option (List ℕ) → List ByteSpan → Bool
 end_inside stored ranges = list_all (λ range. nat_le range.end (length (value_or_empty stored))) ranges
 
 -- the ranges' bytes, joined in order
-abbrev pub stored_bytes : Option (List ℕ) → List ByteSpan → List ℕ
-stored_bytes stored ranges = bytes_in_ranges (value_or_empty stored) ranges
+abbrev pub bytes_ahead : Option (List ℕ) → List ByteSpan → List ℕ
+bytes_ahead stored ranges = bytes_in_ranges (value_or_empty stored) ranges
 
 -- The call passes where the ranges can be read of what is stored; else the first error is returned. Only lack of memory or a failure of the handle may come in its place.
 abbrev pub ReadsAhead : Result (Unit {0}) CodecError → Option (List ℕ) → List ByteSpan → Type 0

@@ -3,13 +3,13 @@ ghost use Rattle.std.specs.Prelude.{◌≡◌, ◌+◌, ◌<◌, ◌≤◌, ◌^
 ghost use Rattle.zarrs_codec.specs.ByteRanges.{range_indices, ranges_are_sure, read_ranges};
 ghost use Rattle.zarrs_codec.specs.HandleCalls.{NeverFailsIf};
 ghost use Rattle.zarrs_codec.specs.StorageState.{after_reading};
-ghost use Rattle.zarrs_lent_handles.specs.AheadHandle.{ReadsAhead, end_inside, none_or_stored, stored_bytes};
+ghost use Rattle.zarrs_lent_handles.specs.AheadHandle.{ReadsAhead, end_inside, none_or_stored, bytes_ahead};
 
 use std::alloc::{AllocError, Global};
 use zarrs_chunk::CodecError;
 use zarrs_codec::{ByteRange, BytesPartialDecoderTraits};
 
-/// A storage handle that can be told what is going to be read, and gets it by one call.
+/// A storage handle that reads, by one call, what is going to be asked for.
 pub trait ReadAheadTraits: BytesPartialDecoderTraits {
     /// Reads the ranges' bytes by one call, and keeps them for the calls behind it: those that ask for
     /// the same ranges in the same order ask for nothing more. Errors: `InvalidByteRange` where a
@@ -32,7 +32,7 @@ pub struct AheadHandle<'a, H: BytesPartialDecoderTraits> {
     at: usize,
     ghost stored: { none_or_stored (H.state handle.now).value (drop next ranges.items) ≡ true },
     ghost inside: { end_inside (H.state handle.now).value (drop next ranges.items) ≡ true },
-    ghost kept: { drop at bytes.items ≡ stored_bytes (H.state handle.now).value (drop next ranges.items) },
+    ghost kept: { drop at bytes.items ≡ bytes_ahead (H.state handle.now).value (drop next ranges.items) },
     ghost counted: { next ≤ length ranges.items },
     ghost within: { at ≤ length bytes.items },
 }
