@@ -1,15 +1,14 @@
 -- Handles that are written once, and what is made of their writes.
-use Rattle.std.proofs.Common.{◌≡◌, inl, inr, ℕ, ◌+◌, ◌%◌, ◌^◌, ◌==◌, Bool, true, false, ◌||◌, List, [], ◌∷◌, Option, Some, None, Result, Ok, Err, OnOk, OnErr, drop, refl, ap, sym, ◌∙◌, arith, subst}
+use Rattle.std.proofs.Common.{◌≡◌, inl, inr, ℕ, ◌==◌, true, false, ◌||◌, List, [], ◌∷◌, Option, None, Result, Ok, Err, OnOk, OnErr, drop, refl, ap, sym, ◌∙◌, arith, subst}
 use Rattle.std.specs.Borrow.{GName}
-use Rattle.zarrs_chunk.specs.Answer.{Answers, Excused, memory, fault, memory_or_fault, is_fault, seen, ◌>>=◌}
+use Rattle.zarrs_chunk.specs.Answer.{Answers, memory, fault, memory_or_fault}
 use Rattle.zarrs_chunk.specs.declared.codec_error.CodecError.{CodecError}
 use Rattle.zarrs_codec.specs.ArrayWriter.{IsRefusedWrite}
-use Rattle.zarrs_codec.specs.CodersOverHandles.{OnlyWrites}
 use Rattle.zarrs_codec.specs.Lent.{Lent, whole_reference}
-use Rattle.zarrs_codec.specs.StorageState.{StorageState, after_reading, after_writing, apart_from_value, count_if}
+use Rattle.zarrs_codec.specs.StorageState.{StorageState, after_writing, apart_from_value, count_if}
 use Rattle.zarrs_codec_chain.proofs.MadeCoders.{excused_less, no_fault}
 use Rattle.zarrs_c_calls.proofs.EditLemmas.{first_name}
-use Rattle.zarrs_c_calls.specs.OneWriteHandle.{accepted, fresh_state, newly_written, once_state, once_value, once_written, out_bytes}
+use Rattle.zarrs_c_calls.specs.OneWriteHandle.{accepted, fresh_state, newly_written, once_state, once_value, once_written}
 use Rattle.zarrs_c_calls.specs.Written.{is_written, replaced, value_written}
 use Rattle.zarrs_c_calls.specs.declared.one_write_handle.OneWriteHandle.{OneWriteHandle}
 use Rattle.zarrs_c_calls.specs.declared.written.Written.{Written}
