@@ -265,8 +265,9 @@ uint32_t zarrs_read_pieces(const uint8_t *header, size_t header_len,
  * lacking and no others, so that one round is enough. So a chunk of any codecs is read in rounds, the first one
  * with no ranges: each fetches what the one before it lacked, and joins ranges that touch. Texts of a
  * zarrs.vlen whose chains are bytes take at most three: how long the offsets are, the offsets, the texts. Of a
- * shard the index is lacking first, and then, one inner chunk after the other, what the read of each lacks. Of
- * any other chain the whole value is lacking. Codes are those of zarrs_read_pieces, but for ZARRS_STORAGE. */
+ * shard the index is lacking first, and then what the reads of all inner chunks lack; where these hold shards or
+ * texts of a zarrs.vlen, of one inner chunk after the other. Of any other chain the whole value is lacking. Codes
+ * are those of zarrs_read_pieces, but for ZARRS_STORAGE. */
 uint32_t zarrs_lacking(const uint8_t *header, size_t header_len,
                        uint64_t len, const uint64_t *ranges, size_t ranges_len,
                        const uint8_t *fetched, size_t fetched_len,

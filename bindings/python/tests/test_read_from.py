@@ -163,22 +163,55 @@ def test_rounds_of_other_chains(rng, monkeypatch):
         assert rounds.pop() == [[0, len(file.getvalue())]] and not rounds
 
 
-def test_rounds_of_shards(monkeypatch):
-    """The index, then one inner chunk after the other; behind eight rounds all that isn't there."""
+def sharded(length, inside, **more):
+    configuration = {"chunk_shape": [length], "codecs": inside, "index_codecs": [LITTLE], **more}
+    return {"name": "sharding_indexed", "configuration": configuration}
+
+
+# Of 32 numbers of two bytes: inner chunks of two are four bytes each, and the index is 16 bytes for each of them. A shard
+# of eight numbers inside is four inner chunks and their index, 80 bytes.
+ROUNDS_OF_SHARDS = [
+    ("index behind", sharded(2, [LITTLE]), np.s_[1:3], [[[64, 320]], [[2, 6]]]),
+    ("index behind, all", sharded(2, [LITTLE]), np.s_[:], [[[64, 320]], [[0, 64]]]),
+    ("index in front", sharded(2, [LITTLE], index_location="start"), np.s_[1:3], [[[0, 256]], [[258, 262]]]),
+    ("read whole inside", sharded(2, [LITTLE, "crc32c"]), np.s_[1:3], [[[128, 384]], [[0, 16]]]),
+    ("a shard inside", sharded(8, [sharded(2, [LITTLE])]), np.s_[1:3], [[[320, 384]], [[16, 80]], [[2, 6]]]),
+    (
+        "two shards inside, one after the other",
+        sharded(8, [sharded(2, [LITTLE])]),
+        np.s_[7:9],
+        [[[320, 384]], [[16, 80]], [[14, 16]], [[96, 160]], [[80, 82]]],
+    ),
+    (
+        "shards inside, read whole",
+        sharded(8, [sharded(2, [LITTLE]), "crc32c"]),
+        np.s_[7:9],
+        [[[336, 400]], [[0, 168]]],
+    ),
+]
+
+
+@pytest.mark.parametrize("name, codec, selection, due", ROUNDS_OF_SHARDS)
+def test_rounds_of_shards(name, codec, selection, due, monkeypatch):
+    """The index, and then what all inner chunks are read by, at once; shards inside go so one after the other."""
     rounds = rounds_of(monkeypatch)
-    shards = {
-        "name": "sharding_indexed",
-        "configuration": {"chunk_shape": [2], "codecs": [LITTLE], "index_codecs": [LITTLE]},
-    }
     numbers = np.arange(1, 33, dtype="<i2")
-    chain = Chain([shards], (32,), "int16", 0)
+    chain = Chain([codec], (32,), "int16", 0)
     file = RecordingFile(chain.encode(numbers))
-    size = len(file.getvalue())
-    same(chain.read_from(file, np.s_[1:3]), numbers[1:3])
-    assert rounds == [[[64, size]], [[2, 4]], [[4, 6]]] and file.seen == {*range(2, 6), *range(64, size)}
-    rounds.clear()
-    same(chain.read_from(file, np.s_[:]), numbers)
-    assert rounds == [[[64, size]], *([[at, at + 4]] for at in range(0, 28, 4)), [[28, 64]]]
+    same(chain.read_from(file, selection), numbers[selection])
+    assert rounds == due
+    assert file.seen == {byte for ranges in due for begin, end in ranges for byte in range(begin, end)}
+
+
+def test_rounds_of_texts_in_shards(monkeypatch):
+    """Of `zarrs.vlen`, whose offsets say which bytes the texts have, inner chunks are read one after the other."""
+    rounds = rounds_of(monkeypatch)
+    array = np.array(["a", "bc", "def", "g"], object)
+    for inside, due in ((["vlen-utf8"], 2), ([VLEN], 7)):
+        chain = Chain([sharded(2, inside)], (4,), "string", "")
+        same(chain.read_from(io.BytesIO(chain.encode(array)), np.s_[1:3]), array[1:3])
+        assert len(rounds) == due
+        rounds.clear()
 
 
 def test_texts_in_rounds_answer_as_reads_do(rng):

@@ -525,10 +525,11 @@ class Chain:
         It asks for no byte but those of `planned_ranges`, part by part, so that fewer bytes than the answer
         has are held beside it, and at most some 3 MiB. Where the plan is None it goes in rounds, of which
         each fetches what the one before it lacked: over texts of `zarrs.vlen` first how long the offsets
-        are, then the offsets, then the texts that are selected; over `sharding_indexed` the index, then one
-        inner chunk after the other, and behind eight rounds the rest at once; over other codecs the whole
-        value. Of a slice with a step it leaves out what is between two places where that's 16 KiB or more.
-        Raises `EOFError` where the file is cut meanwhile.
+        are, then the offsets, then the texts that are selected; over `sharding_indexed` the index, then all
+        inner chunks at once, or those that hold shards or texts of `zarrs.vlen` one after the other, and
+        behind eight rounds the rest at once; over other codecs the whole value. Of a slice with a step it
+        leaves out what is between two places where that's 16 KiB or more. Raises `EOFError` where the file
+        is cut meanwhile.
 
         >>> import io
         >>> Chain(["bytes"], (4,), "uint8").read_from(io.BytesIO(b"abcd"), slice(1, 3))
