@@ -15,6 +15,7 @@ use Rattle.zarrs_array_regions.specs.Windows.{last_window, window_of, window_pla
 use Rattle.zarrs_array_to_array.specs.ArrayToArrayCodec.{IsMapping}
 use Rattle.zarrs_bytes.proofs.Coding.{bind_ok, demand_ok, ok}
 use Rattle.zarrs_chain_meaning.proofs.ArraySteps.{ok_is, ok_no_err}
+use Rattle.zarrs_chain_meaning.specs.Chain.{taken_form}
 use Rattle.zarrs_chain_meaning.specs.ChunkForm.{ChunkForm}
 use Rattle.zarrs_chunk.specs.ChunkShape.{product}
 use Rattle.zarrs_chunk.specs.Region.{Region}
@@ -31,14 +32,12 @@ use Rattle.zarrs_codec.proofs.Fences.{first_true, second_true}
 use Rattle.zarrs_codec.specs.ByteRanges.{bytes_in_ranges, range_indices, ranges_are_sure, read_ranges}
 use Rattle.zarrs_codec.specs.ByteSpan.{ByteSpan}
 use Rattle.zarrs_codec.specs.BytesToBytesCodec.{BytesCodecs}
-use Rattle.std.specs.Borrow.{GName}
-use Rattle.zarrs_codec.specs.Lent.{Lent, whole_reference}
 use Rattle.zarrs_codec.specs.StorageState.{StorageState, are_sure, value_indices}
 use Rattle.zarrs_codec.specs.declared.bytes_representation.BytesRepresentation.{BytesRepresentation}
 use Rattle.zarrs_codec_chain.proofs.GroupedReads.{first_sure, span_sure as inner_sure}
-use Rattle.zarrs_codec_chain.proofs.LeafReads.{rests_wholly}
-use Rattle.zarrs_codec_chain.proofs.PartialReads.{IsReadable}
-use Rattle.zarrs_codec_chain.proofs.SpanChains.{chain_rests_moved, selected_go, window_sure}
+use Rattle.zarrs_codec_chain.proofs.LawfulPart.{part_laws}
+use Rattle.zarrs_codec_chain.proofs.PartialReads.{IsReadable, is_readable}
+use Rattle.zarrs_codec_chain.proofs.SpanChains.{StoredChunk, chain_rests_moved, readable, selected_go, window_sure}
 use Rattle.zarrs_codec_chain.proofs.SpanSeen.{stands_value}
 use Rattle.zarrs_codec_chain.specs.ChunkRead.{are_given_sure, asks_in_part, encoded_places}
 use Rattle.zarrs_codec_chain.specs.CodecPart.{codec_rests_on}
@@ -48,7 +47,7 @@ use Rattle.zarrs_codec_chain.specs.ShardRead.{groups_rest, span_rests}
 use Rattle.zarrs_codec_chain.specs.SpanReads.{StandsIn, chain_rests, held_state, inner_span, moved_rests, outer_rests, seen_state, span_held, span_parts, stored_groups_rest}
 use Rattle.zarrs_codec_chain.specs.declared.sharding.value_span.ValueSpan.{ValueSpan}
 use Rattle.zarrs_data_type.specs.ElementType.{ElementType}
-use Rattle.zarrs_lent_handles.proofs.SpanLemmas.{first_name, span_sure as moved_are_sure, spanned_long}
+use Rattle.zarrs_lent_handles.proofs.SpanLemmas.{span_sure as moved_are_sure, spanned_long}
 use Rattle.zarrs_lent_handles.specs.AheadHandle.{ReadsAhead}
 use Rattle.zarrs_lent_handles.specs.SpanHandle.{is_span_of, moved_ranges, span_state}
 use Rattle.zarrs_chunk.specs.Runs.{EndWithin, joined_runs}
@@ -57,23 +56,35 @@ use Rattle.zarrs_shard_runs.specs.declared.grouped_runs.InnerRuns.{InnerRuns}
 
 -- ---- an inner chunk that is read whole
 
+-- the state of a handle that keeps this value, of which these bytes are sure
+abbrev kept_state : List ℕ → (ℕ → Bool) → StorageState
+kept_state value test = record { value = Some value; sure = Some test; faults = 0; failure = None; writes = 0; accepted_writes = 0 }
+
+-- such a chunk, of which this value is stored
+abbrev stored_as : {B : Type 0} (f : BytesCodecs B) (form : ChunkForm B) (encoded : List ℕ) (r : BytesRepresentation) → All IsMapping form.chain.array_to_array → All (λ size. 0 < size) form.sizes → taken_form f form.chain form.sizes form.type form.fill ≡ Ok (encoded, r)
+    → (value : List ℕ) (test : ℕ → Bool) → StoredChunk f form encoded r (kept_state value test)
+stored_as f form encoded r mappings positive taken value test = record { mappings = mappings; positive = positive; taken = taken; value = value; value_is = refl }
+
 -- a chain that isn't read in part rests on all bytes
-chain_wholly : {B : Type 0} (f : BytesCodecs B) (chain : PlainChain B) (sizes : List ℕ) (type : ElementType) (fill encoded : List ℕ) (r : BytesRepresentation) → IsReadable f chain sizes type fill encoded r → asks_in_part chain.bytes_to_bytes chain.array_to_bytes ≡ false
-    → (value places : List ℕ) → chain_rests f chain sizes type fill (Some value) places ≡ Ok (value_indices (Some value))
-chain_wholly {B} f chain sizes type fill encoded r h whole value places = chain_rests_moved f chain sizes type fill encoded r h (Some value) value refl places ∙ by chain.bytes_to_bytes whole
+chain_wholly : {B : Type 0} (f : BytesCodecs B) (form : ChunkForm B) (encoded : List ℕ) (r : BytesRepresentation) → All IsMapping form.chain.array_to_array → All (λ size. 0 < size) form.sizes → taken_form f form.chain form.sizes form.type form.fill ≡ Ok (encoded, r)
+    → asks_in_part form.chain.bytes_to_bytes form.chain.array_to_bytes ≡ false → (value : List ℕ) (test : ℕ → Bool) (places : List ℕ) → chain_rests f form.chain form.sizes form.type form.fill (Some value) places ≡ Ok (value_indices (Some value))
+chain_wholly {B} f form encoded r mappings positive taken whole value test places = chain_rests_moved it places ∙ by form.chain.bytes_to_bytes whole
   where
-    by : (codecs : List B) → asks_in_part codecs chain.array_to_bytes ≡ false → outer_rests codecs (codec_rests_on f chain.array_to_bytes) encoded type fill (Some value) (map h.map_is.to places) ≡ Ok (value_indices (Some value))
-    by [] e = rests_wholly f chain.array_to_bytes encoded type fill (Some value) (map h.map_is.to places) e
+    it : StoredChunk f form encoded r (kept_state value test)
+    it = stored_as f form encoded r mappings positive taken value test
+
+    by : (codecs : List B) → asks_in_part codecs form.chain.array_to_bytes ≡ false → outer_rests codecs (codec_rests_on f form.chain.array_to_bytes) encoded form.type form.fill (Some value) (map (readable it).map_is.to places) ≡ Ok (value_indices (Some value))
+    by [] e = (part_laws form.chain.array_to_bytes).rests_wholly f encoded form.type form.fill (Some value) (map (readable it).map_is.to places) e
     by (codec ∷ codecs) e = refl
 
 pub is_whole : (test : Bool) → true ≡ not test → test ≡ false
 is_whole true e = absurd cc
 is_whole false e = refl
 
-pub rested_wholly : {B : Type 0} (f : BytesCodecs B) (chain : PlainChain B) (sizes : List ℕ) (type : ElementType) (fill encoded : List ℕ) (r : BytesRepresentation) → IsReadable f chain sizes type fill encoded r → asks_in_part chain.bytes_to_bytes chain.array_to_bytes ≡ false
-    → (len : ℕ) (places : List ℕ) (ranges : List ByteSpan) → ranges ≡ record { start = 0; end = len } ∷ [] → AreRestedOn (chain_rests f chain) sizes type fill len places ranges
-rested_wholly f chain sizes type fill encoded r h whole len places ranges are = λ value test long given.
-    let all : list_all test (range_with_len 0 (length value)) ≡ true = ap (are_given_sure (Some test)) (sym (chain_wholly f chain sizes type fill encoded r h whole value places)) ∙ given in
+pub rested_wholly : {B : Type 0} (f : BytesCodecs B) (form : ChunkForm B) (encoded : List ℕ) (r : BytesRepresentation) → All IsMapping form.chain.array_to_array → All (λ size. 0 < size) form.sizes → taken_form f form.chain form.sizes form.type form.fill ≡ Ok (encoded, r)
+    → asks_in_part form.chain.bytes_to_bytes form.chain.array_to_bytes ≡ false → (len : ℕ) (places : List ℕ) (ranges : List ByteSpan) → ranges ≡ record { start = 0; end = len } ∷ [] → AreRestedOn (chain_rests f form.chain) form.sizes form.type form.fill len places ranges
+rested_wholly f form encoded r mappings positive taken whole len places ranges are = λ value test long given.
+    let all : list_all test (range_with_len 0 (length value)) ≡ true = ap (are_given_sure (Some test)) (sym (chain_wholly f form encoded r mappings positive taken whole value test places)) ∙ given in
     let count : len - 0 ≡ length value = omega (arith, long) in
     ap (all_pass test) are ∙ ap (list_all test) (append-nil (range_with_len 0 (len - 0))) ∙ ap (λ (n : ℕ). list_all test (range_with_len 0 n)) count ∙ all
 
@@ -128,12 +139,19 @@ adds_none rests shape type fill at len span places ranges = record { inside = λ
 pub end_below : (r : Result (Vec (ℕ × ℕ) Global) CodecError) (n m : ℕ) → n ≡ m → IfOk r (λ moved. EndWithin m moved.items) → IfOk r (λ moved. EndWithin n moved.items)
 end_below r n m e h = subst (λ (k : ℕ). IfOk r (λ moved. EndWithin k moved.items)) (sym e) h
 
-module _ {B : Type 0} (f : BytesCodecs B) (form : ChunkForm B) (encoded : List ℕ) (r : BytesRepresentation) (h : IsReadable f form.chain form.sizes form.type form.fill encoded r) (places : List ℕ) (selection : Selection) (selects : places_of selection form.sizes ≡ Ok places) where
+module _ {B : Type 0} (f : BytesCodecs B) (form : ChunkForm B) (encoded : List ℕ) (r : BytesRepresentation) (mappings : All IsMapping form.chain.array_to_array) (positive : All (λ size. 0 < size) form.sizes) (taken : taken_form f form.chain form.sizes form.type form.fill ≡ Ok (encoded, r))
+    (places : List ℕ) (selection : Selection) (selects : places_of selection form.sizes ≡ Ok places) where
+  abbrev h : IsReadable f form.chain form.sizes form.type form.fill encoded r
+  h = is_readable f form.chain form.sizes form.type form.fill encoded r mappings positive taken
+
+  abbrev chunk : (value : List ℕ) (test : ℕ → Bool) → StoredChunk f form encoded r (kept_state value test)
+  chunk = stored_as f form encoded r mappings positive taken
+
   abbrev Moves : List ℕ → Type 0
   Moves moved = RestMoved f form.chain form.sizes encoded form.type form.fill places moved
 
   to_moved : Moves (map h.map_is.to places)
-  to_moved = λ value test given. ap (are_given_sure (Some test)) (sym (chain_rests_moved f form.chain form.sizes form.type form.fill encoded r h (Some value) value refl places)) ∙ given
+  to_moved = λ value test given. ap (are_given_sure (Some test)) (sym (chain_rests_moved (chunk value test) places)) ∙ given
 
   go : encoded_places form.type form.chain.array_to_array form.sizes selection ≡ Ok (map h.map_is.to places)
   go = selected_go form.type form.chain.array_to_array form.sizes places selection h.map_is selects h.mapped
@@ -147,14 +165,14 @@ module _ {B : Type 0} (f : BytesCodecs B) (form : ChunkForm B) (encoded : List �
   encoded_refused result answer = refused_of (λ v. joined_runs v.items) result (map h.map_is.to places) (subst (Answers memory (λ v. joined_runs v.items) result) go answer)
 
   -- as a region
-  module _ (are : All IsMapping form.chain.array_to_array) (positive : All (λ size. 0 < size) form.sizes) (counted : product form.sizes < 2 ^ 64) (region : Region) (kept : IsKept form.chain.array_to_array form.sizes selection region) where
+  module _ (counted : product form.sizes < 2 ^ 64) (region : Region) (kept : IsKept form.chain.array_to_array form.sizes selection region) where
     same : map h.map_is.to (region_places form.sizes region) ≡ map h.map_is.to places
-    same = ok_is (map h.map_is.to (region_places form.sizes region)) (map h.map_is.to places) (sym (region_goes f form encoded r h are positive counted region kept.inside kept.kept) ∙ ap (encoded_places form.type form.chain.array_to_array form.sizes) (sym kept.selection_is) ∙ go)
+    same = ok_is (map h.map_is.to (region_places form.sizes region)) (map h.map_is.to places) (sym (region_goes f form encoded r h mappings positive counted region kept.inside kept.kept) ∙ ap (encoded_places form.type form.chain.array_to_array form.sizes) (sym kept.selection_is) ∙ go)
 
     to_window : (moved : List ℕ) → ok (window_places (last_window form.chain.array_to_array (window_of form.sizes region))) ≡ ok moved → Moves moved
     to_window moved at = λ value test given.
-        window_sure f form encoded r h are positive counted region kept.inside kept.kept (Some value) value refl moved (Some test) at
-        (ap (are_given_sure (Some test)) (chain_rests_moved f form.chain form.sizes form.type form.fill encoded r h (Some value) value refl (region_places form.sizes region))
+        window_sure (chunk value test) counted region kept.inside kept.kept moved at
+        (ap (are_given_sure (Some test)) (chain_rests_moved (chunk value test) (region_places form.sizes region))
         ∙ ap (λ (ps : List ℕ). are_given_sure (Some test) (moved_rests f form.chain encoded form.type form.fill (Some value) ps)) same
         ∙ to_moved value test given)
 
@@ -265,17 +283,3 @@ module _ (rests : Resting) (shape : List ℕ) (type : ElementType) (fill : List 
       (ap (λ (held : Option (List ℕ)). are_given_sure (span_state span.at span.len (held_state held state)).sure (groups_rest rests shape type fill (stands_value span state stands).value spans (map group groups))) (sym free)
       ∙ ap (λ (v : Option (List ℕ)). are_given_sure (seen_state span state).sure (stored_groups_rest rests shape type fill v spans (map group groups))) (sym (stands_value span state stands).is)
       ∙ h)
-
--- ---- over a handle that is lent
-
--- the same reference, and the same ones behind it
-pub record IsSameWhole {H : Type 0} (lent : H → List Lent) (name other : GName) (before after : H) : Type 0 where
-  pub name_is : other ≡ name
-  pub lent_is : lent after ≡ lent before
-
-pub same_whole : {H : Type 0} (lent : H → List Lent) (name other : GName) (before after : H) → whole_reference other ∷ lent after ≡ whole_reference name ∷ lent before → IsSameWhole lent name other before after
-unfolding first_name
-same_whole lent name other before after e = record {
-  name_is = ap (λ (ls : List Lent). first_name ls name) e;
-  lent_is = ap (λ (ls : List Lent). drop 1 ls) e;
-}

@@ -88,7 +88,7 @@ held_sure f codec inside bytes state encoded type fill r places e measured =
     ∙ all_true known.0
 
 -- where selected places go
-selected_go : (type : ElementType) (arrays : List ArrayMapping) (sizes places : List ℕ) (selection : Selection) (m : CoordinateMap) → places_of selection sizes ≡ Ok places → arrays_map type arrays sizes ≡ Ok m → encoded_places type arrays sizes selection ≡ Ok (map m.to places)
+pub selected_go : (type : ElementType) (arrays : List ArrayMapping) (sizes places : List ℕ) (selection : Selection) (m : CoordinateMap) → places_of selection sizes ≡ Ok places → arrays_map type arrays sizes ≡ Ok m → encoded_places type arrays sizes selection ≡ Ok (map m.to places)
 selected_go type arrays sizes places selection m a b = rw (a, b) refl
 
 -- ---- through array-to-array codecs
@@ -122,7 +122,7 @@ module _ {B : Type 0} {f : BytesCodecs B} {form : ChunkForm B} {encoded : List �
       ∙ sym (opened f form.chain encoded form.type form.fill r state.value it.value it.value_is (map readable.map_is.to places))
 
   -- and rests on what stands there
-  chain_rests_moved : (places : List ℕ) → chain_rests f form.chain form.sizes form.type form.fill state.value places ≡ moved_rests f form.chain encoded form.type form.fill state.value (map readable.map_is.to places)
+  pub chain_rests_moved : (places : List ℕ) → chain_rests f form.chain form.sizes form.type form.fill state.value places ≡ moved_rests f form.chain encoded form.type form.fill state.value (map readable.map_is.to places)
   chain_rests_moved places = by form.chain.bytes_to_bytes
     where
       by : (codecs : List B) → rests_through form.chain.array_to_array (codec_rests_on f form.chain.array_to_bytes) codecs form.sizes form.type form.fill state.value places ≡ outer_rests codecs (codec_rests_on f form.chain.array_to_bytes) encoded form.type form.fill state.value (map readable.map_is.to places)

@@ -12,7 +12,7 @@ use Rattle.zarrs_chunk.specs.declared.codec_error.CodecError.TheVariants.{Invali
 use Rattle.zarrs_codec.specs.ByteRanges.{range_indices, bytes_in_ranges, read_value, read_ranges}
 use Rattle.zarrs_codec.specs.ByteSpan.{ByteSpan}
 use Rattle.zarrs_codec.specs.StorageState.{StorageState, after_reading, are_sure, value_indices}
-use Rattle.zarrs_codec.specs.Lent.{Lent}
+use Rattle.zarrs_codec.specs.Lent.{Lent, whole_reference}
 use Rattle.std.specs.Borrow.{GName}
 use Rattle.zarrs_codec.proofs.Fences.{second_true, first_true}
 use Rattle.zarrs_lent_handles.specs.SpanHandle.{spanned, is_span_of, moved_range, moved_ranges, span_state, span_reference, without_failures}
@@ -153,7 +153,7 @@ span_of_span outer size at len state l = λ i. record state { value = values_twi
 
 -- ---- what is left of the handle behind a span
 
-pub first_name : List Lent → GName → GName
+first_name : List Lent → GName → GName
 first_name [] name = name
 first_name (one ∷ rest) name = one.name
 
@@ -176,6 +176,18 @@ unfolding first_name first_behind
 same_behind state lent name other before after e = record {
   name_is = ap (λ (ls : List Lent). first_name ls name) e;
   state_is = ap (λ (ls : List Lent). first_behind ls (state before)) e;
+  lent_is = ap (λ (ls : List Lent). drop 1 ls) e;
+}
+
+-- The same reference, and the same ones behind it.
+pub record IsSameWhole {H : Type 0} (lent : H → List Lent) (name other : GName) (before after : H) : Type 0 where
+  pub name_is : other ≡ name
+  pub lent_is : lent after ≡ lent before
+
+pub same_whole : {H : Type 0} (lent : H → List Lent) (name other : GName) (before after : H) → whole_reference other ∷ lent after ≡ whole_reference name ∷ lent before → IsSameWhole lent name other before after
+unfolding first_name
+same_whole lent name other before after e = record {
+  name_is = ap (λ (ls : List Lent). first_name ls name) e;
   lent_is = ap (λ (ls : List Lent). drop 1 ls) e;
 }
 

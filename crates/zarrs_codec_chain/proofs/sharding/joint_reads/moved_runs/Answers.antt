@@ -46,10 +46,9 @@ returns-in-Some-clause-rested g c =
     let r = c.args.measured.now in
     let are = c.chain_is_sound.ensures.mappings.mappings in
     let positive = subst (All (λ size. 0 < size)) c.as_slice.ensures.value c.as_slice.ensures.positive in
-    let h = is_readable f form.chain form.sizes form.type form.fill encoded r are positive c.requires.takes in
     let region = c.in-Some.region.now in
     let kept = subst (λ (cs : List ArrayMapping). IsKept cs form.sizes (selection_of c.in_ok-indexer.indexer) region) c.array_to_array_codecs-codecs.ensures.value c.in-Some.ensures.region_kept in
-    region_moved f form encoded r h (joined_runs c.args.runs.now) (selection_of c.in_ok-indexer.indexer) (sym (ok_is _ _ c.in_ok-indexer.ensures.selects)) are positive c.requires.counted region kept c.region_runs.result
+    region_moved f form encoded r are positive c.requires.takes (joined_runs c.args.runs.now) (selection_of c.in_ok-indexer.indexer) (sym (ok_is _ _ c.in_ok-indexer.ensures.selects)) c.requires.counted region kept c.region_runs.result
     (subst (λ (cs : List ArrayMapping). Answers memory (λ (v : Vec (ℕ × ℕ) Global). joined_runs v.items) c.region_runs.result (ok (window_places (last_window cs (window_of form.sizes region))))) c.array_to_array_codecs-codecs.ensures.value c.region_runs.ensures.places.is)
 
 pub returns-clause-below : goal.returns-clause-below
@@ -68,7 +67,7 @@ returns-clause-rested g c =
     let positive = subst (All (λ size. 0 < size)) c.as_slice.ensures.value c.as_slice.ensures.positive in
     let h = is_readable f form.chain form.sizes form.type form.fill c.args.encoded.now c.args.measured.now are positive c.requires.takes in
     let selection = selection_of c.in_ok-indexer.indexer in
-    encoded_moved f form c.args.encoded.now c.args.measured.now h (joined_runs c.args.runs.now) selection (sym (ok_is _ _ c.in_ok-indexer.ensures.selects)) c.encoded_runs.result
+    encoded_moved f form c.args.encoded.now c.args.measured.now are positive c.requires.takes (joined_runs c.args.runs.now) selection (sym (ok_is _ _ c.in_ok-indexer.ensures.selects)) c.encoded_runs.result
     (runs_answer (λ (runs : Vec (ℕ × ℕ) Global). joined_runs runs.items) c.encoded_runs.result form.type form.chain.array_to_array (map mapping_of c.array_to_array_codecs-codecs.result.now) form.sizes selection h.map_is c.array_to_array_codecs-codecs.ensures.value h.mapped c.encoded_runs.ensures.answer.is)
 
 pub returns-clause-refused : goal.returns-clause-refused
@@ -79,5 +78,5 @@ returns-clause-refused g c =
     let positive = subst (All (λ size. 0 < size)) c.as_slice.ensures.value c.as_slice.ensures.positive in
     let h = is_readable f form.chain form.sizes form.type form.fill c.args.encoded.now c.args.measured.now are positive c.requires.takes in
     let selection = selection_of c.in_ok-indexer.indexer in
-    encoded_refused f form c.args.encoded.now c.args.measured.now h (joined_runs c.args.runs.now) selection (sym (ok_is _ _ c.in_ok-indexer.ensures.selects)) c.encoded_runs.result
+    encoded_refused f form c.args.encoded.now c.args.measured.now are positive c.requires.takes (joined_runs c.args.runs.now) selection (sym (ok_is _ _ c.in_ok-indexer.ensures.selects)) c.encoded_runs.result
     (runs_answer (λ (runs : Vec (ℕ × ℕ) Global). joined_runs runs.items) c.encoded_runs.result form.type form.chain.array_to_array (map mapping_of c.array_to_array_codecs-codecs.result.now) form.sizes selection h.map_is c.array_to_array_codecs-codecs.ensures.value h.mapped c.encoded_runs.ensures.answer.is)

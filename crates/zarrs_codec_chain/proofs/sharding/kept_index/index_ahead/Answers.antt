@@ -1,6 +1,6 @@
 use Rattle.std.proofs.Common.{ap, sym, ◌∙◌}
 use Rattle.zarrs_codec.specs.StorageState.{after_reading}
-use Rattle.zarrs_codec_chain.proofs.JointReads.{same_whole}
+use Rattle.zarrs_lent_handles.proofs.SpanLemmas.{same_whole}
 use Rattle.zarrs_codec_chain.proofs.sharding.kept_index.index_ahead.Goals as goal
 
 pub returns-clause-left : goal.returns-clause-left

@@ -3,7 +3,7 @@ use Rattle.zarrs_chain.specs.ChainView.{plain_sharding}
 use Rattle.zarrs_chain_meaning.proofs.ArraySteps.{ok_is}
 use Rattle.zarrs_chain_meaning.specs.sharding.InnerChunks.{inner_chunk_count}
 use Rattle.zarrs_codec.specs.StorageState.{value_size}
-use Rattle.zarrs_codec_chain.proofs.ShardParts.{grid_known, index_measured, is_ok_so}
+use Rattle.zarrs_codec_chain.proofs.ShardParts.{grid_known, index_measured, is_ok_so, stored_shard}
 use Rattle.zarrs_codec_chain.proofs.ShardSpans.{shard_takes}
 use Rattle.zarrs_codec_chain.proofs.StoredIndex.{two_each, whole_stands}
 use Rattle.zarrs_codec_chain.specs.SpanReads.{StandsIn}
@@ -20,12 +20,13 @@ index_numbers-requires g c =
     let P = c.sharding_parts-at_end.result in
     let codec = plain_sharding c.args.codec.now in
     let state = g.H.BytesPartialDecoderTraits.state c.args.handle.now in
-    let takes = shard_takes f codec P.codecs.now P.index_codecs.now P.chunk_shape.now P.is_index_at_end c.args.shape.now c.args.kind.now c.args.fill.now c.sharding_parts-at_end.ensures.parts (is_ok_so _ c.requires.taken) in
     let sized : value_size state.value ≡ Some c.in-Some.len = ok_is _ _ c.in_ok-size.ensures.answer ∙ c.in-Some.is in
+    let stands = whole_stands c.stored-span.result c.in-Some.len state c.stored-span.ensures.parts sized in
+    let shard = stored_shard f codec P.codecs.now P.index_codecs.now P.chunk_shape.now P.is_index_at_end c.args.shape.now c.args.kind.now c.args.fill.now c.stored-span.result state c.sharding_parts-at_end.ensures.parts c.requires.taken stands in
     record {
-      grid = grid_known f P.codecs.now P.index_codecs.now P.chunk_shape.now c.args.shape.now c.args.kind.now c.args.fill.now takes;
-      measured = index_measured f P.codecs.now P.index_codecs.now P.chunk_shape.now c.args.shape.now c.args.kind.now c.args.fill.now takes;
-      stands = subst (λ s. StandsIn c.stored-span.result s) (sym c.in_ok-size.ensures.left) (whole_stands c.stored-span.result c.in-Some.len state c.stored-span.ensures.parts sized);
+      grid = grid_known shard;
+      measured = index_measured shard;
+      stands = subst (λ s. StandsIn c.stored-span.result s) (sym c.in_ok-size.ensures.left) stands;
     }
 
 pub invariant_of-result : goal.invariant_of-result
