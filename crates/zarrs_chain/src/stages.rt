@@ -11,7 +11,7 @@ ghost use Rattle.zarrs_chain.specs.ChainView.{plain_chain};
 pub use crate::array_to_bytes_codec::codec_decode;
 use crate::codec_chain::CodecChain;
 pub use crate::codec_chain::chain_is_sound;
-use crate::form::Form;
+pub use crate::form::Form;
 use crate::representation::taken_form as taken_by;
 pub use crate::sharding::shard_decode::has_span;
 pub use crate::sharding::shard_form::shard_form;
