@@ -6,11 +6,14 @@ pub mod CountedRuns
 pub mod Ends
 pub mod Fitting
 pub mod Inside
+pub mod LentTuples
+pub mod NoAxes
 pub mod NumberLaws
 pub mod NumberedTuples
 pub mod Numbers
 pub mod PlaceLaws
 pub mod Products
 pub mod Rising
+pub mod RowLaws
 pub mod TupleLists
 pub mod WholeAxes

@@ -98,14 +98,6 @@ product_drop-le (size ∷ sizes) (suc axis) h =
     let one : 1 ≤ size = h 0 0 (omega arith) in
     omega (arith, r, mul-le-mul_right (product sizes) one)
 
--- what the row of one front stands for is no more than all elements
-pub whole_len_fits : (sizes starts lengths : List ℕ) (last axes : ℕ) → axes ≡ last + 1 → last < length sizes → is_box_inside sizes starts lengths ≡ true → All (λ size. 0 < size) sizes → get_or lengths last 0 * product (drop axes sizes) ≤ product sizes
-whole_len_fits sizes starts lengths last axes e h inside positive =
-    let rest = product (drop (last + 1) sizes) in
-    let within = is_box_inside-at sizes starts lengths last inside h in
-    let m : get_or lengths last 0 ≤ get_or sizes last 0 = omega (arith, within) in
-    rw e (omega (arith, mul-le-mul_right rest m, product_drop sizes last h, product_drop-le sizes last positive))
-
 -- a box that covers all axes whole is one run
 pub all_whole : (sizes starts lengths : List ℕ) (axes : ℕ) → axes ≡ 0 → length starts ≡ length sizes → length lengths ≡ length sizes → AreWhole axes (length sizes) sizes starts lengths → joined_runs ((0, product sizes) ∷ []) ≡ box_places sizes starts lengths
 all_whole sizes starts lengths axes e f g w =

@@ -19,10 +19,6 @@ pub data Selection : Type 0 where
 abbrev pub tuples_seen : List (Vec ℕ Global) → List (List ℕ)
 tuples_seen tuples = map (λ tuple. tuple.items) tuples
 
--- the selection of these tuples, in list order
-abbrev pub indices_of : List (Vec ℕ Global) → Selection
-indices_of tuples = indices (tuples_seen tuples)
-
 -- the selected tuples, in order: those of a box row-major, those of a list in list order
 abbrev pub tuples_of : Selection → List (List ℕ)
 tuples_of (subset region) = box_tuples region.starts region.lengths

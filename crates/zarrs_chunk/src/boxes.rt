@@ -2,9 +2,11 @@
 ghost use Rattle.std.specs.Prelude.{◌≡◌, ◌<◌, ◌≤◌, ◌^◌, length, true, IfOk, OnOk, SomeIff, All};
 ghost use Rattle.zarrs_chunk.specs.ChunkShape.{product};
 ghost use Rattle.zarrs_chunk.specs.Levels.{box_places as box_cells, rows_behind, RowsFit, AreFronts, FrontsFit, AreWhole, LastIsPartial};
+ghost use Rattle.zarrs_chunk.specs.Rows.{AreBoxRuns};
 ghost use Rattle.zarrs_chunk.specs.Runs.{places_in, AreFilled, EndWithin, AreApart};
 ghost use Rattle.zarrs_chunk.specs.Tuples.{is_box_inside as box_inside};
 
+use crate::rows::{Row, row_runs};
 use std::alloc::{AllocError, Global};
 use std::mem;
 
@@ -173,6 +175,48 @@ fn known_product(sizes: &[u64]) -> u64
     }
 }
 
+/// The runs of a box that covers all axes whole but for so many, of which it doesn't cover the last. The
+/// fronts over the axes before the last two alone are held.
+fn partial_runs(
+    alloc: Global,
+    sizes: &[u64],
+    starts: &[u64],
+    lengths: &[u64],
+    axes: usize,
+) -> Result<Vec<(u64, u64)>, AllocError>
+    requires some { 0 < axes }
+    requires axes { axes ≤ length sizes.now }
+    requires starts { length starts.now ≡ length sizes.now }
+    requires lengths { length lengths.now ≡ length sizes.now }
+    requires inside { box_inside sizes.now starts.now lengths.now ≡ true }
+    requires positive { All (λ size. 0 < size) sizes.now }
+    requires filled { All (λ len. 0 < len) lengths.now }
+    requires fits { product sizes.now < 2 ^ 64 }
+    requires whole { AreWhole axes (length sizes.now) sizes.now starts.now lengths.now }
+    requires partial { LastIsPartial axes sizes.now lengths.now }
+    ensures runs { IfOk result (λ v. AreBoxRuns sizes.now starts.now lengths.now v.items) }
+{
+    let last = axes - 1;
+    let whole = known_product(&sizes[axes..]);
+    let row = Row {
+        step: sizes[last] * whole,
+        start: starts[last] * whole,
+        len: lengths[last] * whole,
+    };
+    if last == 0 {
+        return row_runs(alloc, &[0], 1, 0, 1, row);
+    }
+    let before = last - 1;
+    let size = sizes[before];
+    let start = starts[before];
+    let len = lengths[before];
+    if before == 0 {
+        return row_runs(alloc, &[0], size, start, len, row);
+    }
+    let fronts = box_fronts(alloc, sizes, starts, lengths, before)?;
+    row_runs(alloc, fronts.as_slice(), size, start, len, row)
+}
+
 /// The runs of a box inside the sizes. Axes at the end that the box covers whole join, so there is
 /// one run for each row of the last axis before them, or one alone where it covers all axes.
 pub fn box_runs(
@@ -200,15 +244,5 @@ pub fn box_runs(
         runs.push((0, known_product(sizes)))?;
         return Ok(runs);
     }
-    let last = axes - 1;
-    let fronts = box_fronts(alloc, sizes, starts, lengths, last)?;
-    let size = sizes[last];
-    let start = starts[last];
-    let whole = known_product(&sizes[axes..]);
-    let len = lengths[last] * whole;
-    let mut runs = Vec::with_capacity(alloc, fronts.len())?;
-    for front in &fronts {
-        runs.push(((*front * size + start) * whole, len))?;
-    }
-    Ok(runs)
+    partial_runs(alloc, sizes, starts, lengths, axes)
 }

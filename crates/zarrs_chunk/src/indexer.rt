@@ -11,18 +11,23 @@ use crate::boxes::{box_places, box_runs, is_box_inside};
 use crate::chunk_shape::ChunkShape;
 use crate::codec_error::CodecError;
 use crate::index_lists::{check_indices, indices_places, indices_runs};
+use crate::index_tuples::IndexTuples;
 use crate::indices::ArrayIndices;
+use crate::tuple_list::TupleList;
 use std::alloc::Global;
 
 /// Which elements of a chunk are selected, in which order.
 #[derive(Debug, PartialEq, Eq, Drop)]
-pub enum Indexer {
+pub enum Indexer<'a> {
     /// The tuples of a box, in row-major order.
     Subset(ArraySubset),
     /// These tuples, in list order. A tuple may come more than once.
     Indices(Vec<ArrayIndices>),
+    /// The same of tuples that are lent as one list of numbers.
+    Tuples(IndexTuples<'a>),
 }
 
+#[inline(always)]
 fn check_subset(sizes: &[u64], subset: &ArraySubset) -> Result<(), CodecError>
     ensures answer { result ≡ bounds_of (subset_of subset.now) sizes.now }
 {
@@ -53,7 +58,10 @@ fn subset_places(
     Ok(places)
 }
 
-fn subset_runs(
+/// The places of a box of a chunk of this shape, as [`Indexer::runs`] returns those of an indexer.
+/// Errors: as it.
+#[inline(always)]
+pub fn subset_runs(
     alloc: Global,
     shape: &ChunkShape,
     subset: &ArraySubset,
@@ -71,7 +79,7 @@ fn subset_runs(
     Ok(runs)
 }
 
-impl Indexer {
+impl<'a> Indexer<'a> {
     /// Whether every tuple has one number an axis of the shape and lies inside it. A range may be
     /// empty, and has to lie inside too; an empty list fits every shape.
     /// Errors, the first that holds: `IncompatibleDimensionality`, `OutOfBounds`.
@@ -80,7 +88,8 @@ impl Indexer {
     {
         match self {
             Indexer::Subset(subset) => check_subset(shape.as_slice(), subset),
-            Indexer::Indices(tuples) => check_indices(shape.as_slice(), tuples.as_slice()),
+            Indexer::Indices(tuples) => check_indices(shape.as_slice(), tuples),
+            Indexer::Tuples(tuples) => check_indices(shape.as_slice(), tuples),
         }
     }
 
@@ -90,7 +99,8 @@ impl Indexer {
     {
         match self {
             Indexer::Subset(subset) => subset.num_elements(),
-            Indexer::Indices(tuples) => Ok(tuples.len() as u64),
+            Indexer::Indices(tuples) => Ok(tuples.count() as u64),
+            Indexer::Tuples(tuples) => Ok(tuples.count() as u64),
         }
     }
 
@@ -104,12 +114,14 @@ impl Indexer {
     {
         match self {
             Indexer::Subset(subset) => subset_places(alloc, shape, subset),
-            Indexer::Indices(tuples) => indices_places(alloc, shape, tuples.as_slice()),
+            Indexer::Indices(tuples) => indices_places(alloc, shape, tuples),
+            Indexer::Tuples(tuples) => indices_places(alloc, shape, tuples),
         }
     }
 
     /// The places in order, as runs of a start and a length: consecutive numbers, none of the runs
     /// empty, and none starting where the one before it ends. Errors as `places`.
+    #[inline(always)]
     pub fn runs(&self, alloc: Global, shape: &ChunkShape) -> Result<Vec<(u64, u64)>, CodecError>
         ensures places { Gives places_in result (places_of (selection_of self.now) shape.now) }
         ensures filled { IfOk result (λ v. AreFilled v.items) }
@@ -119,17 +131,19 @@ impl Indexer {
     {
         match self {
             Indexer::Subset(subset) => subset_runs(alloc, shape, subset),
-            Indexer::Indices(tuples) => indices_runs(alloc, shape, tuples.as_slice()),
+            Indexer::Indices(tuples) => indices_runs(alloc, shape, tuples),
+            Indexer::Tuples(tuples) => indices_runs(alloc, shape, tuples),
         }
     }
 
     /// An equal indexer. Errors: `OutOfMemory`.
-    pub fn clone(&self) -> Result<Indexer, CodecError>
+    pub fn clone(&self) -> Result<Indexer<'a>, CodecError>
         ensures copy { Answers memory selection_of result (Ok (selection_of self.now)) }
     {
         match self {
             Indexer::Subset(subset) => Ok(Indexer::Subset(subset.clone()?)),
             Indexer::Indices(tuples) => Ok(Indexer::Indices(tuples.clone()?)),
+            Indexer::Tuples(tuples) => Ok(Indexer::Tuples(tuples.clone())),
         }
     }
 }

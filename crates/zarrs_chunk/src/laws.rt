@@ -1,11 +1,13 @@
 //! Laws of the definitions that the contracts of this crate cite. The functions do nothing: their
 //! contracts hold for all lists, and proofs may take them from here.
-ghost use Rattle.std.specs.Prelude.{◌≡◌, ◌<◌, ◌↔◌, ℕ, true, List, length, map, replicate, All, Contains, IfOk};
-ghost use Rattle.std.specs.List.{range_with_len};
+ghost use Rattle.std.specs.Prelude.{◌≡◌, ◌<◌, ◌*◌, ◌↔◌, ℕ, true, List, length, map, replicate, All, Contains, IfOk};
+ghost use Rattle.std.specs.List.{flat_map, range_with_len};
 ghost use Rattle.std.specs.List.Sorted.{IsStrictlyIncreasing};
 ghost use Rattle.zarrs_chunk.specs.ChunkShape.{product};
 ghost use Rattle.zarrs_chunk.specs.Indices.{tuple_of_number, box_tuple};
+ghost use Rattle.zarrs_chunk.specs.IndexTuples.{rows};
 ghost use Rattle.zarrs_chunk.specs.InsideByAxis.{IsInBox, IsInShape, IsBoxInShape};
+ghost use Rattle.zarrs_chunk.specs.Numbering.{are_of_axes};
 ghost use Rattle.zarrs_chunk.specs.Region.{Region};
 ghost use Rattle.zarrs_chunk.specs.Selection.{Selection, subset, places_of};
 ghost use Rattle.zarrs_chunk.specs.Tuples.{row_major, box_tuples, is_box_inside as box_inside, is_tuple_inside as tuple_inside};
@@ -50,4 +52,14 @@ pub fn places_are_in_order()
         → IfOk (places_of selection sizes) (All (λ place. place < product sizes)) }
     ensures rising { (region : Region) (sizes : List ℕ)
         → IfOk (places_of (subset region) sizes) IsStrictlyIncreasing }
+{}
+
+/// Numbers that stand one after another make as many tuples as are asked for, of so many numbers
+/// each, and the tuples joined in order are all the numbers.
+pub fn numbers_make_tuples()
+    ensures count { (axes count : ℕ) (numbers : List ℕ) → length (rows axes count numbers) ≡ count }
+    ensures axes { (axes count : ℕ) (numbers : List ℕ) → axes * count ≡ length numbers
+        → are_of_axes axes (rows axes count numbers) ≡ true }
+    ensures joined { (axes count : ℕ) (numbers : List ℕ) → axes * count ≡ length numbers
+        → flat_map (λ tuple. tuple) (rows axes count numbers) ≡ numbers }
 {}

@@ -1,12 +1,11 @@
-use Rattle.std.proofs.Common.{rules}
-use Rattle.std.proofs.lemmas.List.Folds.{list_all-map}
+use Rattle.std.proofs.Common.{rules, ◌≡◌, true, arith, length, sym}
+use Rattle.zarrs_chunk.specs.Numbering.{are_of_axes}
+use Rattle.zarrs_chunk.proofs.NoAxes.{none_refused}
 use Rattle.zarrs_chunk.proofs.index_lists.check_indices.Goals as goal
 
-pub returns-then-not-have_axes : goal.returns-then-not-have_axes
-returns-then-not-have_axes c = record { answer = simp list_all-map (search rules) }
-
-pub returns-then-not-are_inside : goal.returns-then-not-are_inside
-returns-then-not-are_inside c = record { answer = simp list_all-map (search rules) }
-
-pub returns : goal.returns
-returns c = record { answer = simp list_all-map (search rules) }
+pub returns-then-sizes-eq0 : goal.returns-then-sizes-eq0
+returns-then-sizes-eq0 g c =
+    let sizes = c.args.sizes.now in
+    let tuples = g.T.TupleList.tuples c.args.tuples.now in
+    let axes : are_of_axes (length sizes) tuples ≡ true = search rules in
+    record { answer = sym (none_refused sizes tuples (omega arith) axes) }
