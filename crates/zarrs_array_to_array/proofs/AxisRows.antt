@@ -1,7 +1,7 @@
 -- The places of a chunk's elements, axis by axis.
-use Rattle.std.proofs.Common.{◌≡◌, ℕ, zero, suc, ◌+◌, ◌-◌, ◌*◌, ◌<◌, ◌≤◌, List, [], ◌∷◌, ◌++◌, length, get_or, map, take, drop, arith, refl, ap, ap₂, ◌∙◌, sym, append_assoc}
+use Rattle.std.proofs.Common.{◌≡◌, ℕ, zero, suc, ◌+◌, ◌-◌, ◌*◌, ◌<◌, ◌≤◌, List, [], ◌∷◌, ◌++◌, length, get_or, map, take, drop, set, arith, refl, ap, ap₂, ◌∙◌, sym, append_assoc, subst}
 use Rattle.std.specs.List.{flat_map, range_with_len}
-use Rattle.std.proofs.lemmas.List.{map_more}
+use Rattle.std.proofs.lemmas.List.{map_more, take_more, take_more_set}
 use Rattle.std.proofs.lemmas.List.Concat.{flat_map-append}
 use Rattle.zarrs_array_to_array.specs.declared.transpose.axis.Axis.{Axis}
 use Rattle.zarrs_array_to_array.specs.Orders.{permuted}
@@ -128,6 +128,42 @@ joined_reach step (suc size) (suc n) =
     let d : suc size - 1 ≡ size = omega arith in
     let e : (n * suc size + size) * step ≡ n * (suc size * step) + size * step = grind arith in
     rw (a, b, d) (omega (arith, e))
+
+-- behind two axes as one
+pub behind-joined : (axes : List Axis) (first second both : Axis) → first.step ≡ second.size * second.step → both.size ≡ first.size * second.size → both.step ≡ second.step
+    → behind (axes ++ both ∷ []) (0 ∷ []) ≡ next_rows second.step second.size (behind (axes ++ first ∷ []) (0 ∷ []))
+behind-joined axes first second both adjoining size step =
+    let places : List ℕ = behind axes (0 ∷ []) in
+    behind-more axes both (0 ∷ [])
+    ∙ ap₂ (λ (step size : ℕ). next_rows step size places) step size
+    ∙ sym (joined_rows second.step second.size first.size places)
+    ∙ ap (λ (step : ℕ). next_rows second.step second.size (next_rows step first.size places)) (sym adjoining)
+    ∙ ap (next_rows second.step second.size) (sym (behind-more axes first (0 ∷ [])))
+
+pub reach-joined : (axes : List Axis) (first second both : Axis) → first.step ≡ second.size * second.step → both.size ≡ first.size * second.size → both.step ≡ second.step
+    → reach (axes ++ both ∷ []) ≤ reach (axes ++ first ∷ []) + (second.size - 1) * second.step
+reach-joined axes first second both adjoining size step =
+    let near : (both.size - 1) * both.step ≤ (first.size - 1) * first.step + (second.size - 1) * second.step =
+    rw (size, step, adjoining) (joined_reach second.step second.size first.size) in
+    omega (arith, near, reach-more axes both, reach-more axes first)
+
+-- the last one of the first so many axes
+pub last_taken : (axes : List Axis) (count : ℕ) (d : Axis) → 1 ≤ count → count ≤ length axes → take count axes ≡ take (count - 1) axes ++ get_or axes (count - 1) d ∷ []
+last_taken axes count d l m =
+    let last : count - 1 + 1 ≡ count = omega arith in
+    subst (λ n. take n axes ≡ take (count - 1) axes ++ get_or axes (count - 1) d ∷ []) last (take_more axes (count - 1) d (omega arith))
+
+-- the same, where another is written in its place
+pub last_written : (axes : List Axis) (count : ℕ) (axis : Axis) → 1 ≤ count → count ≤ length axes → take count (set axes (count - 1) axis) ≡ take (count - 1) axes ++ axis ∷ []
+last_written axes count axis l m =
+    let last : count - 1 + 1 ≡ count = omega arith in
+    subst (λ n. take n (set axes (count - 1) axis) ≡ take (count - 1) axes ++ axis ∷ []) last (take_more_set axes (count - 1) axis (omega arith))
+
+-- the first two, where both are written
+pub first_written : (axes : List Axis) (axis : Axis) → 2 ≤ length axes → take 2 (set (set axes 0 axis) 1 axis) ≡ axis ∷ axis ∷ []
+first_written [] axis l = absurd (omega arith)
+first_written (first ∷ []) axis l = absurd (omega arith)
+first_written (first ∷ second ∷ axes) axis l = refl
 
 -- ---- axes in an order
 

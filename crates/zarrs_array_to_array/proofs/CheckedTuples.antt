@@ -1,10 +1,8 @@
 -- What a check of tuples that passed proves.
-use Rattle.std.proofs.Common.{◌≡◌, ◌==◌, ℕ, Bool, true, false, Ok, List, length, map, refl, ◌∙◌, sym, Vec, Global}
-use Rattle.std.specs.List.{list_all}
-use Rattle.std.proofs.lemmas.List.Folds.{list_all-map}
+use Rattle.std.proofs.Common.{◌≡◌, ℕ, Bool, true, false, Ok, List, length, refl}
 use Rattle.zarrs_chunk.specs.Answer.{demand, ◌>>=◌}
+use Rattle.zarrs_chunk.specs.Numbering.{are_of_axes, are_tuples_inside}
 use Rattle.zarrs_chunk.specs.Selection.{indices, bounds_of}
-use Rattle.zarrs_chunk.specs.Tuples.{is_tuple_inside}
 use Rattle.zarrs_chunk.specs.declared.codec_error.CodecError.{CodecError}
 use Rattle.zarrs_chunk.specs.declared.codec_error.CodecError.TheVariants.{IncompatibleDimensionality, OutOfBounds}
 
@@ -14,7 +12,6 @@ passed true false e f h = absurd (cc)
 passed false b e f h = absurd (cc)
 
 -- the tuples lie inside
-pub tuples_inside : (tuples : List (Vec ℕ Global)) (sizes : List ℕ) → Ok tt ≡ bounds_of (indices (map (λ tuple. tuple.items) tuples)) sizes → list_all (λ tuple. is_tuple_inside sizes tuple.items) tuples ≡ true
+pub tuples_inside : (tuples : List (List ℕ)) (sizes : List ℕ) → Ok tt ≡ bounds_of (indices tuples) sizes → are_tuples_inside sizes tuples ≡ true
 tuples_inside tuples sizes h =
-    sym (list_all-map (is_tuple_inside sizes) (λ (tuple : Vec ℕ Global). tuple.items) tuples)
-    ∙ passed (list_all (λ tuple. length tuple == length sizes) (map (λ tuple. tuple.items) tuples)) _ IncompatibleDimensionality OutOfBounds h
+    passed (are_of_axes (length sizes) tuples) (are_tuples_inside sizes tuples) IncompatibleDimensionality OutOfBounds h

@@ -10,6 +10,7 @@ use Rattle.zarrs_chunk.specs.AnswerLaws.{demand_ok}
 use Rattle.zarrs_array_to_array.proofs.AnswerSteps.{step_ok}
 use Rattle.zarrs_chunk.specs.ChunkShape.{product}
 use Rattle.zarrs_chunk.specs.Region.{Region}
+use Rattle.zarrs_chunk.specs.Numbering.{are_tuples_inside}
 use Rattle.zarrs_chunk.specs.Selection.{Selection, subset, indices, tuples_of, bounds_of}
 use Rattle.zarrs_chunk.specs.Tuples.{row_major, box_tuples, is_box_inside, is_tuple_inside}
 use Rattle.zarrs_chunk.specs.declared.codec_error.CodecError.TheVariants.{IncompatibleDimensionality, OutOfBounds}
@@ -70,10 +71,10 @@ pub selection_inside : (selection : Selection) (sizes : List ℕ) → bounds_of 
 selection_inside (subset region) sizes h = box_inside sizes region.starts region.lengths (subset_inside region sizes h)
 selection_inside (indices tuples) sizes h = indices_inside tuples sizes h
 
-pub tuple_inside-at : (sizes : List ℕ) (tuples : List (Vec ℕ Global)) (i : ℕ) (d : Vec ℕ Global) → list_all (λ tuple. is_tuple_inside sizes tuple.items) tuples ≡ true → i < length tuples → is_tuple_inside sizes (get_or tuples i d).items ≡ true
+pub tuple_inside-at : (sizes : List ℕ) (tuples : List (List ℕ)) (i : ℕ) (d : List ℕ) → are_tuples_inside sizes tuples ≡ true → i < length tuples → is_tuple_inside sizes (get_or tuples i d) ≡ true
 tuple_inside-at sizes [] i d h l = absurd (omega arith)
-tuple_inside-at sizes (tuple ∷ tuples) zero d h l = (and_parts (is_tuple_inside sizes tuple.items) (list_all (λ t. is_tuple_inside sizes t.items) tuples) h).0
-tuple_inside-at sizes (tuple ∷ tuples) (suc i) d h l = tuple_inside-at sizes tuples i d (and_parts (is_tuple_inside sizes tuple.items) (list_all (λ t. is_tuple_inside sizes t.items) tuples) h).1 (omega arith)
+tuple_inside-at sizes (tuple ∷ tuples) zero d h l = (and_parts (is_tuple_inside sizes tuple) (are_tuples_inside sizes tuples) h).0
+tuple_inside-at sizes (tuple ∷ tuples) (suc i) d h l = tuple_inside-at sizes tuples i d (and_parts (is_tuple_inside sizes tuple) (are_tuples_inside sizes tuples) h).1 (omega arith)
 
 tuples_have_axes : (sizes : List ℕ) (tuples : List (List ℕ)) → list_all (λ tuple. is_tuple_inside sizes tuple) tuples ≡ true → list_all (λ tuple. length tuple == length sizes) tuples ≡ true
 tuples_have_axes sizes [] h = refl

@@ -1,15 +1,15 @@
 -- What encoded indexers answer.
-use Rattle.std.proofs.Common.{◌≡◌, ◌==◌, nat_lt, nat_le, ℕ, zero, suc, ◌+◌, ◌<◌, ◌≤◌, ◌^◌, ◌/◌, true, false, List, [], ◌∷◌, ◌++◌, length, get_or, map, drop, Ok, Err, Result, Vec, Global, arith, refl, ap, ap₂, ◌∙◌, sym, inl, inr}
-use Rattle.std.specs.List.{All, list_all}
+use Rattle.std.proofs.Common.{◌≡◌, ◌==◌, nat_lt, nat_le, ℕ, zero, suc, ◌+◌, ◌<◌, ◌≤◌, ◌^◌, ◌/◌, true, false, List, [], ◌∷◌, ◌++◌, length, get_or, map, drop, Ok, Err, Result, arith, refl, ap, ap₂, ◌∙◌, sym, inl, inr}
+use Rattle.std.specs.List.{All}
 use Rattle.std.proofs.lemmas.Bool.{cases_Bool, and_parts, and_from}
 use Rattle.std.proofs.lemmas.Bool.Decides.{nat_tests}
 use Rattle.std.proofs.lemmas.List.{append_assoc, drop_more}
 use Rattle.std.proofs.lemmas.List.Elements.{All-cons}
-use Rattle.std.proofs.lemmas.Simd.{map-map}
 use Rattle.zarrs_chunk.specs.Answer.{◌>>=◌, demand, checked_u64, seen}
 use Rattle.zarrs_array_to_array.proofs.AnswerSteps.{step_ok}
 use Rattle.zarrs_chunk.specs.ArraySubset.{ends_fit, subset_of_start_shape}
 use Rattle.zarrs_chunk.specs.ChunkShape.{product}
+use Rattle.zarrs_chunk.specs.Numbering.{are_of_axes, are_tuples_inside}
 use Rattle.zarrs_chunk.specs.Region.{Region}
 use Rattle.zarrs_chunk.specs.Selection.{Selection, subset, indices, tuples_of, bounds_of, len_of, places_of}
 use Rattle.zarrs_chunk.specs.Tuples.{row_major, box_tuples, is_box_inside, is_tuple_inside}
@@ -114,10 +114,6 @@ pub squeezed_image : (sizes : List ℕ) (selection : Selection) → bounds_of se
 squeezed_image sizes (subset region) h = squeezed_image_subset sizes region h
 squeezed_image sizes (indices tuples) h = squeezed_image_indices sizes tuples h
 
-pub squeezed_list : (sizes encoded : List ℕ) (tuples made : List (Vec ℕ Global)) → map (λ tuple. tuple.items) made ≡ map (λ tuple. squeezed_tuple sizes tuple.items) tuples → selection_in squeeze sizes encoded (indices (map (λ tuple. tuple.items) tuples)) ≡ indices (map (λ tuple. tuple.items) made)
-squeezed_list sizes encoded tuples made h =
-    ap (λ ts. indices ts) (map-map (squeezed_tuple sizes) (λ (tuple : Vec ℕ Global). tuple.items) tuples ∙ sym h)
-
 -- ---- counts
 
 pub box_count : (sizes : List ℕ) (region : Region) (count : ℕ) → is_box_inside sizes region.starts region.lengths ≡ true → len_of (subset region) ≡ Ok count → product region.lengths ≡ count
@@ -155,17 +151,14 @@ map_to codec sizes next is positive h = go (coordinates codec sizes) refl h
 pub transposed_image_by : (order sizes : List ℕ) (selection : Selection) → is_order order ≡ true → length order ≡ length sizes → bounds_of selection sizes ≡ Ok tt → IsImageBy (coordinates (transpose order) sizes) sizes selection (indices (map (permuted order) (tuples_of selection)))
 transposed_image_by order sizes selection o axes h = rw (eq_test (length order) (length sizes) axes) (transposed_image order sizes selection (order_parts order o) axes h)
 
-pub lists_have_axes : (order sizes : List ℕ) (tuples : List (Vec ℕ Global)) → length order ≡ length sizes → bounds_of (indices (map (λ tuple. tuple.items) tuples)) sizes ≡ Ok tt → list_all (λ tuple. length tuple.items == length order) tuples ≡ true
+pub lists_have_axes : (order sizes : List ℕ) (tuples : List (List ℕ)) → length order ≡ length sizes → bounds_of (indices tuples) sizes ≡ Ok tt → are_of_axes (length order) tuples ≡ true
 lists_have_axes order sizes tuples axes h = go tuples (tuples_inside tuples sizes (sym h))
   where
-    go : (tuples : List (Vec ℕ Global)) → list_all (λ tuple. is_tuple_inside sizes tuple.items) tuples ≡ true → list_all (λ tuple. length tuple.items == length order) tuples ≡ true
+    go : (tuples : List (List ℕ)) → are_tuples_inside sizes tuples ≡ true → are_of_axes (length order) tuples ≡ true
     go [] h = refl
     go (tuple ∷ tuples) h =
-        let parts = and_parts (is_tuple_inside sizes tuple.items) (list_all (λ t. is_tuple_inside sizes t.items) tuples) h in
-        and_from _ _ (eq_test (length tuple.items) (length order) (is_tuple_inside-length sizes tuple.items parts.0 ∙ sym axes)) (go tuples parts.1)
-
-pub ordered_list : (order : List ℕ) (tuples made : List (Vec ℕ Global)) → map (λ tuple. tuple.items) made ≡ map (λ tuple. permuted order tuple.items) tuples → indices (map (permuted order) (map (λ tuple. tuple.items) tuples)) ≡ indices (map (λ tuple. tuple.items) made)
-ordered_list order tuples made h = ap (λ ts. indices ts) (map-map (permuted order) (λ (tuple : Vec ℕ Global). tuple.items) tuples ∙ sym h)
+        let parts = and_parts (is_tuple_inside sizes tuple) (are_tuples_inside sizes tuples) h in
+        and_from _ _ (eq_test (length tuple) (length order) (is_tuple_inside-length sizes tuple parts.0 ∙ sym axes)) (go tuples parts.1)
 
 -- ---- reshaping
 

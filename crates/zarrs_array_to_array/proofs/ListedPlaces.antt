@@ -1,15 +1,13 @@
 -- Lists of tuples that are numbered where their places go.
 use Rattle.std.proofs.Common.{◌≡◌, ◌∷◌, [], ℕ, ◌<◌, ◌^◌, Bool, true, false, nat_lt, if◌then◌else◌, ltb-true, arith, List, length, map, Option, Some, None, Result, Ok, Err, IfOk, refl, ap, ap₂, sym, ◌∙◌, subst, Vec, Global}
-use Rattle.std.specs.List.{All, list_all}
+use Rattle.std.specs.List.{All}
 use Rattle.std.specs.Prelude.{is_ok, IfSome}
 use Rattle.std.proofs.lemmas.Bool.{and_parts, lt-ltb, eq-eqb}
-use Rattle.std.proofs.lemmas.List.Folds.{list_all-map}
-use Rattle.std.proofs.lemmas.Simd.{map-map}
 use Rattle.zarrs_chunk.specs.Answer.{◌>>=◌, checked_u64, seen}
 use Rattle.zarrs_chunk.specs.ChunkShape.{product}
 use Rattle.zarrs_chunk.specs.Numbering.{are_tuples_inside, numbers_of_tuples}
-use Rattle.zarrs_chunk.specs.Selection.{Selection, indices_of, places_of, tuples_seen}
-use Rattle.zarrs_chunk.specs.Tuples.{is_tuple_inside, row_major}
+use Rattle.zarrs_chunk.specs.Selection.{Selection, indices, places_of}
+use Rattle.zarrs_chunk.specs.Tuples.{is_tuple_inside}
 use Rattle.zarrs_chunk.specs.declared.codec_error.CodecError.{CodecError}
 use Rattle.zarrs_chunk.specs.declared.codec_error.CodecError.TheVariants.{Overflow}
 use Rattle.zarrs_chunk.proofs.PlaceLaws.{known_below}
@@ -28,19 +26,16 @@ use Rattle.zarrs_array_to_array.proofs.Transposition.{transposed_tuple}
 -- ---- one list
 
 -- each of the tuples goes where its number leads in the order of axes
-numbered : (order sizes : List ℕ) (tuples : List (Vec ℕ Global)) → IsOrder order → length order ≡ length sizes → are_tuples_inside sizes tuples ≡ true → ordered_numbers order sizes tuples ≡ map (transposed_place order sizes) (numbers_of_tuples sizes tuples)
+numbered : (order sizes : List ℕ) (tuples : List (List ℕ)) → IsOrder order → length order ≡ length sizes → are_tuples_inside sizes tuples ≡ true → ordered_numbers order sizes tuples ≡ map (transposed_place order sizes) (numbers_of_tuples sizes tuples)
 numbered order sizes [] o axes h = refl
 numbered order sizes (tuple ∷ tuples) o axes h =
-    let parts = and_parts (is_tuple_inside sizes tuple.items) (are_tuples_inside sizes tuples) h in
-    ap₂ (λ (n : ℕ) (ns : List ℕ). n ∷ ns) (sym (transposed_tuple order sizes o axes tuple.items parts.0)) (numbered order sizes tuples o axes parts.1)
+    let parts = and_parts (is_tuple_inside sizes tuple) (are_tuples_inside sizes tuples) h in
+    ap₂ (λ (n : ℕ) (ns : List ℕ). n ∷ ns) (sym (transposed_tuple order sizes o axes tuple parts.0)) (numbered order sizes tuples o axes parts.1)
 
-all_known : (sizes : List ℕ) (tuples : List (Vec ℕ Global)) → product sizes < 2 ^ 64 → are_tuples_inside sizes tuples ≡ true → places_of (indices_of tuples) sizes ≡ Ok (numbers_of_tuples sizes tuples)
-all_known sizes tuples small h =
-    let seen_inside : list_all (λ tuple. is_tuple_inside sizes tuple) (tuples_seen tuples) ≡ true = list_all-map (λ tuple. is_tuple_inside sizes tuple) (λ (tuple : Vec ℕ Global). tuple.items) tuples ∙ h in
-    rw (indices_bounds sizes (tuples_seen tuples) seen_inside, lt-ltb (product sizes) (2 ^ 64) small)
-    (ap (λ (ns : List ℕ). let r : Result (List ℕ) CodecError = Ok ns in r) (map-map (row_major sizes) (λ (tuple : Vec ℕ Global). tuple.items) tuples))
+all_known : (sizes : List ℕ) (tuples : List (List ℕ)) → product sizes < 2 ^ 64 → are_tuples_inside sizes tuples ≡ true → places_of (indices tuples) sizes ≡ Ok (numbers_of_tuples sizes tuples)
+all_known sizes tuples small h = rw (indices_bounds sizes tuples h, lt-ltb (product sizes) (2 ^ 64) small) refl
 
-moves_list : (order sizes : List ℕ) (tuples : List (Vec ℕ Global)) (places : List ℕ) → is_order order ≡ true → length order ≡ length sizes → product sizes < 2 ^ 64 → are_tuples_inside sizes tuples ≡ true → places ≡ ordered_numbers order sizes tuples → MovesList order sizes tuples places
+moves_list : (order sizes : List ℕ) (tuples : List (List ℕ)) (places : List ℕ) → is_order order ≡ true → length order ≡ length sizes → product sizes < 2 ^ 64 → are_tuples_inside sizes tuples ≡ true → places ≡ ordered_numbers order sizes tuples → MovesList order sizes tuples places
 moves_list order sizes tuples places is axes small inside e = record {
   axes = axes;
   counted = small;
@@ -61,7 +56,7 @@ counted_below n h = go (nat_lt n (2 ^ 64)) refl h
     go false e is = absurd (cc)
 
 -- an answer for a list is one for its places
-pub list_moved : {E : Type 0} (order sizes : List ℕ) (tuples : List (Vec ℕ Global)) (found : Result (Option (Vec ℕ Global)) E) → is_order order ≡ true → length order ≡ length sizes → product sizes < 2 ^ 64
+pub list_moved : {E : Type 0} (order sizes : List ℕ) (tuples : List (List ℕ)) (found : Result (Option (Vec ℕ Global)) E) → is_order order ≡ true → length order ≡ length sizes → product sizes < 2 ^ 64
     → IfOk found (λ f. IfSome f (λ _. are_tuples_inside sizes tuples ≡ true)) → IfOk found (λ f. IfSome f (λ places. places.items ≡ ordered_numbers order sizes tuples)) → IfOk found (λ f. IfSome f (λ places. MovesList order sizes tuples places.items))
 list_moved order sizes tuples (Ok (Some places)) is axes small inside e = moves_list order sizes tuples places.items is axes small inside e
 list_moved order sizes tuples (Ok None) is axes small inside e = tt
@@ -76,7 +71,7 @@ moved_seen : (places : List ℕ) (r : Result CoordinateMap CodecError) → (r >>
 moved_seen places (Ok m) = refl
 moved_seen places (Err e) = refl
 
-at_list : (order : List ℕ) (rest : List ArrayMapping) (sizes : List ℕ) (tuples : List (Vec ℕ Global)) (places : List ℕ) → MovesList order sizes tuples places → chained_places (transpose order ∷ rest) (indices_of tuples) sizes ≡ seen (moved_by places) (chained rest (permuted order sizes))
+at_list : (order : List ℕ) (rest : List ArrayMapping) (sizes : List ℕ) (tuples : List (List ℕ)) (places : List ℕ) → MovesList order sizes tuples places → chained_places (transpose order ∷ rest) (indices tuples) sizes ≡ seen (moved_by places) (chained rest (permuted order sizes))
 at_list order rest sizes tuples places moves =
     let numbers = numbers_of_tuples sizes tuples in
     ap (λ (p : Result (List ℕ) CodecError). p >>= λ ps. chained (transpose order ∷ rest) sizes >>= λ m. let moved : Result (List ℕ) CodecError = Ok (moved_by ps m) in moved) moves.meant
@@ -94,13 +89,13 @@ mapped_some f [] first rest e = absurd cc
 mapped_some f (x ∷ xs) first rest e = omega arith
 
 -- an answer of a transposition is one of a codec
-pub codec_moved : {E : Type 0} (codec : ArrayMapping) (order sizes : List ℕ) (tuples : List (Vec ℕ Global)) (found : Result (Option (Vec ℕ Global)) E) → codec ≡ transpose order → IfOk found (λ f. IfSome f (λ places. MovesList order sizes tuples places.items)) → IfOk found (λ f. IfSome f (λ places. CodecMovesList codec sizes tuples places.items))
+pub codec_moved : {E : Type 0} (codec : ArrayMapping) (order sizes : List ℕ) (tuples : List (List ℕ)) (found : Result (Option (Vec ℕ Global)) E) → codec ≡ transpose order → IfOk found (λ f. IfSome f (λ places. MovesList order sizes tuples places.items)) → IfOk found (λ f. IfSome f (λ places. CodecMovesList codec sizes tuples places.items))
 codec_moved codec order sizes tuples (Ok (Some places)) is h = (order, is, h)
 codec_moved codec order sizes tuples (Ok None) is h = tt
 codec_moved codec order sizes tuples (Err error) is h = tt
 
 -- an answer of the first codec is one of the list
-pub list_started : {E : Type 0} (codecs : List ArrayMapping) (first : ArrayMapping) (rest : List ArrayMapping) (sizes : List ℕ) (selection : Selection) (tuples : List (Vec ℕ Global)) (found : Result (Option (Vec ℕ Global)) E) → codecs ≡ first ∷ rest → selection ≡ indices_of tuples
+pub list_started : {E : Type 0} (codecs : List ArrayMapping) (first : ArrayMapping) (rest : List ArrayMapping) (sizes : List ℕ) (selection : Selection) (tuples : List (List ℕ)) (found : Result (Option (Vec ℕ Global)) E) → codecs ≡ first ∷ rest → selection ≡ indices tuples
     → IfOk found (λ f. IfSome f (λ places. CodecMovesList first sizes tuples places.items)) → IfOk found (λ f. IfSome f (λ places. StartsList codecs sizes selection places.items))
 list_started codecs first rest sizes selection tuples (Ok (Some places)) is listed h = record {
   order = h.0;
@@ -138,6 +133,6 @@ module _ (codecs : List ArrayMapping) (sizes : List ℕ) (selection : Selection)
       let taken : coordinates first sizes ≡ Ok (transposition s.order sizes) = ap (λ c. coordinates c sizes) (sym same_first) ∙ axes_taken s.order sizes s.moves.axes in
       let same_map : transposition s.order sizes ≡ m = cc in
       let numbers = numbers_of_tuples sizes s.tuples in
-      let known = moved_known sizes numbers m step.3 (known_below (indices_of s.tuples) sizes numbers s.moves.meant) in
+      let known = moved_known sizes numbers m step.3 (known_below (indices s.tuples) sizes numbers s.moves.meant) in
       let moved : moved_by numbers m ≡ places = ap (moved_by numbers) (sym same_map) ∙ sym s.moves.moved in
       subst (λ n. All (λ place. place < n) places) (ap product step.2) (subst (λ ps. All (λ place. place < product m.encoded) ps) moved known)

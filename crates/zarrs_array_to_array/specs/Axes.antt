@@ -56,6 +56,11 @@ abbrev pub RowInside : ℕ → ℕ → ℕ → ℕ → ℕ → List ℕ → Type
 RowInside len size front step count items =
     (k : ℕ) → k < count → (front + k * step) * size + len ≤ length items
 
+-- the elements of a plane are there, from its first one on
+abbrev pub PlaneInside : ℕ → ℕ → Axis → Axis → List ℕ → Type 0
+PlaneInside size front rows columns items =
+    (r k : ℕ) → r < rows.size → k < columns.size → (front + r * rows.step + k * columns.step) * size + size ≤ length items
+
 -- ---- what a call that answers Ok has put at the end of bytes, where each element has `size` of them
 
 -- so many bytes from each element of a row on: it has `count` elements, a step apart

@@ -14,10 +14,6 @@ EndsFit starts lengths = (axis : ℕ) → slice_index starts axis + slice_index 
 abbrev pub tuples_in : Vec (Vec ℕ Global) Global → List (List ℕ)
 tuples_in tuples = map (λ tuple. tuple.items) tuples.items
 
--- each of these tuples in this order of axes
-abbrev pub ordered_tuples : List ℕ → List (Vec ℕ Global) → List (List ℕ)
-ordered_tuples order tuples = map (λ tuple. permuted order tuple.items) tuples
-
 -- the tuples of a box are given, each in this order of axes
 abbrev pub GivesBox : List ℕ → List ℕ → List ℕ → Result (Vec (Vec ℕ Global) Global) CodecError → Type 0
 GivesBox order starts lengths result = Gives tuples_in result (Ok (map (permuted order) (box_tuples starts lengths)))

@@ -1,11 +1,11 @@
 //! The axes of a chunk in an order, and the places of their tuples.
-ghost use Rattle.std.specs.Prelude.{◌≡◌, ◌<◌, ◌≤◌, ◌^◌, ◌+◌, ◌*◌, ◌++◌, ◌∷◌, [], length, All, IfOk, IfSome, OnOk};
+ghost use Rattle.std.specs.Prelude.{◌≡◌, ◌<◌, ◌≤◌, ◌^◌, ◌+◌, ◌*◌, ◌++◌, ◌∷◌, [], length, take, All, IfOk, IfSome};
 ghost use Rattle.zarrs_chunk.specs.ChunkShape.{product};
 ghost use Rattle.zarrs_array_to_array.specs.Axes.{behind, reach, axes_of, axes_places, HaveBehind, ReachBehind};
 ghost use Rattle.zarrs_array_to_array.specs.Orders.{permuted};
 ghost use Rattle.zarrs_array_to_array.specs.Strides.{all_stepped, last_tuple, stepped, strides};
 
-use crate::transpose::strides::{strides, write_rows};
+use crate::transpose::strides::{put_strides, write_rows};
 use std::alloc::{AllocError, Global};
 use std::mem;
 
@@ -15,6 +15,9 @@ pub(crate) struct Axis {
     pub(crate) size: usize,
     pub(crate) step: usize,
 }
+
+/// An axis of a single index.
+pub(crate) const ONE: Axis = Axis { size: 1, step: 0 };
 
 /// Two axes as one, where a step along the first passes all of the second.
 fn join_axes(first: Axis, second: Axis) -> Option<Axis>
@@ -33,92 +36,74 @@ fn join_axes(first: Axis, second: Axis) -> Option<Axis>
     })
 }
 
-/// One axis more, behind the others. One of a single index is passed over, and one that goes on where
-/// the last one ends is joined to it.
-fn push_axis(axes: &mut Vec<Axis>, axis: Axis) -> Result<(), AllocError>
-    ensures places { OnOk result (HaveBehind axis axes.old.items axes.new.items) }
-    ensures reach { OnOk result (ReachBehind axis axes.old.items axes.new.items) }
-    ensures count { OnOk result (length axes.old.items ≤ length axes.new.items) }
+/// One axis more behind the first `count`: how many there are then. One of a single index is passed
+/// over, and one that goes on where the last one ends is joined to it.
+fn put_axis(axes: &mut [Axis], count: usize, axis: Axis) -> usize
+    requires some { 1 ≤ count }
+    requires room { count < length axes.old }
+    ensures places { HaveBehind axis (take count axes.old) (take result axes.new) }
+    ensures reach { ReachBehind axis (take count axes.old) (take result axes.new) }
+    ensures count { count ≤ result }
+    ensures within { result ≤ count + 1 }
+    ensures len { length axes.new ≡ length axes.old }
 {
     if axis.size == 1 {
-        return Ok(());
+        return count;
     }
-    match axes.pop() {
-        Some(last) => push_behind(axes, last, axis),
-        None => push_one(axes, axis),
+    let last = count - 1;
+    if let Some(both) = join_axes(axes[last], axis) {
+        axes[last] = both;
+        return count;
     }
+    axes[count] = axis;
+    count + 1
 }
 
-fn push_one(axes: &mut Vec<Axis>, axis: Axis) -> Result<(), AllocError>
-    ensures appended { OnOk result (axes.new.items ≡ axes.old.items ++ axis ∷ []) }
-{
-    axes.push(axis)?;
-    Ok(())
-}
-
-/// Two axes more, or the one that they are together.
-fn push_behind(axes: &mut Vec<Axis>, first: Axis, second: Axis) -> Result<(), AllocError>
-    ensures places { OnOk result (HaveBehind second (axes.old.items ++ first ∷ []) axes.new.items) }
-    ensures reach { OnOk result (ReachBehind second (axes.old.items ++ first ∷ []) axes.new.items) }
-    ensures count { OnOk result (length axes.old.items + 1 ≤ length axes.new.items) }
-{
-    match join_axes(first, second) {
-        Some(both) => push_one(axes, both),
-        None => push_both(axes, first, second),
-    }
-}
-
-fn push_both(axes: &mut Vec<Axis>, first: Axis, second: Axis) -> Result<(), AllocError>
-    ensures appended { OnOk result (axes.new.items ≡ axes.old.items ++ first ∷ second ∷ []) }
-{
-    axes.push(first)?;
-    axes.push(second)?;
-    Ok(())
-}
-
-/// The axes with these sizes and steps in this order: those of a single index are passed over, and
-/// neighbours that stay neighbours are joined. Two of a single index stand in front, so that the last
-/// two are always there.
-fn axes_in_order(
-    alloc: Global,
-    order: &[usize],
-    sizes: &[u64],
-    steps: &[u64],
-) -> Result<Vec<Axis>, AllocError>
+/// Writes the axes with these sizes and steps in this order: how many they are. Those of a single index
+/// are passed over, and neighbours that stay neighbours are joined. Two of a single index stand in
+/// front, so that the last two are always there.
+fn put_axes(axes: &mut [Axis], order: &[usize], sizes: &[u64], steps: &[u64]) -> usize
     requires sizes { All (λ axis. axis < length sizes.now) order.now }
     requires steps { All (λ axis. axis < length steps.now) order.now }
-    ensures places { IfOk result (λ v. axes_places v.items ≡ axes_places (axes_of sizes.now steps.now order.now)) }
-    ensures reach { IfOk result (λ v. reach v.items ≤ reach (axes_of sizes.now steps.now order.now)) }
-    ensures plane { IfOk result (λ v. 2 ≤ length v.items) }
+    requires room { length order.now + 2 ≤ length axes.old }
+    ensures places { axes_places (take result axes.new) ≡ axes_places (axes_of sizes.now steps.now order.now) }
+    ensures reach { reach (take result axes.new) ≤ reach (axes_of sizes.now steps.now order.now) }
+    ensures plane { 2 ≤ result }
+    ensures inside { result ≤ length axes.new }
 {
-    let mut axes = Vec::with_capacity(alloc, order.len() + 2)?;
-    let one = Axis { size: 1, step: 0 };
-    push_both(&mut axes, one, one)?;
+    axes[0] = ONE;
+    axes[1] = ONE;
+    let mut count = 2;
     for axis in order {
         let next = Axis {
             size: sizes[*axis] as usize,
             step: steps[*axis] as usize,
         };
-        push_axis(&mut axes, next)?;
+        count = put_axis(axes, count, next);
     }
-    Ok(axes)
+    count
 }
 
-/// The axes of a chunk of these sizes in this order, as few as have the same places.
-pub(crate) fn ordered_axes(
-    alloc: Global,
+/// Writes the axes of a chunk of these sizes in this order, as few as have the same places, and the
+/// chunk's strides: how many axes they are.
+pub(crate) fn put_ordered_axes(
+    axes: &mut [Axis],
+    steps: &mut [u64],
     order: &[usize],
     sizes: &[u64],
-) -> Result<Vec<Axis>, AllocError>
+) -> usize
     requires order { All (λ axis. axis < length sizes.now) order.now }
     requires positive { All (λ size. 0 < size) sizes.now }
     requires fits { product sizes.now < 2 ^ 64 }
-    ensures places { IfOk result (λ v. axes_places v.items ≡ all_stepped (permuted order.now sizes.now) (permuted order.now (strides sizes.now))) }
-    ensures reach { IfOk result (λ v. reach v.items ≤ stepped (permuted order.now (strides sizes.now)) (last_tuple (permuted order.now sizes.now))) }
-    ensures plane { IfOk result (λ v. 2 ≤ length v.items) }
+    requires steps { length steps.old ≡ length sizes.now }
+    requires room { length order.now + 2 ≤ length axes.old }
+    ensures places { axes_places (take result axes.new) ≡ all_stepped (permuted order.now sizes.now) (permuted order.now (strides sizes.now)) }
+    ensures reach { reach (take result axes.new) ≤ stepped (permuted order.now (strides sizes.now)) (last_tuple (permuted order.now sizes.now)) }
+    ensures plane { 2 ≤ result }
+    ensures inside { result ≤ length axes.new }
 {
-    let steps = strides(alloc, sizes)?;
-    axes_in_order(alloc, order, sizes, steps.as_slice())
+    put_strides(steps, sizes);
+    put_axes(axes, order, sizes, steps)
 }
 
 /// The places of all tuples over the axes, the last axis fastest.

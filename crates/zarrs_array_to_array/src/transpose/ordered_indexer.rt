@@ -1,43 +1,60 @@
 //! An indexer of a chunk as one of the transposed chunk.
-ghost use Rattle.std.specs.Prelude.{◌≡◌, ◌<◌, ◌==◌, Ok, true, length, IfOk, map};
-ghost use Rattle.std.specs.List.{list_all};
+ghost use Rattle.std.specs.Prelude.{◌≡◌, Ok, true, length, IfOk, map};
 ghost use Rattle.zarrs_chunk.specs.Indexer.{selection_of};
+ghost use Rattle.zarrs_chunk.specs.Numbering.{are_of_axes};
 ghost use Rattle.zarrs_chunk.specs.Selection.{bounds_of, len_of, indices, tuples_of};
 ghost use Rattle.zarrs_metadata.specs.Orders.{is_order};
-ghost use Rattle.zarrs_array_to_array.specs.Boxes.{tuples_in, ordered_tuples as ordered_tuples_of};
+ghost use Rattle.zarrs_array_to_array.specs.Boxes.{tuples_in};
 ghost use Rattle.zarrs_array_to_array.specs.Orders.{permuted};
 ghost use Rattle.zarrs_chunk.specs.Answer.{Gives};
 
 use crate::boxes::ordered_box;
 use crate::transpose::strides::permute;
 use std::alloc::{AllocError, Global};
-use zarrs_chunk::{ArrayIndices, CodecError, Indexer};
+use zarrs_chunk::{ArrayIndices, CodecError, Indexer, TupleList};
 
 /// Each of these tuples in this order of axes.
-fn ordered_tuples(
+fn ordered_tuples<T: TupleList>(
     alloc: Global,
     order: &[usize],
-    tuples: &[ArrayIndices],
+    tuples: &T,
 ) -> Result<Vec<ArrayIndices>, AllocError>
     requires order { is_order order.now ≡ true }
-    requires axes { list_all (λ tuple. length tuple.items == length order.now) tuples.now ≡ true }
-    ensures value { IfOk result (λ v. tuples_in v ≡ ordered_tuples_of order.now tuples.now) }
+    requires axes { are_of_axes (length order.now) (T.tuples tuples.now) ≡ true }
+    ensures value { IfOk result (λ v. tuples_in v ≡ map (permuted order.now) (T.tuples tuples.now)) }
 {
-    let mut ordered = Vec::with_capacity(alloc, tuples.len())?;
-    for tuple in tuples {
-        ordered.push(permute(alloc, order, tuple.as_slice())?)?;
+    let mut ordered = Vec::with_capacity(alloc, tuples.count())?;
+    for index in 0..tuples.count() {
+        ordered.push(permute(alloc, order, tuples.tuple(index))?)?;
     }
     Ok(ordered)
 }
 
+/// The indexer of these tuples, each in this order of axes.
+fn ordered_list<'b, T: TupleList>(
+    alloc: Global,
+    order: &[usize],
+    sizes: &[u64],
+    tuples: &T,
+) -> Result<Indexer<'b>, CodecError>
+    requires order { is_order order.now ≡ true }
+    requires axes { length order.now ≡ length sizes.now }
+    requires inside { bounds_of (indices (T.tuples tuples.now)) sizes.now ≡ Ok tt }
+    ensures answer { Gives selection_of result
+        (Ok (indices (map (permuted order.now) (T.tuples tuples.now)))) }
+{
+    let ordered = ordered_tuples(alloc, order, tuples)?;
+    Ok(Indexer::Indices(ordered))
+}
+
 /// What is asked for of the moved chunk.
-pub(crate) fn ordered_indexer(
+pub(crate) fn ordered_indexer<'b>(
     alloc: Global,
     order: &[usize],
     sizes: &[u64],
     indexer: &Indexer,
     count: u64,
-) -> Result<Indexer, CodecError>
+) -> Result<Indexer<'b>, CodecError>
     requires order { is_order order.now ≡ true }
     requires axes { length order.now ≡ length sizes.now }
     requires inside { bounds_of (selection_of indexer.now) sizes.now ≡ Ok tt }
@@ -49,9 +66,7 @@ pub(crate) fn ordered_indexer(
             let tuples = ordered_box(alloc, order, subset, count)?;
             Ok(Indexer::Indices(tuples))
         }
-        Indexer::Indices(tuples) => {
-            let tuples = ordered_tuples(alloc, order, tuples.as_slice())?;
-            Ok(Indexer::Indices(tuples))
-        }
+        Indexer::Indices(tuples) => ordered_list(alloc, order, sizes, tuples),
+        Indexer::Tuples(tuples) => ordered_list(alloc, order, sizes, tuples),
     }
 }

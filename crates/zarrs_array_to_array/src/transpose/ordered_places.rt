@@ -9,7 +9,7 @@ ghost use Rattle.zarrs_array_to_array.specs.MovedLists.{MovesList, ordered_numbe
 ghost use Rattle.zarrs_array_to_array.specs.Vectors.{IfFound};
 
 use std::alloc::{AllocError, Global};
-use zarrs_chunk::{ArrayIndices, ChunkShape};
+use zarrs_chunk::{ChunkShape, TupleList};
 
 /// The number of a tuple in a chunk with its axes in this order, or `None` where the tuple isn't inside.
 fn ordered_place(order: &[usize], sizes: &[u64], tuple: &[u64]) -> Option<u64>
@@ -37,23 +37,24 @@ fn ordered_place(order: &[usize], sizes: &[u64], tuple: &[u64]) -> Option<u64>
 }
 
 /// The numbers of these tuples, or `None` where one of them isn't inside.
-fn ordered_places(
+fn ordered_places<T: TupleList>(
     alloc: Global,
     order: &[usize],
     sizes: &[u64],
-    tuples: &[ArrayIndices],
+    tuples: &T,
 ) -> Result<Option<Vec<u64>>, AllocError>
     requires order { is_order order.now ≡ true }
     requires axes { length order.now ≡ length sizes.now }
     requires known { All (λ axis. axis < length sizes.now) order.now }
     requires positive { All (λ size. 0 < size) sizes.now }
     requires fits { product sizes.now < 2 ^ 64 }
-    ensures inside { IfFound (λ _. are_tuples_inside sizes.now tuples.now ≡ true) result }
-    ensures places { IfFound (λ v. v ≡ ordered_numbers order.now sizes.now tuples.now) result }
+    ensures inside { IfFound (λ _. are_tuples_inside sizes.now (T.tuples tuples.now) ≡ true) result }
+    ensures places { IfFound
+        (λ v. v ≡ ordered_numbers order.now sizes.now (T.tuples tuples.now)) result }
 {
-    let mut places = Vec::with_capacity(alloc, tuples.len())?;
-    for tuple in tuples {
-        match ordered_place(order, sizes, tuple.as_slice()) {
+    let mut places = Vec::with_capacity(alloc, tuples.count())?;
+    for index in 0..tuples.count() {
+        match ordered_place(order, sizes, tuples.tuple(index)) {
             None => return Ok(None),
             Some(place) => places.push(place)?,
         }
@@ -63,14 +64,14 @@ fn ordered_places(
 
 /// Where the tuples of a list go, in its order: `None` where the order has another number of axes than
 /// the shape, where 64 bits don't count the shape's elements, and where one of the tuples isn't inside.
-pub(crate) fn listed_places(
+pub(crate) fn listed_places<T: TupleList>(
     alloc: Global,
     order: &[usize],
     shape: &ChunkShape,
-    tuples: &[ArrayIndices],
+    tuples: &T,
 ) -> Result<Option<Vec<u64>>, AllocError>
     requires order { is_order order.now ≡ true }
-    ensures moved { IfFound (MovesList order.now shape.now tuples.now) result }
+    ensures moved { IfFound (MovesList order.now shape.now (T.tuples tuples.now)) result }
 {
     let sizes = shape.as_slice();
     if order.len() != sizes.len() || shape.num_elements().is_err() {

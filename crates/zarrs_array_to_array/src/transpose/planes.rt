@@ -1,12 +1,12 @@
 //! The elements of a chunk, appended row by row and plane by plane.
-ghost use Rattle.std.specs.Prelude.{◌≡◌, ◌<◌, ◌≤◌, ◌+◌, ◌*◌, length, IfOk, ◌∷◌, []};
+ghost use Rattle.std.specs.Prelude.{◌≡◌, ℕ, ◌<◌, ◌≤◌, ◌+◌, ◌*◌, ◌^◌, length, IfOk, ◌∷◌, []};
 ghost use Rattle.zarrs_array_bytes.specs.Pieces.{pieces_at};
-ghost use Rattle.zarrs_array_to_array.specs.Axes.{reach, axes_places, plane_end, AppendsColumns, AppendsPlane, behind, stretches_at};
+ghost use Rattle.zarrs_array_to_array.specs.Axes.{reach, axes_places, plane_end, PlaneInside, AppendsColumns, AppendsPlane, behind, stretches_at};
 ghost use Rattle.zarrs_array_to_array.specs.Strides.{next_rows, row};
 ghost use Rattle.zarrs_chunk.specs.Answer.{Appends};
 
 use crate::transpose::axis::Axis;
-use crate::transpose::row_groups::append_row;
+use crate::transpose::row_groups::{append_grouped_row, append_row};
 use std::alloc::{AllocError, Global};
 
 /// How many bytes a row of a block has, which is what memory brings at once.
@@ -14,6 +14,52 @@ const BLOCK: usize = 64;
 
 /// How many bytes stay in the nearest cache, so that blocks of them bring nothing.
 const NEAR: usize = 16384;
+
+/// Appends the elements of a plane, each of so many bytes, row by row.
+#[inline(always)]
+fn append_rows_of(
+    out: &mut Vec<u8>,
+    bytes: &[u8],
+    size: usize,
+    front: usize,
+    rows: Axis,
+    columns: Axis,
+) -> Result<(), AllocError>
+    requires sized { 0 < size }
+    requires starts { (r : ℕ) → r < rows.size → front + r * rows.step < 2 ^ 64 }
+    requires inside { PlaneInside size front rows columns bytes.now }
+    ensures appended { AppendsPlane size front rows columns bytes.now out.old out.new result }
+{
+    for index in 0..rows.size {
+        append_grouped_row(out, bytes, size, front + index * rows.step, columns, size)?;
+    }
+    Ok(())
+}
+
+/// Appends the elements of a plane, row by row. The sizes of most are constants here, and chosen once,
+/// so that each element is a move or two.
+fn append_rows(
+    out: &mut Vec<u8>,
+    bytes: &[u8],
+    size: usize,
+    front: usize,
+    rows: Axis,
+    columns: Axis,
+) -> Result<(), AllocError>
+    requires sized { 0 < size }
+    requires starts { (r : ℕ) → r < rows.size → front + r * rows.step < 2 ^ 64 }
+    requires inside { PlaneInside size front rows columns bytes.now }
+    ensures appended { AppendsPlane size front rows columns bytes.now out.old out.new result }
+{
+    match size {
+        1 => append_rows_of(out, bytes, 1, front, rows, columns),
+        2 => append_rows_of(out, bytes, 2, front, rows, columns),
+        4 => append_rows_of(out, bytes, 4, front, rows, columns),
+        8 => append_rows_of(out, bytes, 8, front, rows, columns),
+        16 => append_rows_of(out, bytes, 16, front, rows, columns),
+        _ => append_rows_of(out, bytes, size, front, rows, columns),
+    }
+}
 
 /// Appends the columns of a block, one after another: it has `count` rows of `width` elements.
 fn append_columns(
@@ -27,14 +73,15 @@ fn append_columns(
     requires whole { length block.now ≡ count * (width * size) }
     ensures appended { Appends out.old out.new result (pieces_at size block.now (next_rows width count (row 0 1 width))) }
 {
-    for column in 0..width {
-        let axis = Axis {
-            size: count,
-            step: width,
-        };
-        append_row(out, block, size, column, axis, size)?;
-    }
-    Ok(())
+    let columns = Axis {
+        size: width,
+        step: 1,
+    };
+    let rows = Axis {
+        size: count,
+        step: width,
+    };
+    append_rows(out, block, size, 0, columns, rows)
 }
 
 /// Appends so many bytes from the element of each tuple over the axes on, the last axis fastest.
@@ -103,6 +150,17 @@ fn block_room(axes: &[Axis], len: usize) -> usize {
     room
 }
 
+/// How many neighbours along the first axis of a chunk of so many bytes a block takes: one where blocks
+/// bring nothing.
+fn block_width(size: usize, first: Axis, len: usize) -> usize
+    requires sized { 0 < size }
+{
+    if first.step != 1 || len <= NEAR {
+        return 1;
+    }
+    (BLOCK / size).min(first.size / 2)
+}
+
 /// Appends `count` neighbouring columns, one after another, so many bytes wide blocks at a time.
 fn append_blocks(
     out: &mut Vec<u8>,
@@ -127,25 +185,6 @@ fn append_blocks(
         let width = wide.min(count - done);
         append_turned(out, block, bytes, size, front + done, axes, width)?;
         done += width;
-    }
-    Ok(())
-}
-
-/// Appends the rows of a plane, one after another.
-fn append_rows(
-    out: &mut Vec<u8>,
-    bytes: &[u8],
-    size: usize,
-    front: usize,
-    rows: Axis,
-    columns: Axis,
-) -> Result<(), AllocError>
-    requires sized { 0 < size }
-    requires inside { plane_end front rows columns * size ≤ length bytes.now }
-    ensures appended { AppendsPlane size front rows columns bytes.now out.old out.new result }
-{
-    for index in 0..rows.size {
-        append_row(out, bytes, size, front + index * rows.step, columns, size)?;
     }
     Ok(())
 }
@@ -187,8 +226,8 @@ fn append_axes(
     ensures appended { Appends out.old out.new result (pieces_at size bytes.now (behind axes.now (front ∷ []))) }
 {
     let first = axes[0];
-    let wide = (BLOCK / size).min(first.size / 2);
-    if first.step == 1 && wide > 1 && bytes.len() > NEAR {
+    let wide = block_width(size, first, bytes.len());
+    if first.step == 1 && wide > 1 {
         return append_blocks(out, block, bytes, size, front, &axes[1..], first.size, wide);
     }
     if axes.len() == 2 {

@@ -185,7 +185,7 @@ fn append_groups(
 /// Appends so many bytes from each element of a row on: its whole groups, and then the elements that
 /// are left.
 #[inline(always)]
-fn append_grouped_row(
+pub(crate) fn append_grouped_row(
     out: &mut Vec<u8>,
     bytes: &[u8],
     size: usize,
@@ -225,7 +225,6 @@ pub(crate) fn append_row(
     ensures appended { AppendsAlong len size front axis bytes.now out.old out.new result }
 {
     match len {
-        1 => append_grouped_row(out, bytes, size, front, axis, 1),
         2 => append_grouped_row(out, bytes, size, front, axis, 2),
         4 => append_grouped_row(out, bytes, size, front, axis, 4),
         8 => append_grouped_row(out, bytes, size, front, axis, 8),

@@ -6,13 +6,13 @@ ghost use Rattle.zarrs_array_to_array.specs.Strides.{strides as strides_of, row,
 
 use std::alloc::{AllocError, Global};
 
-/// How many places one step along each axis passes.
-pub(crate) fn strides(alloc: Global, sizes: &[u64]) -> Result<Vec<u64>, AllocError>
+/// Writes how many places one step along each axis passes.
+pub(crate) fn put_strides(steps: &mut [u64], sizes: &[u64])
     requires positive { All (λ size. 0 < size) sizes.now }
     requires fits { product sizes.now < 2 ^ 64 }
-    ensures value { IfOk result (λ v. v.items ≡ strides_of sizes.now) }
+    requires len { length steps.old ≡ length sizes.now }
+    ensures written { steps.new ≡ strides_of sizes.now }
 {
-    let mut steps = vec![in alloc; 0; sizes.len()]?;
     let mut step = 1;
     let mut axis = sizes.len();
     while axis > 0 {
@@ -20,6 +20,16 @@ pub(crate) fn strides(alloc: Global, sizes: &[u64]) -> Result<Vec<u64>, AllocErr
         steps[axis] = step;
         step *= sizes[axis];
     }
+}
+
+/// How many places one step along each axis passes.
+pub(crate) fn strides(alloc: Global, sizes: &[u64]) -> Result<Vec<u64>, AllocError>
+    requires positive { All (λ size. 0 < size) sizes.now }
+    requires fits { product sizes.now < 2 ^ 64 }
+    ensures value { IfOk result (λ v. v.items ≡ strides_of sizes.now) }
+{
+    let mut steps = vec![in alloc; 0; sizes.len()]?;
+    put_strides(steps.as_mut_slice(), sizes);
     Ok(steps)
 }
 

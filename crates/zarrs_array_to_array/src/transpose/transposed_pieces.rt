@@ -1,5 +1,5 @@
 //! The elements of a transposed chunk, where all have one size.
-ghost use Rattle.std.specs.Prelude.{◌≡◌, ◌<◌, ◌*◌, ◌^◌, true, length, All, Ok};
+ghost use Rattle.std.specs.Prelude.{◌≡◌, ◌≤◌, ◌<◌, ◌+◌, ◌*◌, ◌^◌, true, length, All, Ok};
 ghost use Rattle.zarrs_array_bytes.specs.Pieces.{fixed_of};
 ghost use Rattle.zarrs_chunk.specs.ChunkShape.{product};
 ghost use Rattle.zarrs_metadata.specs.Orders.{is_order};
@@ -7,12 +7,40 @@ ghost use Rattle.zarrs_array_to_array.specs.Transpose.{transposed_bytes};
 ghost use Rattle.zarrs_array_to_array.specs.Vectors.{ItemsAre};
 ghost use Rattle.zarrs_chunk.specs.Answer.{GivesValue};
 
-use crate::transpose::axis::ordered_axes;
+use crate::transpose::axis::{Axis, ONE, put_ordered_axes};
 use crate::transpose::planes::gather_axes;
 use std::alloc::{AllocError, Global};
 use std::borrow::CowSlice;
 use zarrs_array_bytes::ArrayBytes;
 use zarrs_chunk::CodecError;
+
+/// So many axes are few: they and their strides take no memory.
+const FEW: usize = 8;
+
+/// The bytes of elements of one size, with the axes of their chunk in this order. The axes and their
+/// strides are written into the room that is given.
+fn gather_in_order(
+    alloc: Global,
+    bytes: &[u8],
+    size: usize,
+    order: &[usize],
+    sizes: &[u64],
+    axes: &mut [Axis],
+    steps: &mut [u64],
+) -> Result<Vec<u8>, AllocError>
+    requires order { is_order order.now ≡ true }
+    requires axes { length order.now ≡ length sizes.now }
+    requires positive { All (λ size. 0 < size) sizes.now }
+    requires fits { product sizes.now < 2 ^ 64 }
+    requires sized { 0 < size }
+    requires whole { length bytes.now ≡ product sizes.now * size }
+    requires steps { length steps.old ≡ length sizes.now }
+    requires room { length order.now + 2 ≤ length axes.old }
+    ensures value { ItemsAre (transposed_bytes size order.now sizes.now bytes.now) result }
+{
+    let count = put_ordered_axes(axes, steps, order, sizes);
+    gather_axes(alloc, bytes, size, &axes[..count])
+}
 
 /// The bytes of elements of one size, with the axes of their chunk in this order.
 fn transposed_pieces(
@@ -30,8 +58,31 @@ fn transposed_pieces(
     requires whole { length bytes.now ≡ product sizes.now * size }
     ensures value { ItemsAre (transposed_bytes size order.now sizes.now bytes.now) result }
 {
-    let axes = ordered_axes(alloc, order, sizes)?;
-    gather_axes(alloc, bytes, size, axes.as_slice())
+    let count = sizes.len();
+    if count <= FEW {
+        let mut axes = [ONE; 10];
+        let mut steps = [0; FEW];
+        return gather_in_order(
+            alloc,
+            bytes,
+            size,
+            order,
+            sizes,
+            &mut axes,
+            &mut steps[..count],
+        );
+    }
+    let mut axes = vec![in alloc; ONE; count + 2]?;
+    let mut steps = vec![in alloc; 0; count]?;
+    gather_in_order(
+        alloc,
+        bytes,
+        size,
+        order,
+        sizes,
+        axes.as_mut_slice(),
+        steps.as_mut_slice(),
+    )
 }
 
 /// The elements of one size of a chunk with its axes in this order.

@@ -4,7 +4,7 @@ use Rattle.std.proofs.lemmas.Result.{on_ok_weaker}
 use Rattle.zarrs_array_bytes.specs.Elements.{piece}
 use Rattle.zarrs_array_to_array.specs.Strides.{row, next_rows}
 use Rattle.std.proofs.Math.Nat.{add-mul}
-use Rattle.zarrs_array_to_array.proofs.PlaneRows.{stretches_are_runs, steps_below, bytes_below}
+use Rattle.zarrs_array_to_array.proofs.PlaneRows.{stretches_are_runs, steps_below, bytes_below, places_are_bytes}
 use Rattle.zarrs_array_to_array.proofs.transpose.planes.append_plane.Goals as goal
 
 pub append_row-requires-clause-inside : goal.append_row-requires-clause-inside
@@ -32,3 +32,19 @@ returns-then-columns-eq1 c =
           (stretches_are_runs c.args.size columns.size c.args.bytes.now fronts ∙ ap (λ (step : ℕ). flat_map f (next_rows step columns.size fronts)) (sym c.if-columns-eq1.true)))
           c.append_row.ensures.appended;
     }
+
+pub append_rows-requires-clause-starts : goal.append_rows-requires-clause-starts
+append_rows-requires-clause-starts c = λ r l.
+    let rows = c.args.rows in
+    let columns = c.args.columns in
+    let end : ℕ = c.args.front + (rows.size - 1) * rows.step + (columns.size - 1) * columns.step + 1 in
+    omega (arith, steps_below r rows.size rows.step l, places_are_bytes end c.args.size c.requires.sized, c.requires.inside)
+
+pub append_rows-requires-clause-inside : goal.append_rows-requires-clause-inside
+append_rows-requires-clause-inside c = λ r k l m.
+    let rows = c.args.rows in
+    let columns = c.args.columns in
+    let at : ℕ = c.args.front + r * rows.step + k * columns.step in
+    let end : ℕ = c.args.front + (rows.size - 1) * rows.step + (columns.size - 1) * columns.step + 1 in
+    let below : at + 1 ≤ end = omega (arith, steps_below r rows.size rows.step l, steps_below k columns.size columns.step m) in
+    omega (arith, bytes_below (at + 1) end c.args.size _ below c.requires.inside, add-mul at 1 c.args.size)
