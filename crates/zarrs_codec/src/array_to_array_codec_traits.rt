@@ -131,12 +131,12 @@ pub trait ArrayToArrayCodecTraits: ArrayCodecTraits {
     /// The indexer of the moved chunk: its places there are those where the indexer's elements go,
     /// in their order. Errors, the first that holds, `OutOfMemory` aside: those of
     /// `Indexer::check`, of `encoded_shape` and of `Indexer::len`.
-    fn encoded_indexer(
+    fn encoded_indexer<'b>(
         &self,
         alloc: Global,
         indexer: &Indexer,
         decoded_shape: &ChunkShape,
-    ) -> Result<Indexer, CodecError>
+    ) -> Result<Indexer<'b>, CodecError>
         ensures answer { AsksImage (coordinates self.now) (asked self.now) decoded_shape.now
             indexer.now result }
         ensures places { KeepsPlaces (coordinates self.now) decoded_shape.now indexer.now result };

@@ -1,32 +1,11 @@
 //! Writing pieces of bytes into a value in memory.
-ghost use Rattle.std.specs.Prelude.{◌≡◌, ◌+◌, ◌≤◌, ◌<◌, ◌^◌, Ok, length, max};
+ghost use Rattle.std.specs.Prelude.{◌≡◌, ◌+◌, ◌≤◌, ◌<◌, ◌^◌, Ok, IfOk, length, max};
+ghost use Rattle.zarrs_chunk.specs.Answer.{seen};
 ghost use Rattle.zarrs_chunk.specs.Runs.{joined_runs};
 ghost use Rattle.zarrs_array_bytes.specs.Update.{update};
 ghost use Rattle.zarrs_codec.specs.BytePieces.{pieces_fit, end_of, furthest_end, with_bytes};
 
 use zarrs_chunk::CodecError;
-
-/// Whether pieces can be written with so many bytes.
-pub fn check_pieces(pieces: &[(u64, u64)], len: usize) -> Result<(), CodecError>
-    ensures exact { result ≡ pieces_fit pieces.now len }
-{
-    let mut sum: u64 = 0;
-    for (start, count) in pieces {
-        if *count > u64::MAX - *start {
-            return Err(CodecError::Overflow);
-        }
-        match sum.checked_add(*count) {
-            None => return Err(CodecError::Overflow),
-            Some(more) => sum = more,
-        }
-    }
-    let len = len as u64;
-    if len == sum {
-        Ok(())
-    } else {
-        Err(CodecError::InvalidBytesLength { len, expected: sum })
-    }
-}
 
 /// The further one of this end and a piece's.
 fn further(end: usize, start: u64, count: u64) -> usize
@@ -37,6 +16,40 @@ fn further(end: usize, start: u64, count: u64) -> usize
         return end;
     }
     end.max((start + count) as usize)
+}
+
+/// The furthest end of the pieces that aren't empty, where they can be written with so many bytes.
+#[inline(always)]
+pub fn checked_end(pieces: &[(u64, u64)], len: usize) -> Result<usize, CodecError>
+    ensures fit { seen (λ _. tt) result ≡ pieces_fit pieces.now len }
+    ensures end { IfOk result (λ end. end ≡ furthest_end pieces.now) }
+{
+    let mut sum: u64 = 0;
+    let mut end = 0;
+    for (start, count) in pieces {
+        if *count > u64::MAX - *start {
+            return Err(CodecError::Overflow);
+        }
+        match sum.checked_add(*count) {
+            None => return Err(CodecError::Overflow),
+            Some(more) => sum = more,
+        }
+        end = further(end, *start, *count);
+    }
+    let len = len as u64;
+    if len == sum {
+        Ok(end)
+    } else {
+        Err(CodecError::InvalidBytesLength { len, expected: sum })
+    }
+}
+
+/// Whether pieces can be written with so many bytes.
+pub fn check_pieces(pieces: &[(u64, u64)], len: usize) -> Result<(), CodecError>
+    ensures exact { result ≡ pieces_fit pieces.now len }
+{
+    checked_end(pieces, len)?;
+    Ok(())
 }
 
 /// The furthest end of the pieces that aren't empty.

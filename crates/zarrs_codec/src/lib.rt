@@ -34,7 +34,7 @@ pub use array_partial_encoder_traits::ArrayPartialEncoderTraits;
 pub use array_to_array_codec_traits::ArrayToArrayCodecTraits;
 pub use array_to_bytes_codec_traits::ArrayToBytesCodecTraits;
 #[doc(hidden)]
-pub use byte_pieces::{check_pieces, furthest_end_of, write_pieces};
+pub use byte_pieces::{check_pieces, checked_end, furthest_end_of, write_pieces};
 pub use byte_range::ByteRange;
 pub use bytes_codec_maker::BytesCodecMaker;
 pub use bytes_partial_decoder_traits::BytesPartialDecoderTraits;

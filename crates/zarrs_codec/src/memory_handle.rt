@@ -2,9 +2,9 @@
 ghost use Rattle.std.specs.Prelude.{◌≡◌, ◌++◌, IfOk, IfErr, OnErr, OnOk, Ok, true, Some, None, length};
 ghost use Rattle.std.specs.Option.{option_map};
 ghost use Rattle.zarrs_chunk.specs.Answer.{memory};
-ghost use Rattle.zarrs_codec.specs.BytePieces.{pieces_fit, with_pieces};
+ghost use Rattle.zarrs_codec.specs.BytePieces.{furthest_end, pieces_fit, with_pieces};
 
-use crate::byte_pieces::{check_pieces, furthest_end_of, write_pieces};
+use crate::byte_pieces::{checked_end, write_pieces};
 use crate::byte_range::ByteRange;
 use crate::bytes_partial_decoder_traits::BytesPartialDecoderTraits;
 use crate::bytes_partial_encoder_traits::BytesPartialEncoderTraits;
@@ -172,13 +172,20 @@ impl BytesPartialDecoderTraits for MemoryHandle {
     }
 }
 
-/// Writes the pieces, for which the value grows first: nothing fails from then on.
-fn write_grown(out: &mut Vec<u8>, pieces: &[(u64, u64)], bytes: &[u8]) -> Result<(), AllocError>
+/// Writes the pieces, for which the value grows to their furthest end first: nothing fails from then
+/// on.
+#[inline(always)]
+fn write_grown(
+    out: &mut Vec<u8>,
+    needed: usize,
+    pieces: &[(u64, u64)],
+    bytes: &[u8],
+) -> Result<(), AllocError>
+    requires needed { needed ≡ furthest_end pieces.now }
     requires fit { pieces_fit pieces.now (length bytes.now) ≡ Ok tt }
     ensures written { OnOk result (out.new.items ≡ with_pieces out.old.items pieces.now bytes.now) }
     ensures kept { OnErr result (out.new.items ≡ out.old.items) }
 {
-    let needed = furthest_end_of(pieces, bytes.len());
     if out.len() < needed {
         out.resize(needed, 0)?;
     }
@@ -198,14 +205,14 @@ impl BytesPartialEncoderTraits for MemoryHandle {
         bytes: &[u8],
     ) -> Result<(), CodecError> {
         self.write_calls = self.write_calls.wrapping_add(1);
-        check_pieces(pieces, bytes.len())?;
+        let needed = checked_end(pieces, bytes.len())?;
         match &mut self.value {
             None => {
                 let mut value = Vec::new(alloc);
-                write_grown(&mut value, pieces, bytes)?;
+                write_grown(&mut value, needed, pieces, bytes)?;
                 self.value = Some(value);
             }
-            Some(value) => write_grown(value, pieces, bytes)?,
+            Some(value) => write_grown(value, needed, pieces, bytes)?,
         }
         self.accept_write();
         Ok(())
