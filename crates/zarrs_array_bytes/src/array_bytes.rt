@@ -192,6 +192,7 @@ impl<'a> ArrayBytes<'a> {
     }
 
     /// The bytes of elements of one size. Errors: `ArrayBytesKind` for any other elements.
+    #[inline(always)]
     pub fn into_fixed(self) -> Result<ArrayBytesRaw<'a>, CodecError>
         ensures answer { seen raw_of result ≡ fixed_part self.entry }
     {
@@ -225,6 +226,7 @@ impl<'a> ArrayBytes<'a> {
     }
 
     /// The bytes of elements of one size, lent. Errors: `ArrayBytesKind` for any other elements.
+    #[inline(always)]
     pub fn as_fixed(&self) -> Result<&[u8], CodecError>
         ensures answer { seen (λ bytes. bytes.now) result ≡ fixed_items self.now }
     {
@@ -292,6 +294,7 @@ impl<'a> ArrayBytes<'a> {
     /// Whether these are new data for `count` places: one element of the type for each. Errors,
     /// the first that applies, level by level, the outermost mask first: `ArrayBytesKind` where the
     /// kind isn't the type's, `DataMismatch` where there are more or fewer.
+    #[inline(always)]
     pub fn validate_data(&self, count: u64, data_type: &DataType) -> Result<(), CodecError>
         ensures exact { result ≡ data_fit data_type.now count self.now }
         ensures no_fault { is_fault result ≡ false }

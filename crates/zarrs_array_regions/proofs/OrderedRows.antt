@@ -20,8 +20,10 @@ use Rattle.std.proofs.lemmas.List.Elements.{All-map, All-tail, All-take, All-pus
 use Rattle.zarrs_array_to_array.specs.Orders.{permuted}
 use Rattle.zarrs_array_bytes.proofs.UpdateSteps.{range_more}
 use Rattle.zarrs_array_to_array.proofs.Orders.{length-permuted, permuted_at}
-use Rattle.zarrs_array_regions.specs.OrderedRuns.{fronts_over, row_at, AreAxes, AreBoxRuns, HasRoom}
-use Rattle.zarrs_array_regions.specs.declared.ordered_runs.Row.{Row}
+use Rattle.zarrs_array_regions.specs.OrderedRuns.{fronts_over, AreAxes, HasRoom}
+use Rattle.zarrs_chunk.specs.declared.rows.Row.{Row}
+use Rattle.zarrs_chunk.specs.Rows.{row_at, AreBoxRuns}
+use Rattle.zarrs_chunk.proofs.RowLaws.{row_runs_of, rows_are, are_box_runs}
 
 -- the first of some axes and the others
 pub axes_split : (order : List ℕ) (axis : ℕ) → 1 ≤ length order → axis ≡ get_or order 0 0 → order ≡ axis ∷ drop 1 order
@@ -38,12 +40,6 @@ pub last_axis : (order rest : List ℕ) (empty : Bool) → rest ≡ drop 1 order
 last_axis [] rest empty e is h = omega arith
 last_axis (first ∷ []) rest empty e is h = omega arith
 last_axis (first ∷ second ∷ order) rest empty e is h = absurd (omega (arith, ap length e, eqb-true (length rest) 0 (sym is ∙ h)))
-
--- a row more
-pub rows_more : (row : Row) (runs : List (ℕ × ℕ)) (first count : ℕ) → (runs ++ map (row_at row) (range_with_len first count)) ++ row_at row (first + count) ∷ [] ≡ runs ++ map (row_at row) (range_with_len first (count + 1))
-rows_more row runs first count =
-    append_assoc runs (map (row_at row) (range_with_len first count)) (row_at row (first + count) ∷ [])
-    ∙ ap (λ xs. runs ++ xs) (sym (ap (map (row_at row)) (range_more first count) ∙ map-append (row_at row) (range_with_len first count) ((first + count) ∷ [])))
 
 -- the rows of one front more, over these axes
 pub fronts_more : (row : Row) (runs : List (ℕ × ℕ)) (order sizes starts lengths : List ℕ) (first count : ℕ)
@@ -152,10 +148,6 @@ module _ (order sizes starts lengths : List ℕ) (front : ℕ) (row : Row) (axis
       last_fits front (get_or sizes axis 0) (get_or starts axis 0) (get_or lengths axis 0) row.step step.within
       (subst (λ (n : ℕ). (front + 1) * (get_or sizes axis 0 * n * row.step) < 2 ^ 64) none split_room)
 
--- fronts with room for rows are fewer
-pub few_fronts : (n step : ℕ) → 0 < step → n * step < 2 ^ 64 → n < 2 ^ 64
-few_fronts n step h room = let one : 1 ≤ step = h in omega (arith, mul-le-mul_left n one, room)
-
 -- ---- all rows of a region
 
 inside_take : (k : ℕ) (sizes starts lengths : List ℕ) → is_box_inside sizes starts lengths ≡ true → is_box_inside (take k sizes) (take k starts) (take k lengths) ≡ true
@@ -226,32 +218,6 @@ module _ (sizes starts lengths : List ℕ) (inside : is_box_inside sizes starts 
       subst (λ n. FrontsFit n sizes (first_fronts n sizes starts lengths)) (sym one)
       (subst (IsFitting (product sizes) (product (drop (k + 1) sizes))) (sym (next_fronts k (omega arith)))
       (IsFitting-more sizes starts lengths (first_fronts k sizes starts lengths) k (omega arith) inside (fronts_fit k (omega arith))))
-
--- rows as runs
-abbrev row_runs : ℕ → ℕ → ℕ → ℕ → List ℕ → List (ℕ × ℕ)
-row_runs size start len whole fronts = map (λ front. ((front * size + start) * whole, len * whole)) fronts
-
-row_places : (size start len whole : ℕ) (fronts : List ℕ) → joined_runs (row_runs size start len whole fronts) ≡ spread_rows size start len whole fronts
-row_places size start len whole [] = refl
-row_places size start len whole (front ∷ fronts) = ap (λ ns. range_with_len ((front * size + start) * whole) (len * whole) ++ ns) (row_places size start len whole fronts)
-
-rows_filled : (size start len whole : ℕ) (fronts : List ℕ) → 0 < len * whole → AreFilled (row_runs size start len whole fronts)
-rows_filled size start len whole fronts h = All-map (λ (run : ℕ × ℕ). 0 < run.1) (λ front. ((front * size + start) * whole, len * whole)) fronts (λ k d l. h)
-
-rows_below : (size start len whole total : ℕ) (fronts : List ℕ) → ((k : ℕ) → k < length fronts → (get_or fronts k 0 * size + start) * whole + len * whole ≤ total) → EndWithin total (row_runs size start len whole fronts)
-rows_below size start len whole total fronts h =
-    All-map (λ (run : ℕ × ℕ). run.0 + run.1 ≤ total) (λ front. ((front * size + start) * whole, len * whole)) fronts
-    (λ k d l. subst (λ front. (front * size + start) * whole + len * whole ≤ total) (get_or_default fronts k 0 d l) (h k l))
-
-rows_are : (step first len size start whole : ℕ) (fronts : List ℕ) → step ≡ size * whole → first ≡ start * whole → map (row_at (record { step = step; start = first; len = len * whole })) fronts ≡ row_runs size start len whole fronts
-rows_are step first len size start whole [] e f = refl
-rows_are step first len size start whole (front ∷ fronts) e f =
-    let at : front * step + first ≡ (front * size + start) * whole = ap (λ n. front * n + first) e ∙ ap (λ n. front * (size * whole) + n) f ∙ distribute front size start whole in
-    ap (λ n. (n, len * whole) ∷ map (row_at (record { step = step; start = first; len = len * whole })) fronts) at
-    ∙ ap (λ rs. ((front * size + start) * whole, len * whole) ∷ rs) (rows_are step first len size start whole fronts e f)
-  where
-    distribute : (front size start whole : ℕ) → front * (size * whole) + start * whole ≡ (front * size + start) * whole
-    distribute front size start whole = omega arith
 
 module _ (order sizes starts lengths : List ℕ) (axes : AreAxes order sizes starts lengths) (filled : All (λ len. 0 < len) lengths) (outer : ℕ) (other : outer ≡ 0 → ⊥) (fits : outer ≤ length order)
     (whole : AreWhole outer (length order) (permuted order sizes) (permuted order starts) (permuted order lengths)) (partial : LastIsPartial outer (permuted order sizes) (permuted order lengths)) where
@@ -345,24 +311,11 @@ module _ (order sizes starts lengths : List ℕ) (axes : AreAxes order sizes sta
       ∙ ap (λ (xs : List ℕ). numbers_behind (take last S) xs (permuted (take last order) lengths) (0 ∷ [])) (sym (take-map (λ axis. get_or starts axis 0) last order))
       ∙ ap (λ (xs : List ℕ). numbers_behind (take last S) (take last T) xs (0 ∷ [])) (sym (take-map (λ axis. get_or lengths axis 0) last order))
 
-  all_rows : AreBoxRuns S T L (row_runs (get_or S last 0) (get_or T last 0) (get_or L last 0) rest (first_fronts last S T L))
+  all_rows : AreBoxRuns S T L (row_runs_of (get_or S last 0) (get_or T last 0) (get_or L last 0) rest (first_fronts last S T L))
   all_rows =
-      let size = get_or S last 0 in
-      let start = get_or T last 0 in
-      let len = get_or L last 0 in
-      let fronts = first_fronts last S T L in
-      let one : outer ≡ last + 1 = omega arith in
-      let some_rest : 0 < rest = product_positive-drop S outer S_positive in
-      let some_len : 0 < len = L_positive last 0 (omega (arith, length-permuted order lengths)) in
-      let axes_whole = subst (λ n. AreWhole outer n S T L) (sym count) whole in
-      record {
-        places = row_places size start len rest fronts
-            ∙ sym (rows_before_whole S T L fronts last outer one (omega (arith, count)) (length-permuted order starts ∙ sym count) (length-permuted order lengths ∙ sym count) axes_whole)
-            ∙ are_fronts S T L axes.inside last;
-        filled = rows_filled size start len rest fronts (positive_whole len rest some_len some_rest);
-        below = rows_below size start len rest (product S) fronts (λ k l. whole_row_fits S T L fronts last outer k one (omega (arith, count)) axes.inside (fronts_fit S T L axes.inside last (omega (arith, count))) l);
-        apart = rows_apart size start len rest fronts some_len (partial some) some_rest;
-      }
+      are_box_runs S T L axes.inside S_positive L_positive outer some (omega (arith, count)) (subst (λ n. AreWhole outer n S T L) (sym count) whole) partial (first_fronts last S T L)
+      (are_fronts S T L axes.inside last)
+      (fronts_fit S T L axes.inside last (omega (arith, count)))
 
   pub runs_there : (n : ℕ) (before runs : List (ℕ × ℕ)) → n ≡ rest → before ≡ []
       → runs ≡ before ++ map (row_at (record { step = get_or sizes axis 0 * n; start = get_or starts axis 0 * n; len = get_or lengths axis 0 * n })) (fronts_over (take last order) sizes starts lengths (0 ∷ [])) → AreBoxRuns S T L runs

@@ -51,6 +51,7 @@ pub(crate) fn is_filled(region: &ArraySubset) -> bool
 /// The box that the indexer selects, where it goes through the codecs as a box: it lies inside a chunk
 /// of this shape and has elements, and there are codecs, with no `transpose` behind a `reshape`. It
 /// never fails: what isn't such a box goes place by place.
+#[inline(always)]
 pub fn kept_region<'i>(
     codecs: &[ArrayToArrayCodec],
     shape: &ChunkShape,

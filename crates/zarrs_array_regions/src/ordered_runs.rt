@@ -1,21 +1,13 @@
 //! The runs of a region with the axes of its chunk in another order.
 ghost use Rattle.std.specs.Prelude.{◌≡◌, ◌<◌, ◌≤◌, ◌^◌, ◌+◌, ◌*◌, ◌∷◌, [], length, All, IfOk};
-ghost use Rattle.std.specs.List.{range_with_len};
 ghost use Rattle.zarrs_chunk.specs.ChunkShape.{product};
 ghost use Rattle.zarrs_chunk.specs.Levels.{AreWhole, LastIsPartial};
+ghost use Rattle.zarrs_chunk.specs.Rows.{AppendsRows, AreBoxRuns};
 ghost use Rattle.zarrs_array_to_array.specs.Orders.{permuted};
-ghost use Rattle.zarrs_array_regions.specs.OrderedRuns.{fronts_over, AppendsRows, AreAxes, AreBoxRuns, HasRoom};
+ghost use Rattle.zarrs_array_regions.specs.OrderedRuns.{fronts_over, AreAxes, HasRoom};
 
 use std::alloc::{AllocError, Global};
-
-/// The rows of a region along the last axis that it doesn't cover whole: how many places its front
-/// passes in one step, how many lie before the row, and how many the row has.
-#[derive(Clone, Copy, Drop)]
-pub(crate) struct Row {
-    pub(crate) step: u64,
-    pub(crate) start: u64,
-    pub(crate) len: u64,
-}
+use zarrs_chunk::{Row, push_rows};
 
 /// How many elements the axes of this order have.
 fn count_elements(order: &[usize], sizes: &[u64]) -> u64
@@ -61,19 +53,6 @@ fn count_rows(order: &[usize], lengths: &[u64]) -> usize
     count
 }
 
-/// Appends the rows behind so many fronts, one after another.
-fn push_rows(out: &mut Vec<(u64, u64)>, first: u64, count: u64, row: Row) -> Result<(), AllocError>
-    requires room { (first + count) * row.step < 2 ^ 64 }
-    requires start { row.start ≤ row.step }
-    requires step { 0 < row.step }
-    ensures appended { AppendsRows row (range_with_len first count) out.old out.new result }
-{
-    for index in 0..count {
-        out.push(((first + index) * row.step + row.start, row.len))?;
-    }
-    Ok(())
-}
-
 /// Appends the rows of the region behind a front, over these axes.
 fn append_rows(
     out: &mut Vec<(u64, u64)>,
@@ -108,6 +87,7 @@ fn append_rows(
 /// The runs of a region of a chunk of these sizes, with the axes of both in this order. Axes at the end
 /// that the region covers whole join, so there is one run for each row of the last axis before them, or
 /// one alone where it covers all axes.
+#[inline(always)]
 pub(crate) fn ordered_runs(
     alloc: Global,
     order: &[usize],

@@ -34,6 +34,7 @@ fn few_axes(codecs: &[ArrayToArrayCodec]) -> Option<&TransposeCodec>
 }
 
 /// The runs of a region that has elements where transposition takes it: nothing is permuted first.
+#[inline(always)]
 fn transposed_runs(
     alloc: Global,
     codec: &TransposeCodec,
@@ -86,6 +87,7 @@ fn runs_through(
 }
 
 /// The runs of a region where transposition takes it, and its elements as they stand there.
+#[inline(always)]
 fn transposed_region<'b>(
     alloc: Global,
     codec: &TransposeCodec,

@@ -6,7 +6,7 @@ ghost use Rattle.zarrs_chunk.specs.Tuples.{is_box_inside};
 ghost use Rattle.zarrs_array_regions.specs.Windows.{GivesRegionRuns};
 
 use std::alloc::Global;
-use zarrs_chunk::{ArraySubset, ChunkShape, CodecError, Indexer};
+use zarrs_chunk::{ArraySubset, ChunkShape, CodecError, subset_runs};
 
 /// A region, and the sizes under which it is one. Places count, and not sizes: a chunk of other sizes
 /// and as many elements has the region's at the same places.
@@ -34,6 +34,5 @@ pub(crate) fn own_runs(
     ensures count { IfOk result (λ runs. length (places_in runs) < 2 ^ 64) }
     ensures apart { IfOk result (λ runs. AreApart runs.items) }
 {
-    let indexer = Indexer::Subset(region.clone()?);
-    indexer.runs(alloc, shape)
+    subset_runs(alloc, shape, region)
 }

@@ -170,6 +170,7 @@ fn turned_copy(alloc: Global, bytes: &[u8], size: usize) -> Result<Vec<u8>, Allo
 
 /// The bytes with each component of `size` bytes turned round, or as they are where no size is
 /// given. Owned bytes are turned in place; borrowed ones are copied first.
+#[inline(always)]
 pub fn turn<'a>(
     alloc: Global,
     raw: ArrayBytesRaw<'a>,

@@ -2,7 +2,8 @@ use Rattle.std.proofs.Common.{◌≡◌, ◌++◌, ◌∷◌, ◌∙◌, [], Lis
 use Rattle.std.specs.Prelude.{OnOk}
 use Rattle.std.proofs.lemmas.List.{append-nil, take_rest}
 use Rattle.std.specs.List.{range_with_len}
-use Rattle.zarrs_array_regions.specs.OrderedRuns.{row_at, fronts_over}
+use Rattle.zarrs_chunk.specs.Rows.{row_at}
+use Rattle.zarrs_array_regions.specs.OrderedRuns.{fronts_over}
 use Rattle.zarrs_array_regions.proofs.OrderedRows.{fronts_none, fronts_last, fronts_next, fronts_more, first_room, last_room, last_axis, rest_axes, rest_room}
 use Rattle.zarrs_array_regions.proofs.ordered_runs.+append_rows.Goals as goal
 

@@ -1,6 +1,7 @@
 use Rattle.std.proofs.Common.{◌≡◌, ◌++◌, map, length, drop}
 use Rattle.std.specs.List.{range_with_len}
-use Rattle.zarrs_array_regions.specs.OrderedRuns.{row_at, fronts_over}
+use Rattle.zarrs_chunk.specs.Rows.{row_at}
+use Rattle.zarrs_array_regions.specs.OrderedRuns.{fronts_over}
 use Rattle.zarrs_array_regions.proofs.ordered_runs.+append_rows.Given as goal
 
 abbrev pub decreases-append_rows : goal.decreases-append_rows
