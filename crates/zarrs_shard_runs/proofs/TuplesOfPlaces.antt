@@ -5,8 +5,7 @@ use Rattle.std.specs.List.{All, list_all, range_with_len}
 use Rattle.std.proofs.Math.Nat.{mul-le-mul_left}
 use Rattle.std.proofs.lemmas.Bool.{and_from, and_parts, eq-eqb, eqb-true}
 use Rattle.std.proofs.lemmas.List.{append_assoc, map_push}
-use Rattle.std.proofs.lemmas.List.Folds.{list_all-append, list_all-map}
-use Rattle.std.proofs.lemmas.Simd.{map-map}
+use Rattle.std.proofs.lemmas.List.Folds.{list_all-append}
 use Rattle.zarrs_chunk.proofs.Consecutive.{range-append}
 use Rattle.zarrs_chunk.proofs.Inside.{is_tuple_inside-at, is_tuple_inside-length, lt_test}
 use Rattle.zarrs_chunk.proofs.Products.{product_drop, product_positive-drop}
@@ -14,7 +13,8 @@ use Rattle.zarrs_chunk.proofs.WholeAxes.{product_drop-le}
 use Rattle.zarrs_chunk.specs.Answer.{◌>>=◌, demand}
 use Rattle.zarrs_chunk.specs.ChunkShape.{product}
 use Rattle.zarrs_chunk.specs.Indices.{IsTupleOfNumber}
-use Rattle.zarrs_chunk.specs.Selection.{indices, places_of}
+use Rattle.zarrs_chunk.specs.Numbering.{are_tuples_inside, numbers_of_tuples}
+use Rattle.zarrs_chunk.specs.Selection.{indices, places_of, tuples_seen}
 use Rattle.zarrs_chunk.specs.Tuples.{is_tuple_inside, row_major}
 use Rattle.zarrs_chunk.specs.declared.codec_error.CodecError.{CodecError}
 use Rattle.zarrs_chunk.specs.declared.codec_error.CodecError.TheVariants.{IncompatibleDimensionality, OutOfBounds, Overflow}
@@ -29,9 +29,13 @@ have_more sizes tuples tuple places start place l t h =
     ap (λ p. row ++ p ∷ []) (let e : place ≡ start + (place - start) = omega (arith, l) in e)
     ∙ sym (range-append start (place - start) 1)
     ∙ ap (range_with_len start) (let e : place - start + 1 ≡ place + 1 - start = omega (arith, l) in e) in
+    let more = map_push (λ (tuple : Vec ℕ Global). tuple.items) tuples tuple in
     record {
-      inside = list_all-append (λ (tuple : Vec ℕ Global). is_tuple_inside sizes tuple.items) tuples (tuple ∷ []) ∙ and_from _ _ h.inside (and_from _ _ t.0 refl);
-      numbers = map_push (λ (tuple : Vec ℕ Global). row_major sizes tuple.items) tuples tuple
+      inside = ap (are_tuples_inside sizes) more
+          ∙ list_all-append (λ (tuple : List ℕ). is_tuple_inside sizes tuple) (tuples_seen tuples) (tuple.items ∷ [])
+          ∙ and_from _ _ h.inside (and_from _ _ t.0 refl);
+      numbers = ap (numbers_of_tuples sizes) more
+          ∙ map_push (row_major sizes) (tuples_seen tuples) tuple.items
           ∙ (λ i. h.numbers i ++ t.1 i ∷ [])
           ∙ append_assoc places row (place ∷ [])
           ∙ ap (λ ns. places ++ ns) next;
@@ -47,10 +51,8 @@ all_axes sizes (tuple ∷ tuples) h =
 -- they select the places
 pub tuples_select : (sizes : List ℕ) (tuples : List (Vec ℕ Global)) (places : List ℕ) → product sizes < 2 ^ 64 → HavePlaces sizes tuples places → places_of (indices (map (λ tuple. tuple.items) tuples)) sizes ≡ Ok places
 tuples_select sizes tuples places small h =
-    let seen = map (λ (tuple : Vec ℕ Global). tuple.items) tuples in
-    let inside : list_all (is_tuple_inside sizes) seen ≡ true = list_all-map (is_tuple_inside sizes) (λ (tuple : Vec ℕ Global). tuple.items) tuples ∙ h.inside in
-    let numbers : map (row_major sizes) seen ≡ places = map-map (row_major sizes) (λ (tuple : Vec ℕ Global). tuple.items) tuples ∙ h.numbers in
-    passed (list_all (λ tuple. length tuple == length sizes) seen) (list_all (λ tuple. is_tuple_inside sizes tuple) seen) (nat_lt (product sizes) (2 ^ 64)) (map (row_major sizes) seen) (all_axes sizes seen inside) inside (lt_test (product sizes) (2 ^ 64) small) ∙ ap (λ (ps : List ℕ). Ok ps) numbers
+    let seen = tuples_seen tuples in
+    passed (list_all (λ tuple. length tuple == length sizes) seen) (list_all (λ tuple. is_tuple_inside sizes tuple) seen) (nat_lt (product sizes) (2 ^ 64)) (map (row_major sizes) seen) (all_axes sizes seen h.inside) h.inside (lt_test (product sizes) (2 ^ 64) small) ∙ ap (λ (ps : List ℕ). Ok ps) h.numbers
   where
     passed : (a b c : Bool) (ps : List ℕ) → a ≡ true → b ≡ true → c ≡ true
         → ◌≡◌ {A = Result (List ℕ) CodecError} ((demand a IncompatibleDimensionality >>= (λ _. demand b OutOfBounds)) >>= (λ _. (if c then Ok (product sizes) else Err Overflow) >>= (λ _. Ok ps))) (Ok ps)

@@ -28,12 +28,12 @@ fn tuple_at(alloc: Global, shape: &ChunkShape, place: u64) -> Result<ArrayIndice
 }
 
 /// The box from one tuple to another, where there is one in the chunk. Errors: `OutOfMemory`.
-fn box_between(
+fn box_between<'b>(
     alloc: Global,
     shape: &ChunkShape,
     first: ArrayIndices,
     last: &[u64],
-) -> Result<Option<Indexer>, CodecError>
+) -> Result<Option<Indexer<'b>>, CodecError>
     requires counted { product shape.now < 2 ^ 64 }
     requires known { is_tuple_inside shape.now first.items ≡ true }
     requires there { is_tuple_inside shape.now last.now ≡ true }
@@ -62,11 +62,11 @@ fn box_between(
 }
 
 /// The box from the first place to the last, where there is one in the chunk. Errors: `OutOfMemory`.
-fn covering_box(
+fn covering_box<'b>(
     alloc: Global,
     shape: &ChunkShape,
     runs: &[(u64, u64)],
-) -> Result<Option<Indexer>, CodecError>
+) -> Result<Option<Indexer<'b>>, CodecError>
     requires counted { product shape.now < 2 ^ 64 }
     requires filled { AreFilled runs.now }
     requires inside { EndWithin (product shape.now) runs.now }
@@ -103,11 +103,11 @@ fn list_run(
 }
 
 /// The tuples of the places, in their order. Errors: `OutOfMemory`.
-fn listed_places(
+fn listed_places<'b>(
     alloc: Global,
     shape: &ChunkShape,
     runs: &[(u64, u64)],
-) -> Result<Indexer, CodecError>
+) -> Result<Indexer<'b>, CodecError>
     requires counted { product shape.now < 2 ^ 64 }
     requires inside { EndWithin (product shape.now) runs.now }
     ensures selects { Answers memory
@@ -122,11 +122,11 @@ fn listed_places(
 
 /// An indexer that selects the places of these runs, in their order: a box where they are the runs
 /// of one, else a list of tuples. Errors: `OutOfMemory`.
-pub fn runs_indexer(
+pub fn runs_indexer<'b>(
     alloc: Global,
     shape: &ChunkShape,
     runs: &[(u64, u64)],
-) -> Result<Indexer, CodecError>
+) -> Result<Indexer<'b>, CodecError>
     requires counted { product shape.now < 2 ^ 64 }
     requires filled { AreFilled runs.now }
     requires inside { EndWithin (product shape.now) runs.now }
