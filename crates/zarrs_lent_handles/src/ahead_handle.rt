@@ -105,6 +105,18 @@ impl<'a, H: BytesPartialDecoderTraits> AheadHandle<'a, H> {
         self.at += len;
         Ok(Some(bytes))
     }
+
+    /// Lets go of what has been read ahead, where all of it is taken.
+    fn let_go(&mut self, alloc: Global)
+        ensures handle { self.new.handle ≡ self.old.handle }
+    {
+        if self.next == self.ranges.len() {
+            self.ranges = Vec::new(alloc);
+            self.bytes = Vec::new(alloc);
+            self.next = 0;
+            self.at = 0;
+        }
+    }
 }
 
 impl<'a, H: BytesPartialDecoderTraits> BytesPartialDecoderTraits for AheadHandle<'a, H> {
@@ -132,14 +144,18 @@ impl<'a, H: BytesPartialDecoderTraits> BytesPartialDecoderTraits for AheadHandle
         self.handle.size_held().saturating_add(self.bytes.len())
     }
 
-    /// What has been read ahead is taken from there, without a call of the handle.
+    /// What has been read ahead is taken from there, without a call of the handle. Once all of it is
+    /// taken its memory is free.
     fn partial_decode_many(
         &mut self,
         alloc: Global,
         ranges: &[ByteRange],
     ) -> Result<Option<Vec<u8>>, CodecError> {
         match self.next_bytes(alloc, ranges)? {
-            Some(bytes) => Ok(Some(bytes)),
+            Some(bytes) => {
+                self.let_go(alloc);
+                Ok(Some(bytes))
+            }
             None => self.handle.partial_decode_many(alloc, ranges),
         }
     }
