@@ -27,8 +27,9 @@ use Rattle.zarrs_codec_chain.proofs.GroupedReads.{chain_each, grouped_read, grou
 use Rattle.zarrs_codec_chain.proofs.PlaceWrites.{memory_too}
 use Rattle.zarrs_codec_chain.proofs.ShardParts.{chain_count, groups_long}
 use Rattle.zarrs_codec_chain.proofs.ShardSpans.{StoredShard, all_read, behind_are, by_spans, known, spans_known}
+use Rattle.zarrs_codec_chain.specs.CodecPart.{rests_behind}
 use Rattle.zarrs_codec_chain.specs.ChunkRead.{are_given_sure}
-use Rattle.zarrs_codec_chain.specs.KeptIndex.{IsIndex, rests_behind}
+use Rattle.zarrs_codec_chain.specs.KeptIndex.{IsIndex}
 use Rattle.zarrs_codec_chain.specs.ShardRead.{groups_rest, spans_by, spans_read, spans_rest}
 use Rattle.zarrs_codec_chain.specs.SpanReads.{AreInnerRuns, PutsInOrder, chain_read, chain_rests, stored_groups_read, stored_groups_rest, stored_spans}
 use Rattle.zarrs_data_type.specs.Element.{Chunk}

@@ -24,9 +24,9 @@ use Rattle.zarrs_codec.specs.declared.bytes_representation.BytesRepresentation.{
 use Rattle.zarrs_codec_chain.proofs.LawfulPart.{part_laws, same_sure}
 use Rattle.zarrs_codec_chain.proofs.PartialReads.{IsReadable, is_readable, stored_selects, unstored_read}
 use Rattle.zarrs_codec_chain.proofs.SureReads.{where_sure}
-use Rattle.zarrs_codec_chain.specs.ChunkRead.{ReadsStoredChunk, WhereSure, are_given_sure, asks_in_part, encoded_places, outer_stored, stored_read}
-use Rattle.zarrs_codec_chain.specs.CodecPart.{IndexPart, codec_read, codec_rests_on, part_of}
-use Rattle.zarrs_codec_chain.specs.KeptIndex.{IsIndexOf, WhereSureBy, asks_index, bytes_with, codec_index, codec_spans, index_rests_on, index_seen, keeps_nothing, knows_index, rests_behind, rests_where, rests_with, spans_with}
+use Rattle.zarrs_codec_chain.specs.ChunkRead.{ReadsStoredChunk, WhereSure, are_given_sure, asks_in_part, encoded_places, outer_stored, stored_read, WhereSureBy}
+use Rattle.zarrs_codec_chain.specs.CodecPart.{IndexPart, codec_read, codec_rests_on, part_of, rests_behind, rests_where, rests_with}
+use Rattle.zarrs_codec_chain.specs.KeptIndex.{IsIndexOf, asks_index, bytes_with, codec_index, codec_spans, index_rests_on, index_seen, keeps_nothing, knows_index, spans_with}
 use Rattle.zarrs_codec_chain.specs.PlaceLaws.{Resting, RestsEach, SameMembers}
 use Rattle.zarrs_codec_chain.specs.PartRead.{PlaceReader}
 use Rattle.zarrs_codec_chain.proofs.IndexLaws.{IndexLaws}

@@ -1,5 +1,5 @@
 -- What is read of inner chunks before they are decoded.
-use Rattle.std.proofs.Common.{◌≡◌, ℕ, ◌+◌, ◌-◌, ◌≤◌, ◌<◌, ◌^◌, ◌&&◌, nat_le, not, Bool, true, false, Option, Some, None, Bor, get_or, List, [], ◌∷◌, ◌++◌, length, take, drop, map, Result, Ok, Err, arith, refl, ap, sym, subst, ◌∙◌}
+use Rattle.std.proofs.Common.{◌≡◌, ℕ, ◌+◌, ◌-◌, ◌≤◌, ◌<◌, ◌^◌, nat_le, not, Bool, true, false, Option, Some, None, Bor, get_or, List, [], ◌∷◌, ◌++◌, length, take, drop, map, Result, Ok, Err, arith, refl, ap, sym, subst, ◌∙◌}
 use Rattle.std.specs.List.{All, flat_map, list_all, range_with_len}
 use Rattle.std.specs.Option.{option_map}
 use Rattle.std.specs.Prelude.{is_ok, is_some, IfErr, IfOk, Vec}
@@ -22,8 +22,9 @@ use Rattle.zarrs_chunk.specs.Region.{Region}
 use Rattle.zarrs_chunk.specs.Selection.{Selection, places_of}
 use Rattle.zarrs_codec_chain.proofs.PlaceWrites.{memory_too}
 use Rattle.zarrs_codec_chain.proofs.RegionReads.{region_goes}
-use Rattle.zarrs_chain_meaning.specs.PlainChain.{PlainChain}
-use Rattle.zarrs_chain_meaning.specs.sharding.Sharding.{Span, is_stored, spanned_bytes}
+use Rattle.zarrs_chain.specs.ChainView.{plain_chain}
+use Rattle.zarrs_chain.specs.declared.codec_chain.CodecChain.{CodecChain}
+use Rattle.zarrs_chain_meaning.specs.sharding.Sharding.{Span, is_stored, spanned_bytes, spans_of}
 use Rattle.zarrs_chunk.proofs.Inside.{from_le_test, le_test}
 use Rattle.zarrs_chunk.specs.Answer.{Answers, AnswersBy, demand, memory, memory_or_fault, seen}
 use Rattle.zarrs_chunk.specs.declared.codec_error.CodecError.{CodecError}
@@ -46,7 +47,7 @@ use Rattle.zarrs_codec_chain.specs.PlaceLaws.{Resting}
 use Rattle.zarrs_codec_chain.specs.ShardRead.{groups_rest, span_rests}
 use Rattle.zarrs_codec_chain.specs.SpanReads.{StandsIn, chain_rests, held_state, inner_span, moved_rests, outer_rests, seen_state, span_held, span_parts, stored_groups_rest}
 use Rattle.zarrs_codec_chain.specs.declared.sharding.value_span.ValueSpan.{ValueSpan}
-use Rattle.zarrs_data_type.specs.ElementType.{ElementType}
+use Rattle.zarrs_data_type.specs.Form.{Form, form_of}
 use Rattle.zarrs_lent_handles.proofs.SpanLemmas.{span_sure as moved_are_sure, spanned_long}
 use Rattle.zarrs_lent_handles.specs.AheadHandle.{ReadsAhead}
 use Rattle.zarrs_lent_handles.specs.SpanHandle.{is_span_of, moved_ranges, span_state}
@@ -82,7 +83,7 @@ is_whole true e = absurd cc
 is_whole false e = refl
 
 pub rested_wholly : {B : Type 0} (f : BytesCodecs B) (form : ChunkForm B) (encoded : List ℕ) (r : BytesRepresentation) → All IsMapping form.chain.array_to_array → All (λ size. 0 < size) form.sizes → taken_form f form.chain form.sizes form.type form.fill ≡ Ok (encoded, r)
-    → asks_in_part form.chain.bytes_to_bytes form.chain.array_to_bytes ≡ false → (len : ℕ) (places : List ℕ) (ranges : List ByteSpan) → ranges ≡ record { start = 0; end = len } ∷ [] → AreRestedOn (chain_rests f form.chain) form.sizes form.type form.fill len places ranges
+    → asks_in_part form.chain.bytes_to_bytes form.chain.array_to_bytes ≡ false → (len : ℕ) (places : List ℕ) (ranges : List ByteSpan) → ranges ≡ record { start = 0; end = len } ∷ [] → AreRestedOn f form.chain (form_of form.sizes form.type form.fill) len places ranges
 rested_wholly f form encoded r mappings positive taken whole len places ranges are = λ value test long given.
     let all : list_all test (range_with_len 0 (length value)) ≡ true = ap (are_given_sure (Some test)) (sym (chain_wholly f form encoded r mappings positive taken whole value test places)) ∙ given in
     let count : len - 0 ≡ length value = omega (arith, long) in
@@ -106,6 +107,10 @@ refused_by R (Err e) (Err cause) h taken = absurd cc
 
 -- ---- as they stand in the whole value
 
+-- what reads through a chain rest on
+abbrev resting : {B : Type 0} → BytesCodecs B → CodecChain B → Resting
+resting f chain = chain_rests f (plain_chain chain)
+
 moved_within : (at len limit : ℕ) (own : List ByteSpan) → at + len ≤ limit → end_within len own ≡ true → end_within limit (moved_ranges at own) ≡ true
 moved_within at len limit [] l h = refl
 moved_within at len limit (range ∷ own) l h =
@@ -114,25 +119,25 @@ moved_within at len limit (range ∷ own) l h =
     let rest = moved_within at len limit own l (second_true (nat_le range.end len) (end_within len own) h) in
     rw (here, rest) refl
 
-pub adds_ranges : (rests : Resting) (shape : List ℕ) (type : ElementType) (fill : List ℕ) (at len : ℕ) (places : List ℕ) (before own after : List ByteSpan) → AreRestedOn rests shape type fill len places own → end_within len own ≡ true → after ≡ before ++ moved_ranges at own
-    → AddsRanges rests shape type fill at len places before after
-adds_ranges rests shape type fill at len places before own after rested fit are = record {
+pub adds_ranges : {B : Type 0} (f : BytesCodecs B) (chain : CodecChain B) (form : Form) (span : ValueSpan) (runs : List (ℕ × ℕ)) (before own after : List ByteSpan) → AreRestedOn f (plain_chain chain) form span.len (joined_runs runs) own → end_within span.len own ≡ true → after ≡ before ++ moved_ranges span.at own
+    → AddsRanges f chain form span runs before after
+adds_ranges f chain form span runs before own after rested fit are = record {
   inside = λ limit l h.
       ap (end_within limit) are
-      ∙ list_all-append (λ (range : ByteSpan). nat_le range.end limit) before (moved_ranges at own)
-      ∙ and_from (end_within limit before) (end_within limit (moved_ranges at own)) h (moved_within at len limit own l fit);
+      ∙ list_all-append (λ (range : ByteSpan). nat_le range.end limit) before (moved_ranges span.at own)
+      ∙ and_from (end_within limit before) (end_within limit (moved_ranges span.at own)) h (moved_within span.at span.len limit own l fit);
   rested = λ value test long given h.
-      let mine : all_pass test (moved_ranges at own) ≡ true = sym (moved_are_sure at (Some test) own) ∙ rested value (λ number. test (at + number)) long given in
+      let mine : all_pass test (moved_ranges span.at own) ≡ true = sym (moved_are_sure span.at (Some test) own) ∙ rested value (λ number. test (span.at + number)) long given in
       ap (all_pass test) are
-      ∙ ap (list_all test) (flat_map-append _ before (moved_ranges at own))
-      ∙ list_all-append test (range_indices before) (range_indices (moved_ranges at own))
-      ∙ and_from (all_pass test before) (all_pass test (moved_ranges at own)) h mine;
+      ∙ ap (list_all test) (flat_map-append _ before (moved_ranges span.at own))
+      ∙ list_all-append test (range_indices before) (range_indices (moved_ranges span.at own))
+      ∙ and_from (all_pass test before) (all_pass test (moved_ranges span.at own)) h mine;
 }
 
 -- ---- an inner chunk at a span
 
-pub adds_none : (rests : Resting) (shape : List ℕ) (type : ElementType) (fill : List ℕ) (at len : ℕ) (span : Span) (places : List ℕ) (ranges : List ByteSpan) → AddsSpan rests shape type fill at len span places ranges ranges
-adds_none rests shape type fill at len span places ranges = record { inside = λ h. h; rested = λ value test long given h. h }
+pub adds_none : {B : Type 0} (f : BytesCodecs B) (chain : CodecChain B) (form : Form) (span : ValueSpan) (place : Span) (runs : List (ℕ × ℕ)) (ranges : List ByteSpan) → AddsSpan f chain form span place runs ranges ranges
+adds_none f chain form span place runs ranges = record { inside = λ h. h; rested = λ value test long given h. h }
 
 -- ---- where the places of an inner chunk go
 
@@ -148,7 +153,7 @@ module _ {B : Type 0} (f : BytesCodecs B) (form : ChunkForm B) (encoded : List �
   chunk = stored_as f form encoded r mappings positive taken
 
   abbrev Moves : List ℕ → Type 0
-  Moves moved = RestMoved f form.chain form.sizes encoded form.type form.fill places moved
+  Moves moved = RestMoved f form.chain (form_of form.sizes form.type form.fill) encoded places moved
 
   to_moved : Moves (map h.map_is.to places)
   to_moved = λ value test given. ap (are_given_sure (Some test)) (sym (chain_rests_moved (chunk value test) places)) ∙ given
@@ -182,45 +187,50 @@ module _ {B : Type 0} (f : BytesCodecs B) (form : ChunkForm B) (encoded : List �
 
 -- ---- a stored inner chunk of a value
 
-pub adds_span : (rests : Resting) (shape : List ℕ) (type : ElementType) (fill : List ℕ) (span inside : ValueSpan) (place : Span) (places : List ℕ) (before after : List ByteSpan) → is_stored place ≡ true → ok (span_parts inside) ≡ inner_span span place.0 place.1
-    → AddsRanges rests shape type fill inside.at inside.len places before after → AddsSpan rests shape type fill span.at span.len place places before after
-adds_span rests shape type fill span inside place places before after e parts adds =
+pub adds_span : {B : Type 0} (f : BytesCodecs B) (chain : CodecChain B) (form : Form) (span inside : ValueSpan) (place : Span) (runs : List (ℕ × ℕ)) (before after : List ByteSpan) → is_stored place ≡ true → ok (span_parts inside) ≡ inner_span span place.0 place.1
+    → AddsRanges f chain form inside runs before after → AddsSpan f chain form span place runs before after
+adds_span f chain form span inside place runs before after e parts adds =
+    let rests = resting f chain in
     let a = bind_ok (demand (nat_le (place.0 + place.1) span.len) InvalidByteRange) _ (span_parts inside) (sym parts) in
     let fits = from_le_test (place.0 + place.1) span.len (demand_ok (nat_le (place.0 + place.1) span.len) InvalidByteRange a.0 a.1) in
     let same : (span_held span, span.at + place.0, place.1) ≡ span_parts inside = ok_is (span_held span, span.at + place.0, place.1) (span_parts inside) a.2 in
-    let own : AddsRanges rests shape type fill (span.at + place.0) place.1 places before after = subst (λ (p : Option (List ℕ) × ℕ × ℕ). AddsRanges rests shape type fill p.1 p.2 places before after) (sym same) adds in
+    let ends = subst (λ (p : Option (List ℕ) × ℕ × ℕ). (limit : ℕ) → p.1 + p.2 ≤ limit → end_within limit before ≡ true → end_within limit after ≡ true) (sym same) adds.inside in
+    let passes = subst (λ (p : Option (List ℕ) × ℕ × ℕ). (value : List ℕ) (test : ℕ → Bool) → length value ≡ p.2 → are_given_sure (Some (λ number. test (p.1 + number))) (rests form.sizes form.type form.fill (Some value) (joined_runs runs)) ≡ true → all_pass test before ≡ true → all_pass test after ≡ true) (sym same) adds.rested in
     record {
-      inside = own.inside (span.at + span.len) (omega (arith, fits));
+      inside = ends (span.at + span.len) (omega (arith, fits));
       rested = λ value test long given h.
           let within : nat_le (place.0 + place.1) (length value) ≡ true = le_test (place.0 + place.1) (length value) (omega (arith, fits, long)) in
-          let stored : are_given_sure (Some (λ number. test (span.at + number))) (span_rests true rests shape type fill value place places) ≡ true = ap (λ (b : Bool). are_given_sure (Some (λ number. test (span.at + number))) (span_rests b rests shape type fill value place places)) (sym e) ∙ given in
-          let mine = inner_sure rests shape type fill value place places (Some (λ number. test (span.at + number))) within stored in
-          own.rested (spanned_bytes value place) test (spanned_long place.0 place.1 value (from_le_test (place.0 + place.1) (length value) within))
-          ((λ i. are_given_sure (Some (λ number. test (add_assoc span.at place.0 number i))) (rests shape type fill (Some (spanned_bytes value place)) places)) ∙ mine) h;
+          let stored : are_given_sure (Some (λ number. test (span.at + number))) (span_rests true rests form.sizes form.type form.fill value place (joined_runs runs)) ≡ true = ap (λ (b : Bool). are_given_sure (Some (λ number. test (span.at + number))) (span_rests b rests form.sizes form.type form.fill value place (joined_runs runs))) (sym e) ∙ given in
+          let mine = inner_sure rests form.sizes form.type form.fill value place (joined_runs runs) (Some (λ number. test (span.at + number))) within stored in
+          passes (spanned_bytes value place) test (spanned_long place.0 place.1 value (from_le_test (place.0 + place.1) (length value) within))
+          ((λ i. are_given_sure (Some (λ number. test (add_assoc span.at place.0 number i))) (rests form.sizes form.type form.fill (Some (spanned_bytes value place)) (joined_runs runs))) ∙ mine) h;
     }
 
 -- ---- group by group
 
-module _ (rests : Resting) (shape : List ℕ) (type : ElementType) (fill : List ℕ) (at len : ℕ) (spans : List Span) (groups : List InnerRuns) where
+module _ {B : Type 0} (f : BytesCodecs B) (chain : CodecChain B) (form : Form) (span : ValueSpan) (numbers : List ℕ) (groups : List InnerRuns) where
+  abbrev spans : List Span
+  spans = spans_of numbers
+
   abbrev Given : List ℕ → (ℕ → Bool) → List InnerRuns → Type 0
-  Given value test gs = are_given_sure (Some (λ number. test (at + number))) (groups_rest rests shape type fill value spans (map group gs)) ≡ true
+  Given value test gs = are_given_sure (Some (λ number. test (span.at + number))) (groups_rest (resting f chain) form.sizes form.type form.fill value spans (map group gs)) ≡ true
 
   -- the ranges of so many groups
   pub record RangesTo (index : ℕ) (ranges : List ByteSpan) : Type 0 where
-    pub inside : end_within (at + len) ranges ≡ true
-    pub rested : (value : List ℕ) (test : ℕ → Bool) → length value ≡ len → Given value test groups → (all_pass test ranges ≡ true) × Given value test (drop index groups)
+    pub inside : end_within (span.at + span.len) ranges ≡ true
+    pub rested : (value : List ℕ) (test : ℕ → Bool) → length value ≡ span.len → Given value test groups → (all_pass test ranges ≡ true) × Given value test (drop index groups)
 
-  pub ranges_go_on : (index : ℕ) (it : InnerRuns) (before after : List ByteSpan) → drop index groups ≡ it ∷ drop (index + 1) groups → RangesTo index before → AddsSpan rests shape type fill at len (get_or spans it.number (0, 0)) (joined_runs it.runs.items) before after → RangesTo (index + 1) after
+  pub ranges_go_on : (index : ℕ) (it : InnerRuns) (before after : List ByteSpan) → drop index groups ≡ it ∷ drop (index + 1) groups → RangesTo index before → AddsSpan f chain form span (get_or spans it.number (0, 0)) it.runs.items before after → RangesTo (index + 1) after
   ranges_go_on index it before after next walk adds = record {
     inside = adds.inside walk.inside;
     rested = λ value test long given.
         let so_far = walk.rested value test long given in
         let from : Given value test (it ∷ drop (index + 1) groups) = subst (Given value test) next so_far.1 in
-        let parts = first_sure rests shape type fill value spans (group it) (map group (drop (index + 1) groups)) (Some (λ number. test (at + number))) from in
+        let parts = first_sure (resting f chain) form.sizes form.type form.fill value spans (group it) (map group (drop (index + 1) groups)) (Some (λ number. test (span.at + number))) from in
         (adds.rested value test long parts.0 so_far.0, parts.1);
   }
 
-  pub ranges_end : (index : ℕ) (ranges : List ByteSpan) → RangesTo index ranges → AreGroupRanges rests shape type fill at len spans groups ranges
+  pub ranges_end : (index : ℕ) (ranges : List ByteSpan) → RangesTo index ranges → AreGroupRanges f chain form span numbers groups ranges
   ranges_end index ranges walk = record { inside = walk.inside; rested = λ value test long given. (walk.rested value test long given).0 }
 
 -- 64 bits count the places of one of them
@@ -240,7 +250,7 @@ not_held span e = by span.held e
     by None e = refl
     by (Some bytes) e = absurd cc
 
-module _ (rests : Resting) (shape : List ℕ) (type : ElementType) (fill : List ℕ) (span : ValueSpan) (state : StorageState) (stands : StandsIn span state) (free : span_held span ≡ None) (spans : List Span) (groups : List InnerRuns) (ranges : List ByteSpan) (are : AreGroupRanges rests shape type fill span.at span.len spans groups ranges) where
+module _ {B : Type 0} (f : BytesCodecs B) (chain : CodecChain B) (form : Form) (span : ValueSpan) (state : StorageState) (stands : StandsIn span state) (free : span_held span ≡ None) (numbers : List ℕ) (groups : List InnerRuns) (ranges : List ByteSpan) (are : AreGroupRanges f chain form span numbers groups ranges) where
   stands_below : is_span_of span.at span.len state.value ≡ true
   stands_below = ap (λ (h : Option (List ℕ)). is_span_of span.at span.len (held_state h state).value) (sym free) ∙ stands
 
@@ -268,8 +278,8 @@ module _ (rests : Resting) (shape : List ℕ) (type : ElementType) (fill : List 
           let read = read_by state.value stands_below in
           absurd (ok_no_err tt e (sym (ap (seen (λ _. tt)) read.1) ∙ h is))
 
-  sure_by : (sure : Option (ℕ → Bool)) → are_given_sure (option_map (λ p number. p (span.at + number)) sure) (groups_rest rests shape type fill (stands_value span state stands).value spans (map group groups)) ≡ true → are_sure sure (range_indices ranges) ≡ true
-  sure_by None h = absurd (never (groups_rest rests shape type fill (stands_value span state stands).value spans (map group groups)) h)
+  sure_by : (sure : Option (ℕ → Bool)) → are_given_sure (option_map (λ p number. p (span.at + number)) sure) (groups_rest (resting f chain) form.sizes form.type form.fill (stands_value span state stands).value (spans_of numbers) (map group groups)) ≡ true → are_sure sure (range_indices ranges) ≡ true
+  sure_by None h = absurd (never (groups_rest (resting f chain) form.sizes form.type form.fill (stands_value span state stands).value (spans_of numbers) (map group groups)) h)
     where
       never : (r : Result (List ℕ) CodecError) → are_given_sure None r ≡ true → ⊥
       never (Ok numbers) e = cc
@@ -277,9 +287,9 @@ module _ (rests : Resting) (shape : List ℕ) (type : ElementType) (fill : List 
   sure_by (Some p) h = are.rested (stands_value span state stands).value p (stands_value span state stands).long h
 
   -- and no failure, where the bytes are sure that the reads rest on
-  pub ahead_sure : are_given_sure (seen_state span state).sure (stored_groups_rest rests shape type fill (seen_state span state).value spans (map group groups)) ≡ true → ranges_are_sure state ranges ≡ true
+  pub ahead_sure : are_given_sure (seen_state span state).sure (stored_groups_rest (resting f chain) form.sizes form.type form.fill (seen_state span state).value (spans_of numbers) (map group groups)) ≡ true → ranges_are_sure state ranges ≡ true
   ahead_sure h =
       sure_by state.sure
-      (ap (λ (held : Option (List ℕ)). are_given_sure (span_state span.at span.len (held_state held state)).sure (groups_rest rests shape type fill (stands_value span state stands).value spans (map group groups))) (sym free)
-      ∙ ap (λ (v : Option (List ℕ)). are_given_sure (seen_state span state).sure (stored_groups_rest rests shape type fill v spans (map group groups))) (sym (stands_value span state stands).is)
+      (ap (λ (held : Option (List ℕ)). are_given_sure (span_state span.at span.len (held_state held state)).sure (groups_rest (resting f chain) form.sizes form.type form.fill (stands_value span state stands).value (spans_of numbers) (map group groups))) (sym free)
+      ∙ ap (λ (v : Option (List ℕ)). are_given_sure (seen_state span state).sure (stored_groups_rest (resting f chain) form.sizes form.type form.fill v (spans_of numbers) (map group groups))) (sym (stands_value span state stands).is)
       ∙ h)

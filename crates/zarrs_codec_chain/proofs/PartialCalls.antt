@@ -118,9 +118,9 @@ kept_of f chain sizes type fill encoded r maps counted e =
 
 pub bytes_planned : (B : Type 0) {A : Type 0} (view : A → List ByteSpan) (r : Result A CodecError) (codec : ArrayToBytesCodec B) (order : Option Endianness) (sizes : List ℕ) (type : ElementType) (fill places : List ℕ) → codec ≡ Bytes order
     → Answers memory (λ x. range_indices (view x)) r (Ok (place_bytes (place_size type) places)) → IfOk r (λ x. IsElementPlan (place_size type) places (view x))
-    → AnswersBy memory (λ x (_ : Unit {0}). IsCodecPlan {B = B} (plain_codec codec) sizes type fill places (view x)) r no_refusal
+    → AnswersBy memory (λ x (_ : Unit {0}). IsCodecPlan {B = B} (plain_codec codec) (form_of sizes type fill) places (view x)) r no_refusal
 unfolding plain_codec
-bytes_planned B view (Ok x) codec order sizes type fill places is h plan = subst (λ k. IsCodecPlan {B = B} (plain_codec k) sizes type fill places (view x)) (sym is) plan
+bytes_planned B view (Ok x) codec order sizes type fill places is h plan = subst (λ k. IsCodecPlan {B = B} (plain_codec k) (form_of sizes type fill) places (view x)) (sym is) plan
 bytes_planned B view (Err e) codec order sizes type fill places is h plan = λ ne. let never : ⊥ = cc (h ne) in absurd never
 
 plan_from : {L : Type 0} (P Q : L → Type 0) → ((l : L) → P l → Q l) → (r : Result L CodecError) → IsOkAnd r P → IsOkAnd r Q
@@ -129,10 +129,10 @@ plan_from P Q each (Err e) h = absurd h
 
 pub packed_planned : (B : Type 0) {A : Type 0} (view : A → List ByteSpan) (r : Result A CodecError) (codec : ArrayToBytesCodec B) (settings : PackBitsSettings) (sizes : List ℕ) (type : ElementType) (fill : List ℕ) (runs : List (ℕ × ℕ)) → codec ≡ PackBits settings → AreFilled runs → AreApart runs
     → is_ok (packed_layout settings (form_of sizes type fill)) ≡ true → AnswersBy memory (λ x layout. IsPlanOfRuns layout runs (view x)) r (packed_layout settings (form_of sizes type fill))
-    → AnswersBy memory (λ x (_ : Unit {0}). IsCodecPlan {B = B} (plain_codec codec) sizes type fill (joined_runs runs) (view x)) r no_refusal
+    → AnswersBy memory (λ x (_ : Unit {0}). IsCodecPlan {B = B} (plain_codec codec) (form_of sizes type fill) (joined_runs runs) (view x)) r no_refusal
 unfolding plain_codec
 packed_planned B view (Ok x) codec settings sizes type fill runs is filled apart taken h =
-    subst (λ k. IsCodecPlan {B = B} (plain_codec k) sizes type fill (joined_runs runs) (view x)) (sym is)
+    subst (λ k. IsCodecPlan {B = B} (plain_codec k) (form_of sizes type fill) (joined_runs runs) (view x)) (sym is)
     (plan_from (λ l. IsPlanOfRuns l runs (view x)) (λ l. IsPackBitsPlan l (joined_runs runs) (view x)) (λ l p. plan_of_runs l runs (view x) (joined_runs runs) filled apart refl p) (packed_layout settings (form_of sizes type fill)) h)
 packed_planned B view (Err e) codec settings sizes type fill runs is filled apart taken h = λ ne.
     let l = from_ok (packed_layout settings (form_of sizes type fill)) taken in

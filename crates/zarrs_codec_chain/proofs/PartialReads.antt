@@ -36,6 +36,7 @@ use Rattle.zarrs_chain_meaning.proofs.ChainSteps.{is_taken}
 use Rattle.zarrs_chain_meaning.proofs.NestedStages.{arrays_are_map, chained_of}
 use Rattle.zarrs_plain_vlen.proofs.IndexOffsets.{same_answer}
 use Rattle.zarrs_codec_chain.proofs.LawfulPart.{codec_fills, codec_selects}
+use Rattle.zarrs_data_type.specs.Form.{form_of}
 
 -- ---- what is known of a chunk that a chain takes
 
@@ -109,7 +110,7 @@ module _ {B : Type 0} (f : BytesCodecs B) (chain : PlainChain B) (encoded : List
       ∙ ap (λ o. read_below o places) (sym (outer_split f chain.bytes_to_bytes below r value a.0 a.1))
   unchanged stage.Chunk None source places e h = ap (λ x. source_places f chain encoded type fill r x places) (same_source _ _ e) ∙ sym (codec_fills f chain.array_to_bytes encoded type fill r places measured)
   unchanged stage.Chunk (Some value) source places e h =
-      let a = bind_ok (opened_chunk f chain encoded type fill r value) _ source e in
+      let a = bind_ok (opened_chunk f chain (form_of encoded type fill) r value) _ source e in
       let b = bind_ok (outer_bytes f chain.bytes_to_bytes r value) _ a.0 a.1 in
       ap (λ x. source_places f chain encoded type fill r x places) (same_source _ _ a.2)
       ∙ sym (codec_selects f chain.array_to_bytes encoded type fill b.0 r a.0 places has positive measured b.2 h)
@@ -159,7 +160,7 @@ there_at f chain encoded type fill r (stage.Bytes below) (Some value) source e =
     ap is_source_stored (same_source _ _ a.2)
 there_at f chain encoded type fill r stage.Chunk None source e = ap is_source_stored (same_source _ _ e)
 there_at f chain encoded type fill r stage.Chunk (Some value) source e =
-    let a = bind_ok (opened_chunk f chain encoded type fill r value) _ source e in
+    let a = bind_ok (opened_chunk f chain (form_of encoded type fill) r value) _ source e in
     ap is_source_stored (same_source _ _ a.2)
 
 -- something is there just where something is stored

@@ -34,10 +34,9 @@ use Rattle.zarrs_chain_meaning.specs.PlainChain.{PlainChain}
 use Rattle.zarrs_bytes.proofs.Coding.{ok, bind_ok}
 use Rattle.zarrs_chain_meaning.proofs.ArraySteps.{ok_is, ok_no_err}
 use Rattle.zarrs_chain_meaning.proofs.NestedStages.{chained_of}
-use Rattle.zarrs_codec_chain.specs.ChunkRead.{asks_in_part, encoded_places}
-use Rattle.zarrs_codec_chain.specs.KeptIndex.{WhereSureBy, rests_where}
+use Rattle.zarrs_codec_chain.specs.ChunkRead.{asks_in_part, encoded_places, WhereSureBy}
 use Rattle.zarrs_chain_meaning.specs.ChunkForm.{ChunkForm}
-use Rattle.zarrs_codec_chain.specs.CodecPart.{codec_read}
+use Rattle.zarrs_codec_chain.specs.CodecPart.{codec_read, rests_where}
 use Rattle.zarrs_codec_chain.specs.PlaceLaws.{SameMembers}
 use Rattle.zarrs_codec_chain.specs.ChunkSource.{Source, bytes_above, chunk_below, source_places, source_read}
 use Rattle.zarrs_codec_chain.proofs.PartialReads.{IsReadable}

@@ -25,8 +25,8 @@ use Rattle.zarrs_codec.specs.declared.bytes_representation.BytesRepresentation.{
 use Rattle.zarrs_codec_chain.proofs.GroupedReads.{moved_sure, shard_sure, span_sure}
 use Rattle.zarrs_codec_chain.proofs.SpanSeen.{HasValue, IsInside, inside_seen, span_value, stands_value}
 use Rattle.zarrs_codec_chain.specs.ChunkRead.{are_given_sure}
-use Rattle.zarrs_codec_chain.specs.CodecPart.{codec_read, codec_rests_on}
-use Rattle.zarrs_codec_chain.specs.KeptIndex.{IsIndex, codec_spans, rests_behind}
+use Rattle.zarrs_codec_chain.specs.CodecPart.{codec_read, codec_rests_on, rests_behind}
+use Rattle.zarrs_codec_chain.specs.KeptIndex.{IsIndex, codec_spans}
 use Rattle.zarrs_codec_chain.specs.ShardRead.{index_bytes_at, span_read, span_rests, spans_read, spans_rest, shard_rests}
 use Rattle.zarrs_codec_chain.specs.SpanReads.{StandsIn, chain_read, chain_rests, inner_span, seen_state, span_parts, stored_index_bytes, stored_span_read, stored_span_rests, stored_spans}
 use Rattle.zarrs_codec_chain.specs.declared.sharding.value_span.ValueSpan.{ValueSpan}

@@ -10,9 +10,9 @@ use Rattle.zarrs_codec.specs.StorageState.{are_sure, StorageState}
 use Rattle.zarrs_codec.specs.declared.bytes_representation.BytesRepresentation.{BytesRepresentation}
 use Rattle.zarrs_array_to_array.specs.ArrayToArrayCodec.{ArrayMapping}
 use Rattle.zarrs_chain_meaning.specs.Chain.{codec_reads, taken_form}
-use Rattle.zarrs_codec_chain.specs.ChunkRead.{are_given_sure, are_asked_sure, asks_in_part, encoded_places, read_rests_on, reads_surely, WhereSure}
+use Rattle.zarrs_codec_chain.specs.CodecPart.{rests_where}
+use Rattle.zarrs_codec_chain.specs.ChunkRead.{are_given_sure, are_asked_sure, asks_in_part, encoded_places, read_rests_on, reads_surely, WhereSure, WhereSureBy, read_rests_where}
 use Rattle.zarrs_chain_meaning.specs.ChunkForm.{ChunkForm}
-use Rattle.zarrs_codec_chain.specs.KeptIndex.{WhereSureBy, read_rests_where, rests_where}
 use Rattle.zarrs_codec_chain.specs.vlen.VlenPartialDecoder.{CodecForm, CodecWhereSure, codec_reads_surely, codec_selection_rests_on}
 use Rattle.zarrs_bytes.proofs.Coding.{ok}
 use Rattle.zarrs_chain_meaning.proofs.ArraySteps.{error_is}

@@ -27,6 +27,7 @@ use Rattle.zarrs_bytes.proofs.Coding.{ok}
 use Rattle.zarrs_codec_chain.proofs.LawfulPart.{part_laws}
 use Rattle.zarrs_codec_chain.proofs.PartialReads.{take_codecs}
 use Rattle.zarrs_array_to_array.proofs.Stages.{first_false}
+use Rattle.zarrs_data_type.specs.Form.{form_of}
 
 -- a count that 64 bits hold is the number itself
 pub count_so : (n m : ℕ) → ◌≡◌ {A = Result ℕ CodecError} (Ok m) (checked_u64 n) → m ≡ n
@@ -62,17 +63,17 @@ read_of f codec encoded type fill (Err x) places e = refl
 
 -- of a stored value, what a codec that reads no part reads is selected of the whole chunk
 pub whole_places : {B : Type 0} (f : BytesCodecs B) (chain : PlainChain B) (encoded : List ℕ) (type : ElementType) (fill : List ℕ) (r : BytesRepresentation) (value places : List ℕ) → (codec_reads chain.array_to_bytes).partial_decode ≡ false
-    → source_places f chain encoded type fill r (bytes_above (length chain.bytes_to_bytes) (Some value)) places ≡ seen (λ chunk. select chunk places) (opened_chunk f chain encoded type fill r value)
+    → source_places f chain encoded type fill r (bytes_above (length chain.bytes_to_bytes) (Some value)) places ≡ seen (λ chunk. select chunk places) (opened_chunk f chain (form_of encoded type fill) r value)
 whole_places {B} f chain encoded type fill r value places e =
     ap (λ (bs : List B). outer_stored f bs r (Some value) >>= λ below. codec_read f chain.array_to_bytes encoded type fill below places) (take_codecs chain.bytes_to_bytes)
     ∙ read_of f chain.array_to_bytes encoded type fill (outer_bytes f chain.bytes_to_bytes r value) places e
 
 -- the elements at places of a chunk that was read
 pub chunk_at_runs : {B : Type 0} (f : BytesCodecs B) (chain : PlainChain B) (encoded : List ℕ) (type : ElementType) (fill : List ℕ) (r : BytesRepresentation) (value : List ℕ) (held : Held) (places : List ℕ) (count : ℕ) (result : Result Held CodecError)
-    → opened_chunk f chain encoded type fill r value ≡ ok (elements type (product encoded) held) → validity type (product encoded) held ≡ Ok tt → count ≡ product encoded
-    → AnswersBy memory (Holds type) result (chunk_at type count places held) → AnswersBy memory (Holds type) result (seen (λ chunk. select chunk places) (opened_chunk f chain encoded type fill r value))
+    → opened_chunk f chain (form_of encoded type fill) r value ≡ ok (elements type (product encoded) held) → validity type (product encoded) held ≡ Ok tt → count ≡ product encoded
+    → AnswersBy memory (Holds type) result (chunk_at type count places held) → AnswersBy memory (Holds type) result (seen (λ chunk. select chunk places) (opened_chunk f chain (form_of encoded type fill) r value))
 chunk_at_runs f chain encoded type fill r value held places count result opened valid same h =
-    let is : chunk_at type count places held ≡ seen (λ chunk. select chunk places) (opened_chunk f chain encoded type fill r value) = rw (same, valid, opened) refl in
+    let is : chunk_at type count places held ≡ seen (λ chunk. select chunk places) (opened_chunk f chain (form_of encoded type fill) r value) = rw (same, valid, opened) refl in
     subst (λ (x : Result Chunk CodecError). AnswersBy memory (Holds type) result x) is h
 
 -- a call that never fails, as an answer of one that may
@@ -82,12 +83,12 @@ fails_too R (Err e) expected h = λ m. h (first_false (memory e) (fault e) m)
 
 -- what a codec that reads no part reads of what is stored
 pub whole_answer : {B : Type 0} (f : BytesCodecs B) (chain : PlainChain B) (encoded : List ℕ) (type : ElementType) (fill : List ℕ) (r : BytesRepresentation) (stored : Option (List ℕ)) (value places : List ℕ) (result : Result Held CodecError) → (codec_reads chain.array_to_bytes).partial_decode ≡ false
-    → stored ≡ Some value → AnswersBy memory (Holds type) result (seen (λ chunk. select chunk places) (opened_chunk f chain encoded type fill r value))
+    → stored ≡ Some value → AnswersBy memory (Holds type) result (seen (λ chunk. select chunk places) (opened_chunk f chain (form_of encoded type fill) r value))
     → AnswersBy memory_or_fault (Holds type) result (source_places f chain encoded type fill r (bytes_above (length chain.bytes_to_bytes) stored) places)
 whole_answer f chain encoded type fill r stored value places result whole is h =
-    let same : source_places f chain encoded type fill r (bytes_above (length chain.bytes_to_bytes) stored) places ≡ seen (λ chunk. select chunk places) (opened_chunk f chain encoded type fill r value)
+    let same : source_places f chain encoded type fill r (bytes_above (length chain.bytes_to_bytes) stored) places ≡ seen (λ chunk. select chunk places) (opened_chunk f chain (form_of encoded type fill) r value)
     = ap (λ (s : Option (List ℕ)). source_places f chain encoded type fill r (bytes_above (length chain.bytes_to_bytes) s) places) is ∙ whole_places f chain encoded type fill r value places whole in
-    subst (λ (x : Result Chunk CodecError). AnswersBy memory_or_fault (Holds type) result x) (sym same) (fails_too (Holds type) result (seen (λ chunk. select chunk places) (opened_chunk f chain encoded type fill r value)) h)
+    subst (λ (x : Result Chunk CodecError). AnswersBy memory_or_fault (Holds type) result x) (sym same) (fails_too (Holds type) result (seen (λ chunk. select chunk places) (opened_chunk f chain (form_of encoded type fill) r value)) h)
 
 -- where nothing is stored, it reads fill elements
 pub none_answer : {B : Type 0} (f : BytesCodecs B) (chain : PlainChain B) (encoded : List ℕ) (type : ElementType) (fill : List ℕ) (r : BytesRepresentation) (stored : Option (List ℕ)) (places : List ℕ) (result : Result Held CodecError) → (codec_reads chain.array_to_bytes).partial_decode ≡ false

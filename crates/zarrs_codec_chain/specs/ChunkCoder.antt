@@ -7,9 +7,10 @@ use Rattle.zarrs_chunk.specs.Region.{Region}
 use Rattle.zarrs_chunk.specs.declared.indexer.Indexer.{Indexer}
 use Rattle.zarrs_chain.specs.ChainView.{plain_chain}
 use Rattle.zarrs_codec.specs.BytesToBytesCodec.{BytesCodecs}
-use Rattle.zarrs_codec_chain.specs.ChunkRead.{asks_in_part, form_in_place, form_places, standing_places}
+use Rattle.zarrs_codec_chain.specs.CodecPart.{rests_where}
+use Rattle.zarrs_codec_chain.specs.ChunkRead.{asks_in_part, form_in_place, form_places, standing_places, WhereSureBy}
 use Rattle.zarrs_chain_meaning.specs.ChunkForm.{ChunkForm}
-use Rattle.zarrs_codec_chain.specs.KeptIndex.{IsIndexOf, WhereSureBy, asks_index, knows_index, keeps_nothing, rests_where}
+use Rattle.zarrs_codec_chain.specs.KeptIndex.{IsIndexOf, asks_index, knows_index, keeps_nothing}
 use Rattle.zarrs_codec_chain.specs.ChunkSource.{Source, is_cache, kept_stage, source_made_at, source_of, bytes_above, opened_chunk, source_places, source_read}
 use Rattle.zarrs_codec_chain.specs.declared.chunk_coder.ChunkCoder.{ChunkCoder}
 use Rattle.zarrs_chunk.specs.Answer.{AnswersBy, GivesBy, memory, memory_or_fault, seen, is_fault}
@@ -17,6 +18,7 @@ use Rattle.zarrs_chunk.specs.Runs.{EndWithin, joined_runs}
 use Rattle.zarrs_chunk.specs.Selection.{Selection, bounds_of}
 use Rattle.zarrs_chunk.specs.declared.codec_error.CodecError.{CodecError}
 use Rattle.zarrs_data_type.specs.Element.{Chunk}
+use Rattle.zarrs_data_type.specs.Form.{form_of}
 use Rattle.zarrs_data_type.specs.declared.endianness.Endianness.{Endianness}
 use Rattle.zarrs_array_bytes.specs.Elements.{select}
 use Rattle.zarrs_array_bytes.specs.Held.{Held}
@@ -104,7 +106,7 @@ ReadsStored f coder before runs result = ReadsSource f coder (stored_source code
 -- a container of the elements at the places of these runs, of the chunk that a value stands for; or the first error
 abbrev pub GivesOpened : {B : Type 0} {b : _} → BytesCodecs B → ChunkCoder B b → List ℕ → List (ℕ × ℕ) → Result Held CodecError → Type 0
 GivesOpened f coder value runs result =
-    GivesBy (Holds coder.data_type) result (seen (λ chunk. select chunk (joined_runs runs)) (opened_chunk f (plain_chain coder.chain.now) coder.encoded coder.data_type coder.fill_value coder.representation value))
+    GivesBy (Holds coder.data_type) result (seen (λ chunk. select chunk (joined_runs runs)) (opened_chunk f (plain_chain coder.chain.now) (form_of coder.encoded coder.data_type coder.fill_value) coder.representation value))
 
 -- no failure of the handle comes where a read asks for a part of the value alone and the bytes are sure that it rests on, with a shard's index at hand or without
 abbrev pub SureSourceBy : {B T : Type 0} {b : _} → Bool → ChunkCoder B b → StorageState → List (ℕ × ℕ) → Result T CodecError → Type 0

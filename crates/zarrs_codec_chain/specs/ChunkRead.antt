@@ -1,6 +1,6 @@
 -- What a read in part answers through a chain.
 -- Source: zarrs, `ArrayPartialDecoderTraits`.
-use Rattle.zarrs_chain_meaning.specs.CodecMeaning.{ChainStands, codec_representation}
+use Rattle.zarrs_chain_meaning.specs.CodecMeaning.{ChainStands, codec_chunk, codec_representation}
 use Rattle.zarrs_array_bytes.specs.Validity.{Holds}
 use Rattle.zarrs_array_bytes.specs.Held.{Held}
 use Rattle.zarrs_data_type.specs.Form.{form_of, Form}
@@ -29,7 +29,7 @@ use Rattle.zarrs_chunk.specs.Runs.{joined_runs}
 use Rattle.zarrs_codec.specs.declared.capabilities.PartialDecoderCapability.{PartialDecoderCapability}
 use Rattle.zarrs_chain.specs.ChainView.{plain_chain}
 use Rattle.zarrs_chain.specs.declared.codec_chain.CodecChain.{CodecChain}
-use Rattle.zarrs_codec_chain.specs.CodecPart.{codec_read, codec_plans, order_in_place, IsCodecPlan, codec_rests_on}
+use Rattle.zarrs_codec_chain.specs.CodecPart.{codec_read, codec_plans, order_in_place, IsCodecPlan, codec_rests_on, rests_where}
 use Rattle.zarrs_chain_meaning.specs.ChunkForm.{ChunkForm}
 
 -- ---- chains
@@ -93,7 +93,7 @@ planned_places form selection =
 abbrev pub IsReadPlan : {B : Type 0} → BytesCodecs B → ChunkForm B → Option (List ByteSpan) → Option (List ℕ) → Type 0
 IsReadPlan f form None None = Unit {0}
 IsReadPlan f form (Some ranges) (Some places) =
-    IsOkAnd (taken_form f form.chain form.sizes form.type form.fill) (λ taken. IsCodecPlan form.chain.array_to_bytes taken.0 form.type form.fill places ranges)
+    IsOkAnd (taken_form f form.chain form.sizes form.type form.fill) (λ taken. IsCodecPlan form.chain.array_to_bytes (form_of taken.0 form.type form.fill) places ranges)
 IsReadPlan f form _ _ = ⊥
 
 -- the same of ranges as a call gives them
@@ -107,18 +107,26 @@ abbrev pub asks_in_part : {B : Type 0} → List B → PlainCodec B → Bool
 asks_in_part [] codec = (codec_reads codec).partial_decode
 asks_in_part (first ∷ rest) codec = false
 
--- the numbers of the bytes that a read asks for, of what is stored, where it asks for a part alone; or the first error
-abbrev pub read_rests_on : {B : Type 0} → BytesCodecs B → ChunkForm B → Option (List ℕ) → Selection → Result (Option (List ℕ)) CodecError
-read_rests_on f form stored selection = do
+-- the numbers of the bytes that a read asks for, of what is stored, where it asks for a part alone and a shard's index is known, or isn't; or the first error
+abbrev pub read_rests_where : {B : Type 0} → Bool → BytesCodecs B → ChunkForm B → Option (List ℕ) → Selection → Result (Option (List ℕ)) CodecError
+read_rests_where known f form stored selection = do
   places ← encoded_places form.type form.chain.array_to_array form.sizes selection
   taken ← taken_form f form.chain form.sizes form.type form.fill
-  numbers ← codec_rests_on f form.chain.array_to_bytes taken.0 form.type form.fill stored places
+  numbers ← rests_where known f form.chain.array_to_bytes taken.0 form.type form.fill stored places
   Ok (if asks_in_part form.chain.bytes_to_bytes form.chain.array_to_bytes then Some numbers else None)
 
--- P, where a read asks for a part of the value alone and the bytes that it rests on are sure
+-- P, where a read asks for a part of the value alone and these bytes are sure
+abbrev pub WhereSureBy : {B : Type 0} → Bool → BytesCodecs B → ChunkForm B → StorageState → Selection → Type 0 → Type 0
+WhereSureBy known f form before selection P =
+    IfOk (read_rests_where known f form before.value selection) (λ asked. IfSome asked (λ numbers. are_sure before.sure numbers ≡ true → P))
+
+-- the numbers of the bytes where no index is known
+abbrev pub read_rests_on : {B : Type 0} → BytesCodecs B → ChunkForm B → Option (List ℕ) → Selection → Result (Option (List ℕ)) CodecError
+read_rests_on f form stored selection = read_rests_where false f form stored selection
+
+-- P, where these are sure
 abbrev pub WhereSure : {B : Type 0} → BytesCodecs B → ChunkForm B → StorageState → Selection → Type 0 → Type 0
-WhereSure f form before selection P =
-    IfOk (read_rests_on f form before.value selection) (λ asked. IfSome asked (λ numbers. are_sure before.sure numbers ≡ true → P))
+WhereSure f form before selection P = WhereSureBy false f form before selection P
 
 -- the bytes are sure that a read rests on, where it asks for a part of the value alone
 abbrev pub are_asked_sure : Option (ℕ → Bool) → Result (Option (List ℕ)) CodecError → Bool
@@ -165,10 +173,28 @@ HasChunkForm view chain sizes type fill result = IfOk result (λ it. view it ≡
 abbrev pub TakenBy : {B : Type 0} → BytesCodecs B → PlainCodec B → Form → Type 0
 TakenBy f codec form = is_ok (codec_representation f codec form.sizes form.type form.fill) ≡ true
 
--- the same of what a handle keeps, which may fail
+-- the shape of the chunk that the chain's array-to-bytes codec gets, and how many bytes its values have; or the first error
+abbrev pub form_taken : {B : Type 0} → BytesCodecs B → CodecChain B → Form → Result (List ℕ × BytesRepresentation) CodecError
+form_taken f chain form = taken_form f (plain_chain chain) form.sizes form.type form.fill
+
+-- a container of the elements at the places of these runs is given, by these bytes, or by none; or the first error
+abbrev pub GivesRuns : {B : Type 0} → BytesCodecs B → PlainCodec B → Form → Option (List ℕ) → List (ℕ × ℕ) → Result Held CodecError → Type 0
+GivesRuns f codec form stored runs result =
+    GivesBy (Holds form.type) result (codec_read f codec form.sizes form.type form.fill stored (joined_runs runs))
+
+-- the same, of the chunk that a value stands for
+abbrev pub GivesRunsOf : {B : Type 0} → BytesCodecs B → PlainCodec B → Form → List ℕ → List (ℕ × ℕ) → Result Held CodecError → Type 0
+GivesRunsOf f codec form value runs result =
+    GivesBy (Holds form.type) result (seen (λ chunk. select chunk (joined_runs runs)) (codec_chunk f codec form.sizes form.type form.fill value))
+
+-- a container is given of what a read of places answers, or the first error; lack of memory or a failure of the handle may come in its place
+abbrev pub AnswersRuns : ElementType → Result Chunk CodecError → Result Held CodecError → Type 0
+AnswersRuns type expected result = AnswersBy memory_or_fault (Holds type) result expected
+
+-- such a container of the elements at the places of these runs, of what a handle keeps
 abbrev pub ChunkReadsRuns : {B : Type 0} → BytesCodecs B → PlainCodec B → Form → StorageState → List (ℕ × ℕ) → Result Held CodecError → Type 0
 ChunkReadsRuns f codec form before runs result =
-    AnswersBy memory_or_fault (Holds form.type) result (codec_read f codec form.sizes form.type form.fill before.value (joined_runs runs))
+    AnswersRuns form.type (codec_read f codec form.sizes form.type form.fill before.value (joined_runs runs)) result
 
 -- no failure of the handle comes where the bytes are sure that a read of these runs rests on
 abbrev pub SureRuns : {B T : Type 0} → BytesCodecs B → PlainCodec B → Form → StorageState → List (ℕ × ℕ) → Result T CodecError → Type 0

@@ -27,7 +27,7 @@ use Rattle.zarrs_codec_chain.specs.declared.partial_decoder.cache.Cache.TheVaria
 use Rattle.zarrs_codec_chain.specs.declared.partial_decoder.cache.CacheStage.{CacheStage}
 use Rattle.zarrs_codec_chain.specs.declared.partial_decoder.cache.CacheStage.TheVariants as stage
 use Rattle.zarrs_chunk.specs.ChunkShape.{product}
-use Rattle.zarrs_data_type.specs.Form.{Form}
+use Rattle.zarrs_data_type.specs.Form.{Form, form_of}
 use Rattle.zarrs_chain.specs.ChainView.{plain_chain}
 use Rattle.zarrs_chain.specs.declared.codec_chain.CodecChain.{CodecChain}
 
@@ -89,8 +89,8 @@ stage_fits reads codecs (stage.Bytes below) = reads.partial_decode && nat_le bel
 stage_fits reads codecs stage.Chunk = true
 
 -- the chunk that the array-to-bytes codec reads of a value, or the first error
-abbrev pub opened_chunk : {B : Type 0} → BytesCodecs B → PlainChain B → List ℕ → ElementType → List ℕ → BytesRepresentation → List ℕ → Result Chunk CodecError
-opened_chunk f chain encoded type fill r value = outer_bytes f chain.bytes_to_bytes r value >>= codec_chunk f chain.array_to_bytes encoded type fill
+abbrev pub opened_chunk : {B : Type 0} → BytesCodecs B → PlainChain B → Form → BytesRepresentation → List ℕ → Result Chunk CodecError
+opened_chunk f chain form r value = outer_bytes f chain.bytes_to_bytes r value >>= codec_chunk f chain.array_to_bytes form.sizes form.type form.fill
 
 -- the bytes of a value above so many of the first bytes-to-bytes codecs, or the error of what decodes them
 abbrev pub upper_bytes : {B : Type 0} → BytesCodecs B → List B → ℕ → BytesRepresentation → List ℕ → Result (List ℕ) CodecError
@@ -105,7 +105,7 @@ source_at f chain encoded type fill r (stage.Bytes below) (Some value) = do
   Ok (bytes_above below (Some bytes))
 source_at f chain encoded type fill r stage.Chunk None = Ok (chunk_below None)
 source_at f chain encoded type fill r stage.Chunk (Some value) = do
-  chunk ← opened_chunk f chain encoded type fill r value
+  chunk ← opened_chunk f chain (form_of encoded type fill) r value
   Ok (chunk_below (Some chunk))
 
 -- What answers rest on that is made of what is stored, where the cache stands here; or the first error: the chain's representation, and then what decodes the value up to the cache.
@@ -153,10 +153,9 @@ is_source_stored (chunk_below chunk) = is_some chunk
 
 -- the handle is left alone
 abbrev pub is_cache : Cache → Bool
-is_cache kept.Handle = false
-is_cache (kept.Index index) = false
 is_cache (kept.Bytes below value) = true
 is_cache (kept.Chunk held) = true
+is_cache _ = false
 
 -- how many bytes are kept in memory: the cache's alone, or else the handle's and those of a shard's index, 8 for each of its numbers
 abbrev pub held_by : ℕ → Cache → ℕ

@@ -18,7 +18,7 @@ use Rattle.zarrs_codec_chain.specs.PartRead.{PlaceReader, whole_read, AnswersEac
 use Rattle.zarrs_codec_chain.specs.PlaceLaws.{Resting, read_through, rests_through, whole_rests}
 use Rattle.zarrs_codec_chain.specs.ShardRead.{index_bytes_in, shard_count, shard_read, shard_rests, shard_rests_behind, spans_in}
 use Rattle.zarrs_data_type.specs.ElementType.{ElementType}
-use Rattle.zarrs_data_type.specs.Form.{form_of}
+use Rattle.zarrs_data_type.specs.Form.{Form, form_of}
 use Rattle.zarrs_data_type.specs.declared.endianness.Endianness.{Endianness}
 use Rattle.zarrs_packbits.specs.CountLaws.{read_count_of}
 use Rattle.zarrs_packbits.specs.PackBitsSettings.{packed_layout, PackBitsSettings}
@@ -63,28 +63,23 @@ whole_part m = record {
 
 -- The places' bytes, whatever is stored. The ranges are these and no others: each is the bytes of one run of places, none of them empty, and no run starts where the one before it ends; their lengths sum to the elements' bytes.
 abbrev pub bytes_part : {B : Type 0} → Option Endianness → Part B
-bytes_part order = record {
+bytes_part order = record (whole_part (meaning (bytes_codec order))) {
   read = λ f sizes. read_places order;
   counted = λ f sizes. read_count order;
   rests_on = λ f sizes type fill stored places. Ok (place_bytes (place_size type) places);
   plans = true;
   IsPlanned = λ sizes type fill places ranges. IsElementPlan (place_size type) places ranges;
   in_place = Some order;
-  depth = 0;
-  indexed = None;
 }
 
 -- The bytes that have bits of the places, whatever is stored; the ranges likewise.
 abbrev pub packbits_part : {B : Type 0} → PackBitsSettings → Part B
-packbits_part settings = record {
+packbits_part settings = record (whole_part (meaning (packbits_codec settings))) {
   read = λ f sizes type fill stored places. read_places_of settings (form_of sizes type fill) stored places;
   counted = λ f sizes type fill. read_count_of settings (form_of sizes type fill);
   rests_on = λ f sizes type fill stored places. bytes_of_places settings (form_of sizes type fill) places;
   plans = true;
   IsPlanned = λ sizes type fill places ranges. IsOkAnd (packed_layout settings (form_of sizes type fill)) (λ layout. IsPackBitsPlan layout places ranges);
-  in_place = None;
-  depth = 0;
-  indexed = None;
 }
 
 -- ---- vlen
@@ -102,13 +97,10 @@ vlen_part (Some form) m = record (whole_part m) {
 
 -- of `sharding_indexed`, whose inner chain has these array-to-array codecs, this array-to-bytes codec by what it means and does in part, and these bytes-to-bytes codecs, and whose index chain means this: the index, and what is read of the inner chunks; where these stand, the index says, so nothing is planned
 abbrev pub shard_part : {B : Type 0} → List ArrayMapping → Meaning B → Part B → List B → (index : Meaning B) → List ℕ → Bool → Part B
-shard_part arrays m p outer index shape at_end = record {
+shard_part arrays m p outer index shape at_end = record (whole_part m) {
   read = λ f. shard_read shape at_end (index.representation f) (index.chunk f) (read_through f arrays (m.representation f) (p.read f) outer);
   counted = λ f. shard_count shape at_end (index.representation f) (index.chunk f) (read_through f arrays (m.representation f) (p.read f) outer);
   rests_on = λ f. shard_rests shape at_end (index.representation f) (index.chunk f) (rests_through arrays (p.rests_on f) outer);
-  plans = false;
-  IsPlanned = λ sizes type fill places ranges. ⊥;
-  in_place = None;
   depth = suc p.depth;
   indexed = Some (record {
     spans = λ f. spans_in shape at_end (index.representation f) (index.chunk f);
@@ -136,13 +128,27 @@ codec_read f codec = (part_of codec).read f
 abbrev pub codec_rests_on : {B : Type 0} → BytesCodecs B → PlainCodec B → Resting
 codec_rests_on f codec = (part_of codec).rests_on f
 
+-- what a read rests on behind the index; all of it where values have none
+abbrev pub rests_with : {B : Type 0} → Option (IndexPart B) → BytesCodecs B → Resting → Resting
+rests_with None f rests sizes type fill stored places = rests sizes type fill stored places
+rests_with (Some index) f rests sizes type fill stored places = index.rests_behind f sizes type fill stored places
+
+-- the same of a codec: of `sharding_indexed` what the inner reads rest on
+abbrev pub rests_behind : {B : Type 0} → BytesCodecs B → PlainCodec B → Resting
+rests_behind f codec sizes type fill stored places = rests_with (part_of codec).indexed f (codec_rests_on f codec) sizes type fill stored places
+
+-- what a read rests on where the index is known, or isn't
+abbrev pub rests_where : {B : Type 0} → Bool → BytesCodecs B → PlainCodec B → Resting
+rests_where false f codec sizes type fill stored places = codec_rests_on f codec sizes type fill stored places
+rests_where true f codec sizes type fill stored places = rests_behind f codec sizes type fill stored places
+
 -- whether the bytes of a place are known before anything is read
 abbrev pub codec_plans : {B : Type 0} → PlainCodec B → Bool
 codec_plans codec = (part_of codec).plans
 
--- the ranges are a plan of a read of these places
-abbrev pub IsCodecPlan : {B : Type 0} → PlainCodec B → List ℕ → ElementType → List ℕ → List ℕ → List ByteSpan → Type 0
-IsCodecPlan codec = (part_of codec).IsPlanned
+-- the ranges are a plan of a read of these places, of a chunk of this form
+abbrev pub IsCodecPlan : {B : Type 0} → PlainCodec B → Form → List ℕ → List ByteSpan → Type 0
+IsCodecPlan codec form = (part_of codec).IsPlanned form.sizes form.type form.fill
 
 -- how many shards stand in one another: none, but where the codec is `sharding_indexed`
 abbrev pub shard_depth : {B : Type 0} → PlainCodec B → ℕ

@@ -1,18 +1,14 @@
 -- The index of a shard that a decoder keeps: what it is of what is stored, and what a read by it rests on.
-use Rattle.std.specs.Prelude.{◌≡◌, ℕ, ◌*◌, Bool, true, false, if◌then◌else◌, Option, Some, None, IfSome, IfOk, List, [], ◌∷◌, length, Result, Ok, is_some, option_map}
+use Rattle.std.specs.Prelude.{◌≡◌, ℕ, ◌*◌, Bool, true, false, Option, Some, None, IfSome, List, [], ◌∷◌, length, Result, Ok, is_some, option_map}
 use Rattle.std.proofs.Props.{props}
 use Rattle.zarrs_chunk.specs.Answer.{◌>>=◌}
-use Rattle.zarrs_chunk.specs.Selection.{Selection}
 use Rattle.zarrs_chunk.specs.declared.codec_error.CodecError.{CodecError}
 use Rattle.zarrs_codec.specs.BytesToBytesCodec.{BytesCodecs}
-use Rattle.zarrs_codec.specs.StorageState.{are_sure, StorageState}
 use Rattle.zarrs_chain_meaning.specs.Chain.{taken_form}
 use Rattle.zarrs_chain_meaning.specs.ChunkForm.{ChunkForm}
 use Rattle.zarrs_chain_meaning.specs.PlainChain.{PlainChain, PlainCodec}
 use Rattle.zarrs_chain_meaning.specs.sharding.Sharding.{Span, spans_of}
-use Rattle.zarrs_codec_chain.specs.ChunkRead.{asks_in_part, encoded_places}
-use Rattle.zarrs_codec_chain.specs.CodecPart.{IndexPart, codec_rests_on, part_of}
-use Rattle.zarrs_codec_chain.specs.PlaceLaws.{Resting}
+use Rattle.zarrs_codec_chain.specs.CodecPart.{IndexPart, part_of}
 use Rattle.zarrs_codec_chain.specs.declared.partial_decoder.cache.Cache.{Cache}
 use Rattle.zarrs_codec_chain.specs.declared.partial_decoder.cache.Cache.TheVariants as kept
 use Rattle.zarrs_codec_chain.specs.declared.sharding.shard_index.ShardIndex.{ShardIndex}
@@ -68,17 +64,13 @@ index_seen index = (index.len, spans_of index.numbers.items)
 
 -- a shard's index is kept
 abbrev pub knows_index : Cache → Bool
-knows_index kept.Handle = false
 knows_index (kept.Index index) = true
-knows_index (kept.Bytes below value) = false
-knows_index (kept.Chunk held) = false
+knows_index _ = false
 
 -- nothing is kept
 abbrev pub keeps_nothing : Cache → Bool
 keeps_nothing kept.Handle = true
-keeps_nothing (kept.Index index) = false
-keeps_nothing (kept.Bytes below value) = false
-keeps_nothing (kept.Chunk held) = false
+keeps_nothing _ = false
 
 -- an index that is kept is that of what is stored, of a chunk that the array-to-bytes codec gets
 abbrev pub IsIndexOf : {B : Type 0} → BytesCodecs B → PlainChain B → List ℕ → Option (List ℕ) → Cache → Type 0
@@ -98,32 +90,3 @@ IsIndexOf-prop f chain sizes stored (kept.Chunk held) = hlevel props
 abbrev pub index_held : Option (ℕ × List Span) → ℕ
 index_held None = 0
 index_held (Some index) = 16 * length index.1
-
--- ---- what a read by it rests on
-
--- what a read rests on behind the index; all of it where values have none
-abbrev pub rests_with : {B : Type 0} → Option (IndexPart B) → BytesCodecs B → Resting → Resting
-rests_with None f rests sizes type fill stored places = rests sizes type fill stored places
-rests_with (Some index) f rests sizes type fill stored places = index.rests_behind f sizes type fill stored places
-
--- the same of a codec: of `sharding_indexed` what the inner reads rest on
-abbrev pub rests_behind : {B : Type 0} → BytesCodecs B → PlainCodec B → Resting
-rests_behind f codec sizes type fill stored places = rests_with (part_of codec).indexed f (codec_rests_on f codec) sizes type fill stored places
-
--- what a read rests on where the index is known, or isn't
-abbrev pub rests_where : {B : Type 0} → Bool → BytesCodecs B → PlainCodec B → Resting
-rests_where false f codec sizes type fill stored places = codec_rests_on f codec sizes type fill stored places
-rests_where true f codec sizes type fill stored places = rests_behind f codec sizes type fill stored places
-
--- the numbers of these bytes of what is stored, where a read asks for a part alone; or the first error
-abbrev pub read_rests_where : {B : Type 0} → Bool → BytesCodecs B → ChunkForm B → Option (List ℕ) → Selection → Result (Option (List ℕ)) CodecError
-read_rests_where known f form stored selection = do
-  places ← encoded_places form.type form.chain.array_to_array form.sizes selection
-  taken ← taken_form f form.chain form.sizes form.type form.fill
-  numbers ← rests_where known f form.chain.array_to_bytes taken.0 form.type form.fill stored places
-  Ok (if asks_in_part form.chain.bytes_to_bytes form.chain.array_to_bytes then Some numbers else None)
-
--- P, where a read asks for a part of the value alone and these bytes are sure
-abbrev pub WhereSureBy : {B : Type 0} → Bool → BytesCodecs B → ChunkForm B → StorageState → Selection → Type 0 → Type 0
-WhereSureBy known f form before selection P =
-    IfOk (read_rests_where known f form before.value selection) (λ asked. IfSome asked (λ numbers. are_sure before.sure numbers ≡ true → P))

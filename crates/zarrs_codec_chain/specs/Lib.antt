@@ -4,7 +4,6 @@ pub mod CachePlace
 pub mod PartRead
 pub mod CodecPart
 pub mod ChunkRead
-pub mod CodecRead
 pub mod ChunkSource
 pub mod CacheTight
 pub mod SizeLaws

@@ -8,8 +8,8 @@ use Rattle.zarrs_codec.specs.BytesToBytesCodec.{BytesCodecs}
 use Rattle.zarrs_codec.specs.StorageState.{StorageState, after_reading}
 use Rattle.zarrs_codec.specs.declared.refused.Refused.{Refused}
 use Rattle.zarrs_codec_chain.specs.ChunkCoder.{coder_form, coder_keeps_nothing, coder_knows_index, coder_wants_index, reader_source}
-use Rattle.zarrs_codec_chain.specs.ChunkRead.{reads_surely, stored_read}
-use Rattle.zarrs_codec_chain.specs.KeptIndex.{WhereSureBy, asks_index, form_index, index_held}
+use Rattle.zarrs_codec_chain.specs.ChunkRead.{reads_surely, stored_read, WhereSureBy}
+use Rattle.zarrs_codec_chain.specs.KeptIndex.{asks_index, form_index, index_held}
 use Rattle.zarrs_chain_meaning.specs.ChunkForm.{ChunkForm}
 use Rattle.zarrs_codec_chain.specs.ChunkSource.{Source, held_by, is_cache, IsSizeOf, source_made}
 use Rattle.zarrs_codec_chain.specs.declared.partial_decoder.array_partial_decoder.ArrayPartialDecoder.{ArrayPartialDecoder}

@@ -1,8 +1,8 @@
 -- What reads give of a value that stands in a span: of what a handle keeps, or of bytes in memory.
-use Rattle.std.specs.Prelude.{◌≡◌, ℕ, ◌+◌, ◌-◌, ◌<◌, ◌^◌, if◌then◌else◌, nat_le, Bool, true, false, Option, Some, None, IfOk, List, [], ◌∷◌, length, Vec, Result, Ok, option_map}
+use Rattle.std.specs.Prelude.{◌≡◌, ℕ, ◌+◌, ◌-◌, ◌<◌, ◌^◌, if◌then◌else◌, nat_le, Bool, true, false, Option, Some, None, IfOk, List, [], ◌∷◌, length, Vec, Result, Ok, map, option_map}
 use Rattle.std.specs.List.{All, flat_map}
 use Rattle.std.specs.declared.alloc.Global.{Global}
-use Rattle.zarrs_chunk.specs.Answer.{◌>>=◌, Answers, AnswersBy, GivesBy, demand, is_fault, memory_or_fault}
+use Rattle.zarrs_chunk.specs.Answer.{◌>>=◌, Answers, GivesBy, demand, is_fault, memory_or_fault}
 use Rattle.zarrs_chunk.specs.ChunkShape.{product}
 use Rattle.zarrs_chunk.specs.Runs.{AreFilled, EndWithin, joined_runs}
 use Rattle.zarrs_chunk.specs.declared.codec_error.CodecError.TheVariants.{InvalidBytesLength, InvalidByteRange}
@@ -13,7 +13,6 @@ use Rattle.zarrs_array_bytes.specs.Validity.{Holds}
 use Rattle.zarrs_chain.specs.ChainView.{plain_chain}
 use Rattle.zarrs_chain.specs.declared.codec_chain.CodecChain.{CodecChain}
 use Rattle.zarrs_chain.specs.sharding.ShardingCalls.{index_size_of}
-use Rattle.zarrs_chain_meaning.specs.Chain.{taken_form}
 use Rattle.zarrs_chain_meaning.specs.CodecMeaning.{meaning, chain_chunk, chain_representation, codec_representation}
 use Rattle.zarrs_chain_meaning.specs.PlainChain.{PlainChain}
 use Rattle.zarrs_chain_meaning.specs.sharding.InnerChunks.{grid}
@@ -21,7 +20,7 @@ use Rattle.zarrs_chain_meaning.specs.sharding.Sharding.{Span, is_stored, spans_o
 use Rattle.zarrs_codec.specs.BytesToBytesCodec.{BytesCodecs}
 use Rattle.zarrs_codec.specs.StorageState.{StorageState, are_sure}
 use Rattle.zarrs_codec.specs.declared.bytes_representation.BytesRepresentation.{BytesRepresentation}
-use Rattle.zarrs_codec_chain.specs.ChunkRead.{are_given_sure}
+use Rattle.zarrs_codec_chain.specs.ChunkRead.{AnswersRuns, are_given_sure, form_taken}
 use Rattle.zarrs_codec_chain.specs.ChunkSource.{bytes_above, source_places}
 use Rattle.zarrs_codec_chain.specs.CodecPart.{codec_read, codec_rests_on}
 use Rattle.zarrs_codec_chain.specs.PartRead.{PlaceReader}
@@ -30,8 +29,9 @@ use Rattle.zarrs_codec_chain.specs.ShardRead.{spans_in, span_read, groups_read, 
 use Rattle.zarrs_codec_chain.specs.declared.sharding.value_span.ValueSpan.{ValueSpan}
 use Rattle.zarrs_data_type.specs.Element.{Chunk}
 use Rattle.zarrs_data_type.specs.ElementType.{ElementType}
+use Rattle.zarrs_data_type.specs.Form.{Form}
 use Rattle.zarrs_lent_handles.specs.SpanHandle.{is_span_of, span_state}
-use Rattle.zarrs_shard_runs.specs.GroupedRuns.{order_places}
+use Rattle.zarrs_shard_runs.specs.GroupedRuns.{group, order_places}
 use Rattle.zarrs_shard_runs.specs.declared.grouped_runs.InnerRuns.{InnerRuns}
 
 -- ---- spans
@@ -143,25 +143,57 @@ outer_rests (codec ∷ codecs) rests = whole_rests
 abbrev pub moved_rests : {B : Type 0} → BytesCodecs B → PlainChain B → Resting
 moved_rests f chain = outer_rests chain.bytes_to_bytes (codec_rests_on f chain.array_to_bytes)
 
--- the chain takes such chunks, and its array-to-bytes codec gets chunks of this shape, whose values have so many bytes
-abbrev pub TakesForm : {B : Type 0} → BytesCodecs B → CodecChain B → List ℕ → ElementType → List ℕ → List ℕ → BytesRepresentation → Type 0
-TakesForm f chain sizes type fill encoded r = taken_form f (plain_chain chain) sizes type fill ≡ Ok (encoded, r)
+-- the chain takes chunks of this form, and its array-to-bytes codec gets chunks of this shape, whose values have so many bytes
+abbrev pub TakesForm : {B : Type 0} → BytesCodecs B → CodecChain B → Form → List ℕ → BytesRepresentation → Type 0
+TakesForm f chain form encoded r = form_taken f chain form ≡ Ok (encoded, r)
 
--- the chain's array-to-bytes codec takes such chunks, whose values have so many bytes
-abbrev pub CodecMeasures : {B : Type 0} → BytesCodecs B → CodecChain B → List ℕ → ElementType → List ℕ → BytesRepresentation → Type 0
-CodecMeasures f chain encoded type fill r = codec_representation f (plain_chain chain).array_to_bytes encoded type fill ≡ Ok r
+-- the chain's array-to-bytes codec takes chunks of this form, whose values have so many bytes
+abbrev pub CodecMeasures : {B : Type 0} → BytesCodecs B → CodecChain B → Form → BytesRepresentation → Type 0
+CodecMeasures f chain form r = codec_representation f (plain_chain chain).array_to_bytes form.sizes form.type form.fill ≡ Ok r
 
--- a container is given of what a read of places answers, or the first error; lack of memory or a failure of the handle may come in its place
-abbrev pub AnswersRuns : ElementType → Result Chunk CodecError → Result Held CodecError → Type 0
-AnswersRuns type expected result = AnswersBy memory_or_fault (Holds type) result expected
+-- ---- what calls give, of chunks of a form
+
+-- the elements at places, through the chain
+abbrev pub ReadsChain : {B : Type 0} → BytesCodecs B → CodecChain B → Form → StorageState → List ℕ → Result Held CodecError → Type 0
+ReadsChain f chain form before places result =
+    AnswersRuns form.type (chain_read f (plain_chain chain) form.sizes form.type form.fill before.value places) result
+
+-- the elements at places of the chunk that the chain's array-to-bytes codec gets, which has this form
+abbrev pub ReadsMoved : {B : Type 0} → BytesCodecs B → CodecChain B → BytesRepresentation → Form → StorageState → List ℕ → Result Held CodecError → Type 0
+ReadsMoved f chain r form before places result =
+    AnswersRuns form.type (moved_read f (plain_chain chain) form.sizes form.type form.fill r before.value places) result
+
+-- the elements at places of the inner chunk at a span of what is stored, whose chain this is
+abbrev pub ReadsSpan : {B : Type 0} → BytesCodecs B → CodecChain B → Form → StorageState → Span → List ℕ → Result Held CodecError → Type 0
+ReadsSpan f chain form before span places result =
+    AnswersRuns form.type (stored_span_read (chain_read f (plain_chain chain)) form.sizes form.type form.fill before.value span places) result
+
+-- the elements at the places of groups of inner chunks, by the numbers of the index
+abbrev pub ReadsGroups : {B : Type 0} → BytesCodecs B → CodecChain B → Form → StorageState → List ℕ → List InnerRuns → Result Held CodecError → Type 0
+ReadsGroups f chain form before numbers groups result =
+    AnswersRuns form.type (stored_groups_read (chain_read f (plain_chain chain)) form.sizes form.type form.fill before.value (spans_of numbers) (map group groups)) result
 
 -- no failure of the handle comes where these bytes are sure
 abbrev pub SureWhere : {T : Type 0} → StorageState → Result (List ℕ) CodecError → Result T CodecError → Type 0
 SureWhere before rests result = are_given_sure before.sure rests ≡ true → is_fault result ≡ false
 
 -- the same of the bytes that a read of these places rests on
-abbrev pub SurePlaces : {T : Type 0} → StorageState → (Option (List ℕ) → List ℕ → Result (List ℕ) CodecError) → List ℕ → Result T CodecError → Type 0
-SurePlaces before rests places result = SureWhere before (rests before.value places) result
+abbrev pub SurePlaces : {T : Type 0} → Resting → Form → StorageState → List ℕ → Result T CodecError → Type 0
+SurePlaces rests form before places result = SureWhere before (rests form.sizes form.type form.fill before.value places) result
+
+-- through the chain
+abbrev pub SureChain : {B T : Type 0} → BytesCodecs B → CodecChain B → Form → StorageState → List ℕ → Result T CodecError → Type 0
+SureChain f chain form before places result = SurePlaces (chain_rests f (plain_chain chain)) form before places result
+
+-- of the inner chunk at a span
+abbrev pub SureSpan : {B T : Type 0} → BytesCodecs B → CodecChain B → Form → StorageState → Span → List ℕ → Result T CodecError → Type 0
+SureSpan f chain form before span places result =
+    SureWhere before (stored_span_rests (chain_rests f (plain_chain chain)) form.sizes form.type form.fill before.value span places) result
+
+-- of groups of inner chunks
+abbrev pub SureGroups : {B T : Type 0} → BytesCodecs B → CodecChain B → Form → StorageState → List ℕ → List InnerRuns → Result T CodecError → Type 0
+SureGroups f chain form before numbers groups result =
+    SureWhere before (stored_groups_rest (chain_rests f (plain_chain chain)) form.sizes form.type form.fill before.value (spans_of numbers) (map group groups)) result
 
 -- of so many elements those in this order are given, or all as they are
 abbrev pub PutsInOrder : ElementType → ℕ → Held → Option (Vec (ℕ × ℕ) Global) → Result Held CodecError → Type 0

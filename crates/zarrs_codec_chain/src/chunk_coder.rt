@@ -5,8 +5,9 @@ ghost use Rattle.zarrs_data_type.specs.FillValue.{fill_fits};
 ghost use Rattle.zarrs_codec.specs.StorageState.{after_reading};
 ghost use Rattle.zarrs_chain_meaning.specs.Chain.{codec_reads as codec_reads_of, taken_form as taken_form_of};
 ghost use Rattle.zarrs_chain.specs.ChainView.{plain_chain};
+ghost use Rattle.zarrs_chain.specs.FormView.{lent_form};
 ghost use Rattle.zarrs_codec_chain.specs.CachePlace.{SureWithoutCache, has_cache_place};
-ghost use Rattle.zarrs_codec_chain.specs.ChunkRead.{HasChunkForm, chunk_of};
+ghost use Rattle.zarrs_codec_chain.specs.ChunkRead.{chunk_form, form_taken};
 ghost use Rattle.zarrs_codec_chain.specs.ChunkSource.{FilledOnce, MakesSource, cache_fits, is_cache};
 ghost use Rattle.zarrs_codec_chain.specs.CacheTight.{CacheIsTight, CacheIsTight-prop};
 ghost use Rattle.zarrs_chain_meaning.specs.Laws.{IsChainOfMappings};
@@ -18,7 +19,7 @@ use crate::partial_decoder::cache::Cache;
 use crate::partial_decoder::make_cache::{cache_stage, make_cache};
 use std::alloc::Global;
 use zarrs_chain::CodecChain;
-use zarrs_chain::stages::{chain_is_sound, taken_form};
+use zarrs_chain::stages::{Form, chain_is_sound, taken_form};
 use zarrs_chunk::{ChunkShape, CodecError};
 use zarrs_codec::{BytesPartialDecoderTraits, BytesRepresentation, BytesToBytesCodecTraits};
 use zarrs_data_type::{DataType, FillValue};
@@ -50,18 +51,17 @@ impl<'a, B: BytesToBytesCodecTraits> ChunkCoder<'a, B> {
     pub(crate) fn uncached(
         alloc: Global,
         chain: &'a CodecChain<B>,
-        shape: &ChunkShape,
-        data_type: &DataType,
-        fill_value: &FillValue,
+        form: Form<'_>,
     ) -> Result<ChunkCoder<'a, B>, CodecError>
-        ensures answer { Gives (λ it. (it.encoded, it.representation)) result (taken_form_of
-            B.functions (plain_chain chain.now) shape.now data_type.now fill_value.now) }
-        ensures form { HasChunkForm coder_form chain.now shape.now data_type.now fill_value.now result }
+        ensures answer { Gives (λ it. (it.encoded, it.representation)) result
+            (form_taken B.functions chain.now (lent_form form.entry)) }
+        ensures form { IfOk result (λ it. coder_form it
+            ≡ chunk_form (plain_chain chain.now) (lent_form form.entry)) }
         ensures uncached { IfOk result (λ coder. coder_keeps_nothing coder ≡ true) }
     {
-        let shape = shape.clone()?;
-        let data_type = data_type.clone()?;
-        let fill_value = fill_value.clone()?;
+        let shape = form.shape.clone()?;
+        let data_type = form.data_type.clone()?;
+        let fill_value = form.fill_value.clone()?;
         let (encoded, representation) = taken_form(alloc, chain, &shape, &data_type, &fill_value)?;
         Ok(ChunkCoder {
             chain,
@@ -81,18 +81,17 @@ impl<'a, B: BytesToBytesCodecTraits> ChunkCoder<'a, B> {
         alloc: Global,
         chain: &'a CodecChain<B>,
         handle: &mut H,
-        shape: &ChunkShape,
-        data_type: &DataType,
-        fill: &FillValue,
+        form: Form<'_>,
     ) -> Result<ChunkCoder<'a, B>, CodecError>
-        ensures answer { MakesSource reader_source B.functions B.reads_in_part (chunk_of chain.now
-            shape.now data_type.now fill.now) (H.state handle.old).value result }
-        ensures form { HasChunkForm coder_form chain.now shape.now data_type.now fill.now result }
+        ensures answer { MakesSource reader_source B.functions B.reads_in_part (chunk_form
+            (plain_chain chain.now) (lent_form form.entry)) (H.state handle.old).value result }
+        ensures form { IfOk result (λ it. coder_form it
+            ≡ chunk_form (plain_chain chain.now) (lent_form form.entry)) }
         ensures cached { IfOk result
             (λ it. is_cache it.cache ≡ has_cache_place B.reads_in_part chain.now) }
         ensures no_fault_if_uncached { SureWithoutCache B.reads_in_part chain.now result }
-        ensures measured_first { RefusedFirst (taken_form_of B.functions
-            (plain_chain chain.now) shape.now data_type.now fill.now) result }
+        ensures measured_first { RefusedFirst
+            (form_taken B.functions chain.now (lent_form form.entry)) result }
         ensures cache_filled { IfOk result
             (λ it. IsFilledFrom B.functions it (H.state handle.old).value) }
         ensures index { IfOk result
@@ -103,20 +102,16 @@ impl<'a, B: BytesToBytesCodecTraits> ChunkCoder<'a, B> {
         ensures same_reference { H.lent handle.new ≡ H.lent handle.old }
     {
         let stage = cache_stage(chain);
-        let shape = shape.clone()?;
-        let data_type = data_type.clone()?;
-        let fill_value = fill.clone()?;
+        let shape = form.shape.clone()?;
+        let data_type = form.data_type.clone()?;
+        let fill_value = form.fill_value.clone()?;
         let (encoded, representation) = taken_form(alloc, chain, &shape, &data_type, &fill_value)?;
-        let cache = make_cache(
-            alloc,
-            chain,
-            handle,
-            stage,
-            &encoded,
-            &data_type,
-            &fill_value,
-            representation,
-        )?;
+        let moved = Form {
+            shape: &encoded,
+            data_type: &data_type,
+            fill_value: &fill_value,
+        };
+        let cache = make_cache(alloc, chain, handle, stage, moved, representation)?;
         Ok(ChunkCoder {
             chain,
             cache,

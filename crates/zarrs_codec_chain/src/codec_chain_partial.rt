@@ -18,6 +18,7 @@ use crate::partial_decoder::array_partial_decoder::ArrayPartialDecoder;
 use crate::partial_encoder::array_partial_encoder::ArrayPartialEncoder;
 use std::alloc::Global;
 use zarrs_chain::CodecChain;
+use zarrs_chain::stages::Form;
 use zarrs_chunk::ChunkShape;
 use zarrs_codec::{
     BytesPartialDecoderTraits, BytesPartialEncoderTraits, BytesToBytesCodecTraits, Refused,
@@ -77,7 +78,8 @@ impl<B: BytesToBytesCodecTraits> CodecChainPartialTraits<B> for CodecChain<B> {
     ) -> Result<ArrayPartialDecoder<'a, H, B>, Refused<H>>
         ensures answer { MakesSource decoder_source B.functions B.reads_in_part (chunk_of self.now
             shape.now data_type.now fill_value.now) (H.state handle).value (made result) }
-        ensures form { HasChunkForm decoder_form self.now shape.now data_type.now fill_value.now result }
+        ensures form { HasChunkForm decoder_form self.now shape.now data_type.now fill_value.now
+            result }
         ensures cached { IfOk result
             (λ it. is_cached it ≡ has_cache_place B.reads_in_part self.now) }
         ensures over_state { MadeOver H.state handle result }
@@ -94,7 +96,12 @@ impl<B: BytesToBytesCodecTraits> CodecChainPartialTraits<B> for CodecChain<B> {
             (plain_chain self.now).array_to_bytes ≡ true → is_fault (made result) ≡ false }
     {
         let mut handle = handle;
-        match ChunkCoder::new(alloc, self, &mut handle, shape, data_type, fill_value) {
+        let form = Form {
+            shape,
+            data_type,
+            fill_value,
+        };
+        match ChunkCoder::new(alloc, self, &mut handle, form) {
             Ok(coder) => Ok(ArrayPartialDecoder { handle, coder }),
             Err(error) => Err(Refused { error, handle }),
         }
@@ -112,11 +119,17 @@ impl<B: BytesToBytesCodecTraits> CodecChainPartialTraits<B> for CodecChain<B> {
     ) -> Result<ArrayPartialEncoder<'a, H, B>, Refused<H>>
         ensures answer { GivesValue (outcome result) (seen (λ _. tt) (chain_representation
             B.functions (plain_chain self.now) shape.now data_type.now fill_value.now)) }
-        ensures form { HasChunkForm encoder_form self.now shape.now data_type.now fill_value.now result }
+        ensures form { HasChunkForm encoder_form self.now shape.now data_type.now fill_value.now
+            result }
         ensures over { IfOk result (λ encoder. encoder_handle encoder ≡ handle) }
         ensures handed_back { IfErr result (λ refused. refused.handle ≡ handle) }
     {
-        match ChunkCoder::uncached(alloc, self, shape, data_type, fill_value) {
+        let form = Form {
+            shape,
+            data_type,
+            fill_value,
+        };
+        match ChunkCoder::uncached(alloc, self, form) {
             Ok(coder) => Ok(ArrayPartialEncoder { handle, coder }),
             Err(error) => Err(Refused { error, handle }),
         }

@@ -43,7 +43,7 @@ pub use zarrs_chain::{
 };
 pub use zarrs_chain_meaning::codec_name::{OPTIONAL, VLEN};
 pub use zarrs_chain_meaning::vlen::plain_vlen::PlainVlen;
-pub use zarrs_chunk::{ArrayIndices, ArraySubset, ChunkShape, Indexer};
+pub use zarrs_chunk::{ArrayIndices, ArraySubset, ChunkShape, IndexTuples, Indexer};
 pub use zarrs_codec::{
     ArrayCodecTraits, ArrayPartialDecoderTraits, ArrayPartialEncoderTraits,
     ArrayToArrayCodecTraits, ArrayToBytesCodecTraits, ByteRange, BytesCodecMaker,

@@ -7,4 +7,5 @@ mod leaf_reads;
 pub(crate) mod shard_index;
 pub(crate) mod shard_runs;
 mod span_bytes;
+mod taken_parts;
 mod value_span;

@@ -12,6 +12,7 @@ use crate::partial_decoder::codec_read::{codec_in_place, planned_runs, plans_rea
 use std::alloc::Global;
 use zarrs_array_regions::region_runs;
 use zarrs_chain::CodecChain;
+use zarrs_chain::stages::Form;
 use zarrs_chunk::{ArraySubset, CodecError, Indexer};
 use zarrs_codec::{ByteRange, BytesToBytesCodecTraits};
 
@@ -81,14 +82,13 @@ impl<'a, B: BytesToBytesCodecTraits> ChunkCoder<'a, B> {
         if !asks_for_places(self.chain) {
             return Ok(None);
         }
-        let ranges = planned_runs::<B>(
-            alloc,
-            self.chain.array_to_bytes_codec(),
-            &self.encoded,
-            &self.data_type,
-            &self.fill_value,
-            &runs,
-        )?;
+        let form = Form {
+            shape: &self.encoded,
+            data_type: &self.data_type,
+            fill_value: &self.fill_value,
+        };
+        let codec = self.chain.array_to_bytes_codec();
+        let ranges = planned_runs::<B>(alloc, codec, form, &runs)?;
         Ok(Some(ranges))
     }
 }

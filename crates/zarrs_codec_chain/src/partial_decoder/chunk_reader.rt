@@ -9,9 +9,9 @@ ghost use Rattle.zarrs_chunk.specs.Tuples.{is_box_inside};
 ghost use Rattle.zarrs_array_bytes.specs.Tight.{IsTight};
 ghost use Rattle.zarrs_codec.specs.HandleCalls.{NeverFailsIf, Tells};
 ghost use Rattle.zarrs_codec.specs.StorageState.{after_reading};
-ghost use Rattle.zarrs_codec_chain.specs.ChunkRead.{decodes_parts, ReadsStoredChunk};
+ghost use Rattle.zarrs_codec_chain.specs.ChunkRead.{decodes_parts, ReadsStoredChunk, WhereSureBy};
 ghost use Rattle.zarrs_codec_chain.specs.ChunkSource.{held_by, is_cache, is_source_stored};
-ghost use Rattle.zarrs_codec_chain.specs.KeptIndex.{IsIndexOf, WhereSureBy, asks_index};
+ghost use Rattle.zarrs_codec_chain.specs.KeptIndex.{IsIndexOf, asks_index};
 ghost use Rattle.zarrs_array_regions.specs.KeptRegions.{kept_region as kept_region_of};
 ghost use Rattle.zarrs_chain.specs.ChainView.{plain_chain, plain_codec, plain_sharding};
 
@@ -26,6 +26,7 @@ use zarrs_array_bytes::ArrayBytes;
 use zarrs_array_regions::{decoded_window, kept_region, region_runs};
 use zarrs_array_to_array::encoded_places;
 use zarrs_bytes::BytesCodec;
+use zarrs_chain::stages::Form;
 use zarrs_chain::{ArrayToBytesCodec, ShardingCodec};
 use zarrs_chunk::{ArraySubset, CodecError, Indexer};
 use zarrs_codec::{BytesPartialDecoderTraits, BytesToBytesCodecTraits, CodecTraits};
@@ -132,6 +133,7 @@ impl<'a, B: BytesToBytesCodecTraits> ChunkCoder<'a, B> {
     {
         match (&self.cache, indexer) {
             (Cache::Handle, Indexer::Indices(_)) => codec_in_place(self.chain),
+            (Cache::Handle, Indexer::Tuples(_)) => codec_in_place(self.chain),
             _ => None,
         }
     }
@@ -257,14 +259,12 @@ impl<'a, B: BytesToBytesCodecTraits> ChunkCoder<'a, B> {
     {
         self.is_sound();
         indexer.check(&self.shape)?;
-        stored_index(
-            alloc,
-            codec,
-            handle,
-            &self.encoded,
-            &self.data_type,
-            &self.fill_value,
-        )
+        let form = Form {
+            shape: &self.encoded,
+            data_type: &self.data_type,
+            fill_value: &self.fill_value,
+        };
+        stored_index(alloc, codec, handle, form)
     }
 
     /// Whether something is stored, or was when the cache was filled. Errors: `Storage`.

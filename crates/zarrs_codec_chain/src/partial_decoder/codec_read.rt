@@ -1,18 +1,16 @@
 //! Reading runs of places through an array-to-bytes codec, of a handle or of bytes in memory.
-ghost use Rattle.zarrs_data_type.specs.Form.{form_of};
-ghost use Rattle.std.specs.Prelude.{◌≡◌, ◌<◌, ◌≤◌, ◌+◌, ◌^◌, [], IfOk, All, Ok, length, option_map, true, false};
+ghost use Rattle.std.specs.Prelude.{◌≡◌, ◌<◌, ◌^◌, [], IfOk, All, Ok, length, option_map, true, false};
 ghost use Rattle.zarrs_chunk.specs.Answer.{GivesBy, no_refusal};
 ghost use Rattle.zarrs_chunk.specs.ChunkShape.{product};
-ghost use Rattle.zarrs_chunk.specs.Runs.{joined_runs, AreApart};
+ghost use Rattle.zarrs_chunk.specs.Runs.{AreApart, EndWithin, joined_runs};
 ghost use Rattle.zarrs_array_bytes.specs.Tight.{IsTight};
-ghost use Rattle.zarrs_array_bytes.specs.Validity.{Holds};
 ghost use Rattle.zarrs_codec.specs.StorageState.{after_reading};
 ghost use Rattle.zarrs_chain_meaning.specs.Chain.{codec_reads as codec_reads_of};
 ghost use Rattle.zarrs_chain.specs.ChainView.{plain_chain, plain_codec};
-ghost use Rattle.zarrs_codec_chain.specs.ChunkRead.{ChunkReadsRuns, SureRuns};
-ghost use Rattle.zarrs_codec_chain.specs.CodecPart.{codec_plans, codec_read, order_in_place, shard_depth, IsCodecPlan};
-ghost use Rattle.zarrs_codec_chain.specs.CodecRead.{Takes};
-ghost use Rattle.zarrs_codec_chain.specs.KeptIndex.{asks_index, codec_index, index_seen, rests_behind};
+ghost use Rattle.zarrs_chain.specs.FormView.{lent_form};
+ghost use Rattle.zarrs_codec_chain.specs.ChunkRead.{ChunkReadsRuns, GivesRuns, SureRuns, TakenBy};
+ghost use Rattle.zarrs_codec_chain.specs.CodecPart.{codec_plans, order_in_place, shard_depth, IsCodecPlan, rests_behind};
+ghost use Rattle.zarrs_codec_chain.specs.KeptIndex.{asks_index, codec_index, index_seen};
 ghost use Rattle.zarrs_codec_chain.specs.SpanReads.{SurePlaces};
 
 use crate::sharding::kept_index::runs_by_index;
@@ -22,10 +20,10 @@ use crate::vlen::vlen_runs::vlen_runs;
 use std::alloc::Global;
 use zarrs_array_bytes::ArrayBytes;
 use zarrs_bytes::BytesCodec;
+use zarrs_chain::stages::Form;
 use zarrs_chain::{ArrayToBytesCodec, CodecChain};
-use zarrs_chunk::{ChunkShape, CodecError};
+use zarrs_chunk::CodecError;
 use zarrs_codec::{ByteRange, BytesPartialDecoderTraits, BytesToBytesCodecTraits};
-use zarrs_data_type::{DataType, FillValue};
 use zarrs_lent_handles::LentHandle;
 
 /// The elements at the places of these runs of a chunk that the codec takes, which isn't
@@ -36,33 +34,38 @@ pub(crate) fn plain_runs<H: BytesPartialDecoderTraits, B: BytesToBytesCodecTrait
     alloc: Global,
     codec: &ArrayToBytesCodec<B>,
     handle: &mut H,
-    shape: &ChunkShape,
-    kind: &DataType,
-    fill: &FillValue,
+    form: Form<'_>,
     runs: &[(u64, u64)],
 ) -> Result<ArrayBytes<'static>, CodecError>
-    requires taken { Takes B.functions codec.now shape.now kind.now fill.now }
+    requires taken { TakenBy B.functions (plain_codec codec.now) (lent_form form) }
     requires in_part { (codec_reads_of (plain_codec codec.now)).partial_decode ≡ true }
     requires plain { shard_depth (plain_codec codec.now) ≡ 0 }
     requires filled { All (λ run. 0 < run.1) runs.now }
-    requires below { All (λ run. run.0 + run.1 ≤ product shape.now) runs.now }
+    requires below { EndWithin (product form.shape.now) runs.now }
     requires count { length (joined_runs runs.now) < 2 ^ 64 }
-    ensures answer { ChunkReadsRuns B.functions (plain_codec codec.now)
-        (form_of shape.now kind.now fill.now) (H.state handle.old) runs.now result }
-    ensures tight { IfOk result (IsTight kind.now) }
-    ensures sure { SureRuns B.functions (plain_codec codec.now) (form_of shape.now kind.now fill.now)
+    ensures answer { ChunkReadsRuns B.functions (plain_codec codec.now) (lent_form form.entry)
         (H.state handle.old) runs.now result }
+    ensures tight { IfOk result (IsTight form.entry.data_type.now) }
+    ensures sure { SureRuns B.functions (plain_codec codec.now) (lent_form form.entry) (H.state
+        handle.old) runs.now result }
     ensures left { H.state handle.new ≡ after_reading result (H.state handle.old) }
     ensures same_reference { H.lent handle.new ≡ H.lent handle.old }
 {
     match codec {
-        ArrayToBytesCodec::Bytes(codec) => { codec.read_runs(alloc, handle, kind, fill, runs) }
+        ArrayToBytesCodec::Bytes(codec) => {
+            codec.read_runs(alloc, handle, form.data_type, form.fill_value, runs)
+        }
         ArrayToBytesCodec::PackBits(codec) => {
-            codec.read_runs(alloc, handle, shape, kind, fill, runs)
+            codec.read_runs(
+                alloc,
+                handle,
+                form.shape,
+                form.data_type,
+                form.fill_value,
+                runs,
+            )
         }
-        ArrayToBytesCodec::Vlen(codec) => {
-            vlen_runs(alloc, codec, handle, shape, kind, fill, runs)
-        }
+        ArrayToBytesCodec::Vlen(codec) => { vlen_runs(alloc, codec, handle, form, runs) }
         ArrayToBytesCodec::VlenV2(_)
         | ArrayToBytesCodec::Optional(_)
         | ArrayToBytesCodec::Sharding(_) => unreachable!(),
@@ -77,35 +80,29 @@ pub(crate) fn read_runs<H: BytesPartialDecoderTraits, B: BytesToBytesCodecTraits
     alloc: Global,
     codec: &ArrayToBytesCodec<B>,
     handle: &mut H,
-    shape: &ChunkShape,
-    kind: &DataType,
-    fill: &FillValue,
+    form: Form<'_>,
     runs: &[(u64, u64)],
 ) -> Result<ArrayBytes<'static>, CodecError>
-    requires taken { Takes B.functions codec.now shape.now kind.now fill.now }
+    requires taken { TakenBy B.functions (plain_codec codec.now) (lent_form form) }
     requires in_part { (codec_reads_of (plain_codec codec.now)).partial_decode ≡ true }
     requires filled { All (λ run. 0 < run.1) runs.now }
-    requires below { All (λ run. run.0 + run.1 ≤ product shape.now) runs.now }
+    requires below { EndWithin (product form.shape.now) runs.now }
     requires count { length (joined_runs runs.now) < 2 ^ 64 }
-    ensures answer { ChunkReadsRuns B.functions (plain_codec codec.now)
-        (form_of shape.now kind.now fill.now) (H.state handle.old) runs.now result }
-    ensures tight { IfOk result (IsTight kind.now) }
-    ensures sure { SureRuns B.functions (plain_codec codec.now) (form_of shape.now kind.now fill.now)
+    ensures answer { ChunkReadsRuns B.functions (plain_codec codec.now) (lent_form form.entry)
         (H.state handle.old) runs.now result }
+    ensures tight { IfOk result (IsTight form.entry.data_type.now) }
+    ensures sure { SureRuns B.functions (plain_codec codec.now) (lent_form form.entry) (H.state
+        handle.old) runs.now result }
     ensures left { H.state handle.new ≡ after_reading result (H.state handle.old) }
     ensures same_reference { H.lent handle.new ≡ H.lent handle.old }
 {
     match codec {
-        ArrayToBytesCodec::Sharding(codec) => {
-            shard_runs(alloc, codec, handle, shape, kind, fill, runs)
-        }
+        ArrayToBytesCodec::Sharding(codec) => { shard_runs(alloc, codec, handle, form, runs) }
         ArrayToBytesCodec::Bytes(_)
         | ArrayToBytesCodec::PackBits(_)
         | ArrayToBytesCodec::VlenV2(_)
         | ArrayToBytesCodec::Vlen(_)
-        | ArrayToBytesCodec::Optional(_) => {
-            plain_runs(alloc, codec, handle, shape, kind, fill, runs)
-        }
+        | ArrayToBytesCodec::Optional(_) => { plain_runs(alloc, codec, handle, form, runs) }
     }
 }
 
@@ -116,29 +113,27 @@ pub(crate) fn read_by_index<H: BytesPartialDecoderTraits, B: BytesToBytesCodecTr
     codec: &ArrayToBytesCodec<B>,
     handle: &mut H,
     index: &Option<ShardIndex>,
-    shape: &ChunkShape,
-    kind: &DataType,
-    fill: &FillValue,
+    form: Form<'_>,
     runs: &[(u64, u64)],
 ) -> Result<ArrayBytes<'static>, CodecError>
-    requires taken { Takes B.functions codec.now shape.now kind.now fill.now }
+    requires taken { TakenBy B.functions (plain_codec codec.now) (lent_form form) }
     requires shard { asks_index [] (plain_codec codec.now) ≡ true }
-    requires index { codec_index B.functions (plain_codec codec.now) shape.now
+    requires index { codec_index B.functions (plain_codec codec.now) form.shape.now
         (H.state handle.old).value ≡ Ok (option_map index_seen index.now) }
     requires filled { All (λ run. 0 < run.1) runs.now }
-    requires below { All (λ run. run.0 + run.1 ≤ product shape.now) runs.now }
+    requires below { EndWithin (product form.shape.now) runs.now }
     requires count { length (joined_runs runs.now) < 2 ^ 64 }
-    ensures answer { ChunkReadsRuns B.functions (plain_codec codec.now)
-        (form_of shape.now kind.now fill.now) (H.state handle.old) runs.now result }
-    ensures tight { IfOk result (IsTight kind.now) }
-    ensures sure { SurePlaces (H.state handle.old) (rests_behind B.functions (plain_codec codec.now)
-        shape.now kind.now fill.now) (joined_runs runs.now) result }
+    ensures answer { ChunkReadsRuns B.functions (plain_codec codec.now) (lent_form form.entry)
+        (H.state handle.old) runs.now result }
+    ensures tight { IfOk result (IsTight form.entry.data_type.now) }
+    ensures sure { SurePlaces (rests_behind B.functions (plain_codec codec.now)) (lent_form
+        form.entry) (H.state handle.old) (joined_runs runs.now) result }
     ensures left { H.state handle.new ≡ after_reading result (H.state handle.old) }
     ensures same_reference { H.lent handle.new ≡ H.lent handle.old }
 {
     match codec {
         ArrayToBytesCodec::Sharding(codec) => {
-            runs_by_index(alloc, codec, handle, index, shape, kind, fill, runs)
+            runs_by_index(alloc, codec, handle, index, form, runs)
         }
         ArrayToBytesCodec::Bytes(_)
         | ArrayToBytesCodec::PackBits(_)
@@ -153,22 +148,20 @@ pub(crate) fn read_runs_of_bytes<B: BytesToBytesCodecTraits>(
     alloc: Global,
     codec: &ArrayToBytesCodec<B>,
     bytes: Option<&[u8]>,
-    shape: &ChunkShape,
-    kind: &DataType,
-    fill: &FillValue,
+    form: Form<'_>,
     runs: &[(u64, u64)],
 ) -> Result<ArrayBytes<'static>, CodecError>
-    requires taken { Takes B.functions codec.now shape.now kind.now fill.now }
+    requires taken { TakenBy B.functions (plain_codec codec.now) (lent_form form) }
     requires in_part { (codec_reads_of (plain_codec codec.now)).partial_decode ≡ true }
     requires filled { All (λ run. 0 < run.1) runs.now }
-    requires below { All (λ run. run.0 + run.1 ≤ product shape.now) runs.now }
+    requires below { EndWithin (product form.shape.now) runs.now }
     requires count { length (joined_runs runs.now) < 2 ^ 64 }
-    ensures answer { GivesBy (Holds kind.now) result (codec_read B.functions (plain_codec codec.now)
-        shape.now kind.now fill.now (option_map (λ v. v.now) bytes.entry) (joined_runs runs.now)) }
-    ensures tight { IfOk result (IsTight kind.now) }
+    ensures answer { GivesRuns B.functions (plain_codec codec.now) (lent_form form.entry)
+        (option_map (λ v. v.now) bytes.entry) runs.now result }
+    ensures tight { IfOk result (IsTight form.entry.data_type.now) }
 {
     let mut lent = LentHandle::new(bytes);
-    read_runs::<LentHandle<'_>, B>(alloc, codec, &mut lent, shape, kind, fill, runs)
+    read_runs::<LentHandle<'_>, B>(alloc, codec, &mut lent, form, runs)
 }
 
 /// Whether the bytes of a place are known before anything is read: they are over `bytes` and
@@ -217,23 +210,25 @@ pub(crate) fn codec_in_place<B>(chain: &CodecChain<B>) -> Option<&BytesCodec>
 pub(crate) fn planned_runs<B: BytesToBytesCodecTraits>(
     alloc: Global,
     codec: &ArrayToBytesCodec<B>,
-    shape: &ChunkShape,
-    kind: &DataType,
-    fill: &FillValue,
+    form: Form<'_>,
     runs: &[(u64, u64)],
 ) -> Result<Vec<ByteRange>, CodecError>
-    requires taken { Takes B.functions codec.now shape.now kind.now fill.now }
+    requires taken { TakenBy B.functions (plain_codec codec.now) (lent_form form) }
     requires plans { codec_plans (plain_codec codec.now) ≡ true }
     requires filled { All (λ run. 0 < run.1) runs.now }
-    requires below { All (λ run. run.0 + run.1 ≤ product shape.now) runs.now }
+    requires below { EndWithin (product form.shape.now) runs.now }
     requires apart { AreApart runs.now }
-    ensures plan { GivesBy (λ ranges _. IsCodecPlan (plain_codec codec.now) shape.now kind.now
-        fill.now (joined_runs runs.now) ranges.items) result no_refusal }
+    ensures plan { GivesBy (λ ranges _. IsCodecPlan (plain_codec codec.now) (lent_form form.entry)
+        (joined_runs runs.now) ranges.items) result no_refusal }
     ensures filled { IfOk result (λ ranges. All (λ range. range.start < range.end) ranges.items) }
 {
     match codec {
-        ArrayToBytesCodec::Bytes(codec) => codec.planned_runs(alloc, kind, fill, runs),
-        ArrayToBytesCodec::PackBits(codec) => { codec.planned_runs(alloc, shape, kind, fill, runs) }
+        ArrayToBytesCodec::Bytes(codec) => {
+            codec.planned_runs(alloc, form.data_type, form.fill_value, runs)
+        }
+        ArrayToBytesCodec::PackBits(codec) => {
+            codec.planned_runs(alloc, form.shape, form.data_type, form.fill_value, runs)
+        }
         ArrayToBytesCodec::VlenV2(_)
         | ArrayToBytesCodec::Vlen(_)
         | ArrayToBytesCodec::Optional(_)

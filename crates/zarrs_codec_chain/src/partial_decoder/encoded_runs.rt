@@ -13,6 +13,7 @@ use zarrs_chunk::{ChunkShape, CodecError, Indexer, runs_of_places};
 /// a length, none of which starts where the one before it ends. Without codecs the indexer's own
 /// runs are lent on, so that no place is written down by itself. Errors, the first that holds,
 /// `OutOfMemory` aside: those of `Indexer::places`, and then those of each codec's `encoded_shape`.
+#[inline(always)]
 pub(crate) fn encoded_runs(
     alloc: Global,
     codecs: &[ArrayToArrayCodec],

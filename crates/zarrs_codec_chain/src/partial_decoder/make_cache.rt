@@ -1,5 +1,4 @@
 //! What a partial decoder keeps of the stored value when it is made.
-ghost use Rattle.zarrs_data_type.specs.Form.{form_of};
 ghost use Rattle.std.specs.Prelude.{◌≡◌, ◌≤◌, ℕ, IfOk, Ok, Some, length, map, true, false};
 ghost use Rattle.zarrs_chunk.specs.Answer.{is_fault, GivesBy, GivesItems};
 ghost use Rattle.zarrs_array_bytes.specs.Held.{items_of};
@@ -11,20 +10,20 @@ ghost use Rattle.zarrs_chain.specs.ChainView.{plain_chain};
 ghost use Rattle.zarrs_codec_chain.specs.ChunkSource.{undecoded_codecs, cache_stage as cache_stage_of, has_cache, is_cache, kept_stage, stage_by, is_cache_of, is_stage_of, opened_chunk, upper_bytes, FilledOnce, FillsCache};
 ghost use Rattle.zarrs_codec_chain.specs.CacheTight.{CacheIsTight};
 ghost use Rattle.zarrs_codec_chain.specs.KeptIndex.{knows_index};
-ghost use Rattle.zarrs_codec_chain.specs.CodecRead.{CodecTakes};
+ghost use Rattle.zarrs_codec_chain.specs.ChunkRead.{TakenBy};
+ghost use Rattle.zarrs_chain.specs.FormView.{lent_form};
 
 use crate::partial_decoder::cache::{Cache, CacheStage};
 use std::alloc::Global;
 use std::borrow::CowSlice;
 use zarrs_array_bytes::{ArrayBytes, ArrayBytesRaw};
 use zarrs_chain::CodecChain;
-use zarrs_chain::stages::{codec_decode, decode_bytes, outer_representation};
-use zarrs_chunk::{ChunkShape, CodecError};
+use zarrs_chain::stages::{Form, codec_decode, decode_bytes, outer_representation};
+use zarrs_chunk::CodecError;
 use zarrs_codec::{
     BytesPartialDecoderTraits, BytesRepresentation, BytesToBytesCodecTraits, CodecTraits,
     PartialDecoderCapability,
 };
-use zarrs_data_type::{DataType, FillValue};
 
 /// How many of the first bytes-to-bytes codecs a cache leaves undecoded, where one of the codecs
 /// wants a cache.
@@ -117,16 +116,14 @@ fn bytes_above<B: BytesToBytesCodecTraits>(
 pub(crate) fn chunk_below<B: BytesToBytesCodecTraits>(
     alloc: Global,
     chain: &CodecChain<B>,
-    encoded: &ChunkShape,
-    kind: &DataType,
-    fill: &FillValue,
+    form: Form<'_>,
     representation: &BytesRepresentation,
     value: Vec<u8>,
 ) -> Result<ArrayBytes<'static>, CodecError>
-    requires taken { CodecTakes B.functions chain.now encoded.now kind.now fill.now }
-    ensures answer { GivesBy (Holds kind.now) result (opened_chunk B.functions
-        (plain_chain chain.now) encoded.now kind.now fill.now representation.now value.items) }
-    ensures tight { IfOk result (IsTight kind.now) }
+    requires taken { TakenBy B.functions (plain_chain chain.now).array_to_bytes (lent_form form) }
+    ensures answer { GivesBy (Holds form.entry.data_type.now) result (opened_chunk B.functions
+        (plain_chain chain.now) (lent_form form.entry) representation.now value.items) }
+    ensures tight { IfOk result (IsTight form.entry.data_type.now) }
 {
     let bytes = decode_bytes(
         alloc,
@@ -138,9 +135,9 @@ pub(crate) fn chunk_below<B: BytesToBytesCodecTraits>(
         alloc,
         chain.array_to_bytes_codec(),
         bytes,
-        encoded,
-        kind,
-        fill,
+        form.shape,
+        form.data_type,
+        form.fill_value,
     )
 }
 
@@ -152,18 +149,16 @@ pub(crate) fn make_cache<H: BytesPartialDecoderTraits, B: BytesToBytesCodecTrait
     chain: &CodecChain<B>,
     handle: &mut H,
     stage: CacheStage,
-    encoded: &ChunkShape,
-    kind: &DataType,
-    fill: &FillValue,
+    form: Form<'_>,
     representation: BytesRepresentation,
 ) -> Result<Cache, CodecError>
-    requires taken { CodecTakes B.functions chain.now encoded.now kind.now fill.now }
+    requires taken { TakenBy B.functions (plain_chain chain.now).array_to_bytes (lent_form form) }
     requires stage { is_stage_of (plain_chain chain.now) stage ≡ true }
-    ensures answer { FillsCache B.functions (plain_chain chain.now) representation stage
-        (form_of encoded.now kind.now fill.now) (H.state handle.old).value result }
-    ensures fits { IfOk result
-        (λ cache. is_cache_of chain.now encoded.now kind.now cache ≡ true) }
-    ensures tight { IfOk result (CacheIsTight kind.now) }
+    ensures answer { FillsCache B.functions (plain_chain chain.now) representation stage (lent_form
+        form.entry) (H.state handle.old).value result }
+    ensures fits { IfOk result (λ cache. is_cache_of chain.now form.entry.shape.now
+        form.entry.data_type.now cache ≡ true) }
+    ensures tight { IfOk result (CacheIsTight form.entry.data_type.now) }
     ensures stage { IfOk result (λ cache. kept_stage cache ≡ stage) }
     ensures left { H.state handle.new ≡ after_reading result (H.state handle.old) }
     ensures same_reference { H.lent handle.new ≡ H.lent handle.old }
@@ -186,7 +181,7 @@ pub(crate) fn make_cache<H: BytesPartialDecoderTraits, B: BytesToBytesCodecTrait
         CacheStage::Chunk => match handle.decode(alloc)? {
             None => Ok(Cache::Chunk(None)),
             Some(value) => {
-                let held = chunk_below(alloc, chain, encoded, kind, fill, &representation, value)?;
+                let held = chunk_below(alloc, chain, form, &representation, value)?;
                 Ok(Cache::Chunk(Some(held)))
             }
         },

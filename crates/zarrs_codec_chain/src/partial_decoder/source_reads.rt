@@ -23,7 +23,7 @@ use crate::sharding::shard_index::ShardIndex;
 use std::alloc::Global;
 use std::borrow::CowSlice;
 use zarrs_array_bytes::{ArrayBytes, ArrayBytesRaw};
-use zarrs_chain::stages::decode_bytes;
+use zarrs_chain::stages::{Form, decode_bytes};
 use zarrs_chunk::CodecError;
 use zarrs_codec::{BytesPartialDecoderTraits, BytesToBytesCodecTraits};
 
@@ -50,28 +50,18 @@ impl<'a, B: BytesToBytesCodecTraits> ChunkCoder<'a, B> {
             (bytes_above below (option_map (λ v. items_of v) value.entry)) runs.now result }
         ensures tight { IfOk result (IsTight self.now.data_type) }
     {
+        let form = Form {
+            shape: &self.encoded,
+            data_type: &self.data_type,
+            fill_value: &self.fill_value,
+        };
+        let codec = self.chain.array_to_bytes_codec();
         match value {
-            None => read_runs_of_bytes::<B>(
-                alloc,
-                self.chain.array_to_bytes_codec(),
-                None,
-                &self.encoded,
-                &self.data_type,
-                &self.fill_value,
-                runs,
-            ),
+            None => read_runs_of_bytes::<B>(alloc, codec, None, form, runs),
             Some(value) => {
                 let codecs = &self.chain.bytes_to_bytes_codecs()[..below];
                 let bytes = decode_bytes(alloc, codecs, &self.representation, value)?;
-                read_runs_of_bytes::<B>(
-                    alloc,
-                    self.chain.array_to_bytes_codec(),
-                    Some(bytes.as_slice()),
-                    &self.encoded,
-                    &self.data_type,
-                    &self.fill_value,
-                    runs,
-                )
+                read_runs_of_bytes::<B>(alloc, codec, Some(bytes.as_slice()), form, runs)
             }
         }
     }
@@ -97,15 +87,13 @@ impl<'a, B: BytesToBytesCodecTraits> ChunkCoder<'a, B> {
         ensures same_reference { H.lent handle.new ≡ H.lent handle.old }
     {
         if self.chain.bytes_to_bytes_codecs().is_empty() {
-            return read_runs::<H, B>(
-                alloc,
-                self.chain.array_to_bytes_codec(),
-                handle,
-                &self.encoded,
-                &self.data_type,
-                &self.fill_value,
-                runs,
-            );
+            let form = Form {
+                shape: &self.encoded,
+                data_type: &self.data_type,
+                fill_value: &self.fill_value,
+            };
+            let codec = self.chain.array_to_bytes_codec();
+            return read_runs::<H, B>(alloc, codec, handle, form, runs);
         }
         let value = match handle.decode(alloc)? {
             None => None,
@@ -149,15 +137,12 @@ impl<'a, B: BytesToBytesCodecTraits> ChunkCoder<'a, B> {
         ensures answer { GivesOpened B.functions self.now value.items runs.now result }
         ensures tight { IfOk result (IsTight self.now.data_type) }
     {
-        let held = chunk_of_value(
-            alloc,
-            self.chain,
-            &self.encoded,
-            &self.data_type,
-            &self.fill_value,
-            &self.representation,
-            value,
-        )?;
+        let form = Form {
+            shape: &self.encoded,
+            data_type: &self.data_type,
+            fill_value: &self.fill_value,
+        };
+        let held = chunk_of_value(alloc, self.chain, form, &self.representation, value)?;
         let count = self.encoded.num_elements()?;
         held.extract_runs(alloc, runs, count, &self.data_type)
     }
@@ -208,16 +193,13 @@ impl<'a, B: BytesToBytesCodecTraits> ChunkCoder<'a, B> {
         ensures left { H.state handle.new ≡ after_reading result (H.state handle.old) }
         ensures same_reference { H.lent handle.new ≡ H.lent handle.old }
     {
-        read_by_index::<H, B>(
-            alloc,
-            self.chain.array_to_bytes_codec(),
-            handle,
-            index,
-            &self.encoded,
-            &self.data_type,
-            &self.fill_value,
-            runs,
-        )
+        let form = Form {
+            shape: &self.encoded,
+            data_type: &self.data_type,
+            fill_value: &self.fill_value,
+        };
+        let codec = self.chain.array_to_bytes_codec();
+        read_by_index::<H, B>(alloc, codec, handle, index, form, runs)
     }
 
     /// The elements at the places of these runs of the chunk that the array-to-bytes codec gets.

@@ -14,7 +14,7 @@ use zarrs_codec::{BytesPartialEncoderTraits, BytesToBytesCodecTraits};
 #[derive(Debug, Drop)]
 pub enum Edit<'a> {
     /// These elements are written at the places that the indexer selects.
-    Encode(Indexer, ArrayBytes<'a>),
+    Encode(Indexer<'a>, ArrayBytes<'a>),
     /// The value is erased.
     Erase,
 }

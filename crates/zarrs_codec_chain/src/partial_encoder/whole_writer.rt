@@ -23,6 +23,7 @@ use zarrs_data_type::DataType;
 
 /// Whether there is one new element of the type for each place of the runs. Errors: those of
 /// `ArrayBytes::validate_data`.
+#[inline(always)]
 pub(crate) fn check_data(
     elements: &ArrayBytes<'_>,
     runs: &[(u64, u64)],

@@ -7,12 +7,11 @@ ghost use Rattle.zarrs_chunk.specs.ChunkShape.{product};
 ghost use Rattle.zarrs_chunk.specs.Runs.{AreFilled, EndWithin, joined_runs};
 ghost use Rattle.zarrs_chunk.specs.Tuples.{is_box_inside};
 ghost use Rattle.zarrs_codec.specs.StorageState.{after_reading};
-ghost use Rattle.zarrs_codec_chain.specs.ChunkRead.{ChunkReadsRuns};
+ghost use Rattle.zarrs_chain.specs.FormView.{lent_form};
+ghost use Rattle.zarrs_codec_chain.specs.ChunkRead.{ChunkReadsRuns, TakenBy};
 ghost use Rattle.zarrs_codec_chain.specs.CodecPart.{codec_rests_on};
-ghost use Rattle.zarrs_codec_chain.specs.CodecRead.{Takes};
-ghost use Rattle.zarrs_codec_chain.specs.SpanReads.{CodecMeasures, AnswersRuns, StandsIn, TakesForm, chain_read, chain_rests, moved_read, moved_rests, seen_state, SurePlaces};
+ghost use Rattle.zarrs_codec_chain.specs.SpanReads.{CodecMeasures, ReadsChain, ReadsMoved, StandsIn, SureChain, SurePlaces, TakesForm, moved_rests, seen_state};
 ghost use Rattle.zarrs_array_regions.specs.WindowLaws.{region_places};
-ghost use Rattle.zarrs_data_type.specs.Form.{form_of};
 
 use crate::partial_decoder::encoded_runs::encoded_runs;
 use crate::sharding::leaf_reads::leaf_runs;
@@ -22,11 +21,10 @@ use crate::sharding::value_span::ValueSpan;
 use std::alloc::Global;
 use zarrs_array_bytes::ArrayBytes;
 use zarrs_array_regions::{decoded_window, kept_region, region_runs};
-use zarrs_chain::stages::{chain_is_sound, decode_bytes};
+use zarrs_chain::stages::{Form, chain_is_sound, decode_bytes};
 use zarrs_chain::{ArrayToBytesCodec, CodecChain};
 use zarrs_chunk::{ArraySubset, ChunkShape, CodecError};
 use zarrs_codec::{BytesRepresentation, BytesToBytesCodecTraits};
-use zarrs_data_type::{DataType, FillValue};
 use zarrs_lent_handles::ReadAheadTraits;
 use zarrs_shard_runs::runs_indexer;
 
@@ -39,36 +37,32 @@ fn codec_in_span<H: ReadAheadTraits, B: BytesToBytesCodecTraits>(
     codec: &ArrayToBytesCodec<B>,
     handle: &mut H,
     span: &ValueSpan<'_>,
-    shape: &ChunkShape,
-    kind: &DataType,
-    fill: &FillValue,
+    form: Form<'_>,
     runs: &[(u64, u64)],
 ) -> Result<ArrayBytes<'static>, CodecError>
-    requires taken { Takes B.functions codec.now shape.now kind.now fill.now }
-    requires counted { product shape.now < 2 ^ 64 }
+    requires taken { TakenBy B.functions (plain_codec codec.now) (lent_form form) }
+    requires counted { product form.shape.now < 2 ^ 64 }
     requires stands { StandsIn span.now (H.state handle.old) }
     requires filled { AreFilled runs.now }
-    requires below { EndWithin (product shape.now) runs.now }
+    requires below { EndWithin (product form.shape.now) runs.now }
     requires count { length (joined_runs runs.now) < 2 ^ 64 }
-    ensures answer { ChunkReadsRuns B.functions (plain_codec codec.now) (form_of shape.now kind.now
-        fill.now) (seen_state span.now (H.state handle.old)) runs.now result }
-    ensures tight { IfOk result (IsTight kind.now) }
-    ensures sure { SurePlaces (seen_state span.now (H.state handle.old)) (codec_rests_on B.functions
-        (plain_codec codec.now) shape.now kind.now fill.now) (joined_runs runs.now) result }
+    ensures answer { ChunkReadsRuns B.functions (plain_codec codec.now) (lent_form form.entry)
+        (seen_state span.now (H.state handle.old)) runs.now result }
+    ensures tight { IfOk result (IsTight form.entry.data_type.now) }
+    ensures sure { SurePlaces (codec_rests_on B.functions (plain_codec codec.now)) (lent_form
+        form.entry) (seen_state span.now (H.state handle.old)) (joined_runs runs.now) result }
     ensures left { H.state handle.new ≡ after_reading result (H.state handle.old) }
     ensures same_reference { H.lent handle.new ≡ H.lent handle.old }
 {
     match codec {
         ArrayToBytesCodec::Sharding(codec) => {
-            shard_in_span(alloc, codec, handle, span, shape, kind, fill, runs)
+            shard_in_span(alloc, codec, handle, span, form, runs)
         }
         ArrayToBytesCodec::Bytes(_)
         | ArrayToBytesCodec::PackBits(_)
         | ArrayToBytesCodec::VlenV2(_)
         | ArrayToBytesCodec::Vlen(_)
-        | ArrayToBytesCodec::Optional(_) => {
-            leaf_runs(alloc, codec, handle, span, shape, kind, fill, runs)
-        }
+        | ArrayToBytesCodec::Optional(_) => { leaf_runs(alloc, codec, handle, span, form, runs) }
     }
 }
 
@@ -80,38 +74,33 @@ fn moved_in_span<H: ReadAheadTraits, B: BytesToBytesCodecTraits>(
     chain: &CodecChain<B>,
     handle: &mut H,
     span: &ValueSpan<'_>,
-    encoded: &ChunkShape,
+    form: Form<'_>,
     measured: &BytesRepresentation,
-    kind: &DataType,
-    fill: &FillValue,
     runs: &[(u64, u64)],
 ) -> Result<ArrayBytes<'static>, CodecError>
-    requires measured { CodecMeasures B.functions chain.now
-        encoded.now kind.now fill.now measured.now }
-    requires counted { product encoded.now < 2 ^ 64 }
+    requires measured { CodecMeasures B.functions chain.now (lent_form form) measured.now }
+    requires counted { product form.shape.now < 2 ^ 64 }
     requires stands { StandsIn span.now (H.state handle.old) }
     requires filled { AreFilled runs.now }
-    requires below { EndWithin (product encoded.now) runs.now }
+    requires below { EndWithin (product form.shape.now) runs.now }
     requires count { length (joined_runs runs.now) < 2 ^ 64 }
-    // Wide: the form of a chunk, the span and the places.
-    ensures answer { AnswersRuns kind.now (moved_read B.functions (plain_chain chain.now)
-        encoded.now kind.now fill.now measured.now (seen_state span.now (H.state handle.old)).value
-        (joined_runs runs.now)) result }
-    ensures tight { IfOk result (IsTight kind.now) }
-    ensures sure { SurePlaces (seen_state span.now (H.state handle.old)) (moved_rests B.functions
-        (plain_chain chain.now) encoded.now kind.now fill.now) (joined_runs runs.now) result }
+    ensures answer { ReadsMoved B.functions chain.now measured.now (lent_form form.entry)
+        (seen_state span.now (H.state handle.old)) (joined_runs runs.now) result }
+    ensures tight { IfOk result (IsTight form.entry.data_type.now) }
+    ensures sure { SurePlaces (moved_rests B.functions (plain_chain chain.now)) (lent_form
+        form.entry) (seen_state span.now (H.state handle.old)) (joined_runs runs.now) result }
     ensures left { H.state handle.new ≡ after_reading result (H.state handle.old) }
     ensures same_reference { H.lent handle.new ≡ H.lent handle.old }
 {
     let codec = chain.array_to_bytes_codec();
     if chain.bytes_to_bytes_codecs().is_empty() {
-        return codec_in_span(alloc, codec, handle, span, encoded, kind, fill, runs);
+        return codec_in_span(alloc, codec, handle, span, form, runs);
     }
     let value = span_bytes(alloc, handle, span)?;
     let codecs = chain.bytes_to_bytes_codecs();
     let below = decode_bytes(alloc, codecs, measured, value)?;
     let inside = ValueSpan::of_bytes(below.as_slice());
-    codec_in_span(alloc, codec, handle, &inside, encoded, kind, fill, runs)
+    codec_in_span(alloc, codec, handle, &inside, form, runs)
 }
 
 /// The elements of a region that goes through the array-to-array codecs as one, in row-major order.
@@ -121,40 +110,43 @@ fn region_in_span<H: ReadAheadTraits, B: BytesToBytesCodecTraits>(
     chain: &CodecChain<B>,
     handle: &mut H,
     span: &ValueSpan<'_>,
-    shape: &ChunkShape,
+    form: Form<'_>,
     encoded: &ChunkShape,
     measured: &BytesRepresentation,
-    kind: &DataType,
-    fill: &FillValue,
     region: &ArraySubset,
 ) -> Result<ArrayBytes<'static>, CodecError>
-    requires takes { TakesForm B.functions chain.now
-        shape.now kind.now fill.now encoded.now measured.now }
-    requires counted { product shape.now < 2 ^ 64 }
+    requires takes { TakesForm B.functions chain.now (lent_form form) encoded.now measured.now }
+    requires counted { product form.shape.now < 2 ^ 64 }
     requires stands { StandsIn span.now (H.state handle.old) }
-    requires inside { is_box_inside shape.now region.now.starts region.now.lengths ≡ true }
+    requires inside { is_box_inside form.shape.now region.now.starts region.now.lengths ≡ true }
     requires filled { 0 < product region.now.lengths }
     requires region_kept { keeps_regions (plain_chain chain.now).array_to_array ≡ true }
-    // Wide: the form of a chunk, the span and the places.
-    ensures answer { AnswersRuns kind.now (chain_read B.functions (plain_chain chain.now) shape.now
-        kind.now fill.now (seen_state span.now (H.state handle.old)).value
-        (region_places shape.now region.now)) result }
-    ensures tight { IfOk result (IsTight kind.now) }
-    // Wide: the form of a chunk, the span and the places.
-    ensures sure { SurePlaces (seen_state span.now (H.state handle.old)) (chain_rests B.functions
-        (plain_chain chain.now) shape.now kind.now fill.now) (region_places shape.now region.now)
-        result }
+    ensures answer { ReadsChain B.functions chain.now (lent_form form.entry) (seen_state span.now
+        (H.state handle.old)) (region_places form.entry.shape.now region.now) result }
+    ensures tight { IfOk result (IsTight form.entry.data_type.now) }
+    ensures sure { SureChain B.functions chain.now (lent_form form.entry) (seen_state span.now
+        (H.state handle.old)) (region_places form.entry.shape.now region.now) result }
     ensures left { H.state handle.new ≡ after_reading result (H.state handle.old) }
     ensures same_reference { H.lent handle.new ≡ H.lent handle.old }
 {
     chain_is_sound(chain);
-    shape.as_slice();
+    form.shape.as_slice();
     let codecs = chain.array_to_array_codecs();
-    let runs = region_runs(alloc, codecs, shape, region)?;
-    let held = moved_in_span(
-        alloc, chain, handle, span, encoded, measured, kind, fill, &runs,
-    )?;
-    decoded_window(alloc, codecs, shape, region, held, kind, fill)
+    let runs = region_runs(alloc, codecs, form.shape, region)?;
+    let moved = Form {
+        shape: encoded,
+        ..form
+    };
+    let held = moved_in_span(alloc, chain, handle, span, moved, measured, &runs)?;
+    decoded_window(
+        alloc,
+        codecs,
+        form.shape,
+        region,
+        held,
+        form.data_type,
+        form.fill_value,
+    )
 }
 
 /// The elements at the places of these runs of a chunk that the chain takes, whose value stands in a
@@ -165,46 +157,39 @@ pub(crate) fn chain_in_span<H: ReadAheadTraits, B: BytesToBytesCodecTraits>(
     chain: &CodecChain<B>,
     handle: &mut H,
     span: &ValueSpan<'_>,
-    shape: &ChunkShape,
+    form: Form<'_>,
     encoded: &ChunkShape,
     measured: &BytesRepresentation,
-    kind: &DataType,
-    fill: &FillValue,
     runs: &[(u64, u64)],
 ) -> Result<ArrayBytes<'static>, CodecError>
-    requires takes { TakesForm B.functions chain.now
-        shape.now kind.now fill.now encoded.now measured.now }
-    requires counted { product shape.now < 2 ^ 64 }
+    requires takes { TakesForm B.functions chain.now (lent_form form) encoded.now measured.now }
+    requires counted { product form.shape.now < 2 ^ 64 }
     requires stands { StandsIn span.now (H.state handle.old) }
     requires filled { AreFilled runs.now }
-    requires below { EndWithin (product shape.now) runs.now }
+    requires below { EndWithin (product form.shape.now) runs.now }
     requires count { length (joined_runs runs.now) < 2 ^ 64 }
-    // Wide: the form of a chunk, the span and the places.
-    ensures answer { AnswersRuns kind.now (chain_read B.functions (plain_chain chain.now) shape.now
-        kind.now fill.now (seen_state span.now (H.state handle.old)).value
-        (joined_runs runs.now)) result }
-    ensures tight { IfOk result (IsTight kind.now) }
-    ensures sure { SurePlaces (seen_state span.now (H.state handle.old)) (chain_rests B.functions
-        (plain_chain chain.now) shape.now kind.now fill.now) (joined_runs runs.now) result }
+    ensures answer { ReadsChain B.functions chain.now (lent_form form.entry) (seen_state span.now
+        (H.state handle.old)) (joined_runs runs.now) result }
+    ensures tight { IfOk result (IsTight form.entry.data_type.now) }
+    ensures sure { SureChain B.functions chain.now (lent_form form.entry) (seen_state span.now
+        (H.state handle.old)) (joined_runs runs.now) result }
     ensures left { H.state handle.new ≡ after_reading result (H.state handle.old) }
     ensures same_reference { H.lent handle.new ≡ H.lent handle.old }
 {
     chain_is_sound(chain);
-    shape.as_slice();
+    form.shape.as_slice();
     let codecs = chain.array_to_array_codecs();
+    let moved = Form {
+        shape: encoded,
+        ..form
+    };
     if codecs.is_empty() {
-        return moved_in_span(
-            alloc, chain, handle, span, encoded, measured, kind, fill, runs,
-        );
+        return moved_in_span(alloc, chain, handle, span, moved, measured, runs);
     }
-    let indexer = runs_indexer(alloc, shape, runs)?;
-    if let Some(region) = kept_region(codecs, shape, &indexer) {
-        return region_in_span(
-            alloc, chain, handle, span, shape, encoded, measured, kind, fill, region,
-        );
+    let indexer = runs_indexer(alloc, form.shape, runs)?;
+    if let Some(region) = kept_region(codecs, form.shape, &indexer) {
+        return region_in_span(alloc, chain, handle, span, form, encoded, measured, region);
     }
-    let runs = encoded_runs(alloc, codecs, shape, &indexer)?;
-    moved_in_span(
-        alloc, chain, handle, span, encoded, measured, kind, fill, &runs,
-    )
+    let runs = encoded_runs(alloc, codecs, form.shape, &indexer)?;
+    moved_in_span(alloc, chain, handle, span, moved, measured, &runs)
 }

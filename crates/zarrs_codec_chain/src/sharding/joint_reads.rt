@@ -1,29 +1,27 @@
 //! One reading call for all inner chunks of which it is known before what is read of them.
-ghost use Rattle.std.specs.Prelude.{◌≡◌, [], ◌∷◌, ◌≤◌, ◌<◌, ◌*◌, ◌++◌, ◌^◌, All, IfErr, IfOk, IfSome, length, map, not, false, true};
+ghost use Rattle.std.specs.Prelude.{◌≡◌, [], ◌∷◌, ◌≤◌, ◌<◌, ◌*◌, ◌++◌, ◌^◌, IfErr, IfOk, IfSome, length, not, false, true};
 ghost use Rattle.zarrs_chain.specs.ChainView.{plain_chain, plain_codec};
 ghost use Rattle.zarrs_chain_meaning.specs.sharding.Sharding.{spans_of};
 ghost use Rattle.zarrs_chunk.specs.Answer.{is_fault, memory_or_fault};
 ghost use Rattle.zarrs_chunk.specs.ChunkShape.{product};
 ghost use Rattle.zarrs_chunk.specs.Runs.{AreFilled, EndWithin, joined_runs};
 ghost use Rattle.zarrs_codec.specs.StorageState.{after_reading};
-ghost use Rattle.zarrs_codec_chain.specs.ChunkRead.{asks_in_part};
+ghost use Rattle.zarrs_chain.specs.FormView.{lent_form};
+ghost use Rattle.zarrs_codec_chain.specs.ChunkRead.{TakenBy, asks_in_part};
 ghost use Rattle.zarrs_codec_chain.specs.CodecPart.{codec_plans};
-ghost use Rattle.zarrs_codec_chain.specs.CodecRead.{Takes};
 ghost use Rattle.zarrs_codec_chain.specs.JointReads.{AddsRanges, AddsSpan, AreGroupRanges, AreRestedOn, PlacesRest, RestMoved, end_within};
-ghost use Rattle.zarrs_codec_chain.specs.SpanReads.{AreInnerRuns, StandsIn, SureWhere, TakesForm, chain_rests, seen_state, stored_groups_rest};
+ghost use Rattle.zarrs_codec_chain.specs.SpanReads.{AreInnerRuns, StandsIn, SureGroups, TakesForm, seen_state};
 ghost use Rattle.zarrs_lent_handles.specs.SpanHandle.{moved_ranges};
-ghost use Rattle.zarrs_shard_runs.specs.GroupedRuns.{group};
 
 use crate::partial_decoder::codec_read::plans_reads;
 use crate::partial_decoder::encoded_runs::encoded_runs;
 use crate::sharding::value_span::ValueSpan;
 use std::alloc::{AllocError, Global};
 use zarrs_array_regions::{kept_region, region_runs};
-use zarrs_chain::stages::{chain_is_sound, has_span};
+use zarrs_chain::stages::{Form, chain_is_sound, has_span};
 use zarrs_chain::{ArrayToBytesCodec, CodecChain};
 use zarrs_chunk::{ChunkShape, CodecError};
 use zarrs_codec::{ByteRange, BytesRepresentation, BytesToBytesCodecTraits, CodecTraits, room_for};
-use zarrs_data_type::{DataType, FillValue};
 use zarrs_lent_handles::ReadAheadTraits;
 use zarrs_shard_runs::{InnerRuns, runs_indexer};
 
@@ -62,38 +60,35 @@ fn whole_range(alloc: Global, len: u64) -> Result<Vec<ByteRange>, AllocError>
 fn moved_runs<B: BytesToBytesCodecTraits>(
     alloc: Global,
     chain: &CodecChain<B>,
-    shape: &ChunkShape,
+    form: Form<'_>,
     encoded: &ChunkShape,
     measured: &BytesRepresentation,
-    kind: &DataType,
-    fill: &FillValue,
     runs: &[(u64, u64)],
 ) -> Result<Vec<(u64, u64)>, CodecError>
-    requires takes { TakesForm B.functions chain.now
-        shape.now kind.now fill.now encoded.now measured.now }
-    requires counted { product shape.now < 2 ^ 64 }
+    requires takes { TakesForm B.functions chain.now (lent_form form) encoded.now measured.now }
+    requires counted { product form.shape.now < 2 ^ 64 }
     requires filled { AreFilled runs.now }
-    requires below { EndWithin (product shape.now) runs.now }
+    requires below { EndWithin (product form.shape.now) runs.now }
     requires count { length (joined_runs runs.now) < 2 ^ 64 }
     ensures filled { IfOk result (λ moved. AreFilled moved.items) }
     ensures below { IfOk result (λ moved. EndWithin (product encoded.now) moved.items) }
-    ensures rested { IfOk result (λ moved. RestMoved B.functions (plain_chain chain.now) shape.now
-        encoded.now kind.now fill.now (joined_runs runs.now) (joined_runs moved.items)) }
+    ensures rested { IfOk result (λ moved. RestMoved B.functions (plain_chain chain.now) (lent_form
+        form.entry) encoded.now (joined_runs runs.now) (joined_runs moved.items)) }
     ensures refused { IfErr result (λ error. memory_or_fault error ≡ true) }
     ensures no_fault { is_fault result ≡ false }
 {
     chain_is_sound(chain);
-    shape.as_slice();
+    form.shape.as_slice();
     let codecs = chain.array_to_array_codecs();
     if codecs.is_empty() {
         let own = Vec::from_slice(alloc, runs)?;
         return Ok(own);
     }
-    let indexer = runs_indexer(alloc, shape, runs)?;
-    if let Some(region) = kept_region(codecs, shape, &indexer) {
-        return region_runs(alloc, codecs, shape, region);
+    let indexer = runs_indexer(alloc, form.shape, runs)?;
+    if let Some(region) = kept_region(codecs, form.shape, &indexer) {
+        return region_runs(alloc, codecs, form.shape, region);
     }
-    encoded_runs(alloc, codecs, shape, &indexer)
+    encoded_runs(alloc, codecs, form.shape, &indexer)
 }
 
 /// The ranges of the bytes of these runs' places, one for each run, as a read asks for them. Errors:
@@ -102,23 +97,25 @@ fn moved_runs<B: BytesToBytesCodecTraits>(
 fn place_ranges<B: BytesToBytesCodecTraits>(
     alloc: Global,
     codec: &ArrayToBytesCodec<B>,
-    shape: &ChunkShape,
-    kind: &DataType,
-    fill: &FillValue,
+    form: Form<'_>,
     runs: &[(u64, u64)],
 ) -> Result<Vec<ByteRange>, CodecError>
-    requires taken { Takes B.functions codec.now shape.now kind.now fill.now }
+    requires taken { TakenBy B.functions (plain_codec codec.now) (lent_form form) }
     requires plans { codec_plans (plain_codec codec.now) ≡ true }
     requires filled { AreFilled runs.now }
-    requires below { EndWithin (product shape.now) runs.now }
-    ensures rested { IfOk result (λ ranges. PlacesRest B.functions (plain_codec codec.now) shape.now
-        kind.now fill.now (joined_runs runs.now) ranges.items) }
+    requires below { EndWithin (product form.shape.now) runs.now }
+    ensures rested { IfOk result (λ ranges. PlacesRest B.functions (plain_codec codec.now)
+        (lent_form form.entry) (joined_runs runs.now) ranges.items) }
     ensures refused { IfErr result (λ error. memory_or_fault error ≡ true) }
     ensures no_fault { is_fault result ≡ false }
 {
     match codec {
-        ArrayToBytesCodec::Bytes(codec) => codec.planned_runs(alloc, kind, fill, runs),
-        ArrayToBytesCodec::PackBits(codec) => { codec.planned_runs(alloc, shape, kind, fill, runs) }
+        ArrayToBytesCodec::Bytes(codec) => {
+            codec.planned_runs(alloc, form.data_type, form.fill_value, runs)
+        }
+        ArrayToBytesCodec::PackBits(codec) => {
+            codec.planned_runs(alloc, form.shape, form.data_type, form.fill_value, runs)
+        }
         ArrayToBytesCodec::VlenV2(_)
         | ArrayToBytesCodec::Vlen(_)
         | ArrayToBytesCodec::Optional(_)
@@ -132,28 +129,23 @@ fn chunk_ranges<B: BytesToBytesCodecTraits>(
     alloc: Global,
     chain: &CodecChain<B>,
     len: u64,
-    shape: &ChunkShape,
+    form: Form<'_>,
     encoded: &ChunkShape,
     measured: &BytesRepresentation,
-    kind: &DataType,
-    fill: &FillValue,
     runs: &[(u64, u64)],
 ) -> Result<Option<Vec<ByteRange>>, CodecError>
-    requires takes { TakesForm B.functions chain.now
-        shape.now kind.now fill.now encoded.now measured.now }
-    requires counted { product shape.now < 2 ^ 64 }
+    requires takes { TakesForm B.functions chain.now (lent_form form) encoded.now measured.now }
+    requires counted { product form.shape.now < 2 ^ 64 }
     requires filled { AreFilled runs.now }
-    requires below { EndWithin (product shape.now) runs.now }
+    requires below { EndWithin (product form.shape.now) runs.now }
     requires count { length (joined_runs runs.now) < 2 ^ 64 }
-    // Wide: the form of a chunk and the places.
-    ensures rested { IfOk result (λ found. IfSome found (λ ranges. AreRestedOn (chain_rests
-        B.functions (plain_chain chain.now)) shape.now kind.now fill.now len
-        (joined_runs runs.now) ranges.items)) }
+    ensures rested { IfOk result (λ found. IfSome found (λ ranges. AreRestedOn B.functions
+        (plain_chain chain.now) (lent_form form.entry) len (joined_runs runs.now) ranges.items)) }
     ensures refused { IfErr result (λ error. memory_or_fault error ≡ true) }
     ensures no_fault { is_fault result ≡ false }
 {
     chain_is_sound(chain);
-    shape.as_slice();
+    form.shape.as_slice();
     if is_read_whole(chain) {
         return Ok(Some(whole_range(alloc, len)?));
     }
@@ -161,8 +153,12 @@ fn chunk_ranges<B: BytesToBytesCodecTraits>(
     if !plans_reads(codec) {
         return Ok(None);
     }
-    let moved = moved_runs(alloc, chain, shape, encoded, measured, kind, fill, runs)?;
-    let ranges = place_ranges(alloc, codec, encoded, kind, fill, moved.as_slice())?;
+    let moved = moved_runs(alloc, chain, form, encoded, measured, runs)?;
+    let inside = Form {
+        shape: encoded,
+        ..form
+    };
+    let ranges = place_ranges(alloc, codec, inside, moved.as_slice())?;
     Ok(Some(ranges))
 }
 
@@ -199,29 +195,22 @@ fn append_ranges<B: BytesToBytesCodecTraits>(
     chain: &CodecChain<B>,
     ranges: &mut Vec<ByteRange>,
     inside: &ValueSpan<'_>,
-    shape: &ChunkShape,
+    form: Form<'_>,
     encoded: &ChunkShape,
     measured: &BytesRepresentation,
-    kind: &DataType,
-    fill: &FillValue,
     runs: &[(u64, u64)],
 ) -> Result<bool, CodecError>
-    requires takes { TakesForm B.functions chain.now
-        shape.now kind.now fill.now encoded.now measured.now }
-    requires counted { product shape.now < 2 ^ 64 }
+    requires takes { TakesForm B.functions chain.now (lent_form form) encoded.now measured.now }
+    requires counted { product form.shape.now < 2 ^ 64 }
     requires filled { AreFilled runs.now }
-    requires below { EndWithin (product shape.now) runs.now }
+    requires below { EndWithin (product form.shape.now) runs.now }
     requires count { length (joined_runs runs.now) < 2 ^ 64 }
-    // Wide: the form of a chunk, where it stands and the places.
-    ensures added { IfOk result (λ known. known ≡ true → AddsRanges (chain_rests B.functions
-        (plain_chain chain.now)) shape.now kind.now fill.now inside.now.at inside.now.len
-        (joined_runs runs.now) ranges.old.items ranges.new.items) }
+    ensures added { IfOk result (λ known. known ≡ true → AddsRanges B.functions chain.now (lent_form
+        form.entry) inside.now runs.now ranges.old.items ranges.new.items) }
     ensures refused { IfErr result (λ error. memory_or_fault error ≡ true) }
     ensures no_fault { is_fault result ≡ false }
 {
-    match chunk_ranges(
-        alloc, chain, inside.len, shape, encoded, measured, kind, fill, runs,
-    )? {
+    match chunk_ranges(alloc, chain, inside.len, form, encoded, measured, runs)? {
         None => Ok(false),
         Some(own) => Ok(append_moved(ranges, inside, own.as_slice())?),
     }
@@ -236,23 +225,18 @@ fn append_group<B: BytesToBytesCodecTraits>(
     ranges: &mut Vec<ByteRange>,
     span: &ValueSpan<'_>,
     place: (usize, usize),
-    shape: &ChunkShape,
+    form: Form<'_>,
     encoded: &ChunkShape,
     measured: &BytesRepresentation,
-    kind: &DataType,
-    fill: &FillValue,
     runs: &[(u64, u64)],
 ) -> Result<bool, CodecError>
-    requires takes { TakesForm B.functions chain.now
-        shape.now kind.now fill.now encoded.now measured.now }
-    requires counted { product shape.now < 2 ^ 64 }
+    requires takes { TakesForm B.functions chain.now (lent_form form) encoded.now measured.now }
+    requires counted { product form.shape.now < 2 ^ 64 }
     requires filled { AreFilled runs.now }
-    requires below { EndWithin (product shape.now) runs.now }
+    requires below { EndWithin (product form.shape.now) runs.now }
     requires count { length (joined_runs runs.now) < 2 ^ 64 }
-    // Wide: the form of a chunk, where it stands and the places.
-    ensures added { IfOk result (λ known. known ≡ true → AddsSpan (chain_rests B.functions
-        (plain_chain chain.now)) shape.now kind.now fill.now span.now.at span.now.len place
-        (joined_runs runs.now) ranges.old.items ranges.new.items) }
+    ensures added { IfOk result (λ known. known ≡ true → AddsSpan B.functions chain.now (lent_form
+        form.entry) span.now place runs.now ranges.old.items ranges.new.items) }
     ensures refused { IfErr result (λ error. memory_or_fault error ≡ true) }
     ensures no_fault { is_fault result ≡ false }
 {
@@ -261,9 +245,7 @@ fn append_group<B: BytesToBytesCodecTraits>(
     }
     match span.inside(place.0 as u64, place.1 as u64) {
         Err(_) => Ok(false),
-        Ok(inside) => append_ranges(
-            alloc, chain, ranges, &inside, shape, encoded, measured, kind, fill, runs,
-        ),
+        Ok(inside) => append_ranges(alloc, chain, ranges, &inside, form, encoded, measured, runs),
     }
 }
 
@@ -275,21 +257,16 @@ fn group_ranges<B: BytesToBytesCodecTraits>(
     span: &ValueSpan<'_>,
     numbers: &[usize],
     groups: &[InnerRuns],
-    shape: &ChunkShape,
+    form: Form<'_>,
     encoded: &ChunkShape,
     measured: &BytesRepresentation,
-    kind: &DataType,
-    fill: &FillValue,
 ) -> Result<Option<Vec<ByteRange>>, CodecError>
-    requires takes { TakesForm B.functions chain.now
-        shape.now kind.now fill.now encoded.now measured.now }
-    requires counted { product shape.now < 2 ^ 64 }
-    requires groups { AreInnerRuns shape.now (length (spans_of numbers.now)) groups.now }
+    requires takes { TakesForm B.functions chain.now (lent_form form) encoded.now measured.now }
+    requires counted { product form.shape.now < 2 ^ 64 }
+    requires groups { AreInnerRuns form.shape.now (length (spans_of numbers.now)) groups.now }
     requires numbers { length numbers.now ≡ length (spans_of numbers.now) * 2 }
-    // Wide: the form of a chunk, where it stands and the groups.
-    ensures ranges { IfOk result (λ found. IfSome found (λ ranges. AreGroupRanges (chain_rests
-        B.functions (plain_chain chain.now)) shape.now kind.now fill.now span.now.at span.now.len
-        (spans_of numbers.now) groups.now ranges.items)) }
+    ensures ranges { IfOk result (λ found. IfSome found (λ ranges. AreGroupRanges B.functions
+        chain.now (lent_form form.entry) span.now numbers.now groups.now ranges.items)) }
     ensures refused { IfErr result (λ error. memory_or_fault error ≡ true) }
     ensures no_fault { is_fault result ≡ false }
 {
@@ -304,11 +281,9 @@ fn group_ranges<B: BytesToBytesCodecTraits>(
             &mut ranges,
             span,
             place,
-            shape,
+            form,
             encoded,
             measured,
-            kind,
-            fill,
             runs,
         )? {
             return Ok(None);
@@ -333,32 +308,25 @@ pub(crate) fn read_groups_ahead<H: ReadAheadTraits, B: BytesToBytesCodecTraits>(
     span: &ValueSpan<'_>,
     numbers: &[usize],
     groups: &[InnerRuns],
-    shape: &ChunkShape,
+    form: Form<'_>,
     encoded: &ChunkShape,
     measured: &BytesRepresentation,
-    kind: &DataType,
-    fill: &FillValue,
 ) -> Result<(), CodecError>
-    requires takes { TakesForm B.functions chain.now
-        shape.now kind.now fill.now encoded.now measured.now }
-    requires counted { product shape.now < 2 ^ 64 }
+    requires takes { TakesForm B.functions chain.now (lent_form form) encoded.now measured.now }
+    requires counted { product form.shape.now < 2 ^ 64 }
     requires stands { StandsIn span.now (H.state handle.old) }
-    requires groups { AreInnerRuns shape.now (length (spans_of numbers.now)) groups.now }
+    requires groups { AreInnerRuns form.shape.now (length (spans_of numbers.now)) groups.now }
     requires numbers { length numbers.now ≡ length (spans_of numbers.now) * 2 }
     ensures refused { IfErr result (λ error. memory_or_fault error ≡ true) }
-    // Wide: the form of a chunk, the span and the places.
-    ensures sure { SureWhere (seen_state span.now (H.state handle.old)) (stored_groups_rest
-        (chain_rests B.functions (plain_chain chain.now)) shape.now kind.now fill.now (seen_state
-        span.now (H.state handle.old)).value (spans_of numbers.now) (map group groups.now)) result }
+    ensures sure { SureGroups B.functions chain.now (lent_form form.entry) (seen_state span.now
+        (H.state handle.old)) numbers.now groups.now result }
     ensures left { H.state handle.new ≡ after_reading result (H.state handle.old) }
     ensures same_reference { H.lent handle.new ≡ H.lent handle.old }
 {
     if span.held.is_some() || groups.len() < 2 {
         return Ok(());
     }
-    match group_ranges(
-        alloc, chain, span, numbers, groups, shape, encoded, measured, kind, fill,
-    )? {
+    match group_ranges(alloc, chain, span, numbers, groups, form, encoded, measured)? {
         Some(ranges) if are_few(ranges.as_slice()) => handle.read_ahead(alloc, ranges),
         _ => Ok(()),
     }

@@ -1,4 +1,7 @@
-ghost use Rattle.zarrs_codec_chain.specs.vlen.VlenRuns.{VlenTakes, GivesForm};
+ghost use Rattle.zarrs_codec_chain.specs.vlen.VlenRuns.{GivesForm};
+ghost use Rattle.zarrs_codec_chain.specs.ChunkRead.{TakenBy};
+ghost use Rattle.zarrs_chain.specs.FormView.{lent_form};
+ghost use Rattle.zarrs_data_type.specs.Form.{form_of};
 ghost use Rattle.std.specs.Prelude.{◌≡◌, ◌<◌, ◌^◌, ◌&&◌, IfOk, IfErr, is_ok, is_some, true};
 ghost use Rattle.zarrs_chunk.specs.ChunkShape.{product};
 ghost use Rattle.zarrs_chunk.specs.Indexer.{selection_of};
@@ -15,7 +18,7 @@ use crate::vlen::vlen_runs::vlen_runs;
 use std::alloc::Global;
 use zarrs_array_bytes::ArrayBytes;
 use zarrs_chain::VlenCodec;
-use zarrs_chain::stages::vlen_is_sound;
+use zarrs_chain::stages::{Form, vlen_is_sound};
 use zarrs_chunk::{ChunkShape, CodecError, Indexer};
 use zarrs_codec::{
     ArrayPartialDecoderTraits, BytesPartialDecoderTraits, BytesToBytesCodecTraits, CodecTraits,
@@ -46,19 +49,18 @@ pub struct VlenPartialDecoder<'a, H: BytesPartialDecoderTraits, B: BytesToBytesC
 /// `encoded_representation`.
 fn parts_of_decoder<B: BytesToBytesCodecTraits>(
     codec: &VlenCodec<B>,
-    shape: &ChunkShape,
-    data_type: &DataType,
-    fill_value: &FillValue,
+    form: Form<'_>,
 ) -> Result<(ChunkShape, DataType, FillValue), CodecError>
-    ensures answer { GivesForm B.functions codec.now shape.now data_type.now fill_value.now result }
-    ensures taken { IfOk result (λ parts. VlenTakes B.functions codec.now parts.0 parts.1 parts.2) }
+    ensures answer { GivesForm B.functions codec.now (lent_form form.entry) result }
+    ensures taken { IfOk result (λ parts. TakenBy B.functions (plain_vlen codec.now) (form_of
+        parts.0 parts.1 parts.2)) }
     ensures filling { IfOk result (λ parts. fill_fits parts.1 parts.2 ≡ true) }
     ensures counted { IfOk result (λ parts. product parts.0 < 2 ^ 64) }
 {
-    codec.encoded_representation(shape, data_type, fill_value)?;
-    let shape = shape.clone()?;
-    let data_type = data_type.clone()?;
-    let fill_value = fill_value.clone()?;
+    codec.encoded_representation(form.shape, form.data_type, form.fill_value)?;
+    let shape = form.shape.clone()?;
+    let data_type = form.data_type.clone()?;
+    let fill_value = form.fill_value.clone()?;
     Ok((shape, data_type, fill_value))
 }
 
@@ -103,7 +105,12 @@ impl<B: BytesToBytesCodecTraits> VlenCodecPartialTraits<B> for VlenCodec<B> {
         ensures over { IfOk result (λ decoder. vlen_handle_of decoder ≡ handle) }
         ensures handed_back { IfErr result (λ refused. refused.handle ≡ handle) }
     {
-        match parts_of_decoder(self, shape, data_type, fill_value) {
+        let form = Form {
+            shape,
+            data_type,
+            fill_value,
+        };
+        match parts_of_decoder(self, form) {
             Ok((shape, data_type, fill_value)) => Ok(VlenPartialDecoder {
                 handle,
                 codec: self,
@@ -147,15 +154,12 @@ impl<'a, H: BytesPartialDecoderTraits, B: BytesToBytesCodecTraits> VlenPartialDe
         vlen_is_sound(self.codec);
         self.shape.as_slice();
         let runs = indexer.runs(alloc, &self.shape)?;
-        vlen_runs(
-            alloc,
-            self.codec,
-            &mut self.handle,
-            &self.shape,
-            &self.data_type,
-            &self.fill_value,
-            &runs,
-        )
+        let form = Form {
+            shape: &self.shape,
+            data_type: &self.data_type,
+            fill_value: &self.fill_value,
+        };
+        vlen_runs(alloc, self.codec, &mut self.handle, form, &runs)
     }
 
     /// Whether a value is stored. Errors: `Storage`, but never where the handle has sure bytes.

@@ -40,9 +40,9 @@ invariant-shard_runs::read_groups-loop-group g l =
     let f = g.B.BytesToBytesCodecTraits.functions in
     let before = seen_state l.span (g.H.BytesPartialDecoderTraits.state l.fn.handle) in
     record {
-      walk : (value : List ℕ) → before.value ≡ Some value → WalkedTo (chain_read f (plain_chain l.chain)) l.shape l.kind l.fill value (spans_of l.numbers) l.groups l.group-index l.joined l.count;
-      sure : (value : List ℕ) → before.value ≡ Some value → are_given_sure before.sure (groups_rest (chain_rests f (plain_chain l.chain)) l.shape l.kind l.fill value (spans_of l.numbers) (map group l.groups)) ≡ true → are_given_sure before.sure (groups_rest (chain_rests f (plain_chain l.chain)) l.shape l.kind l.fill value (spans_of l.numbers) (map group (drop l.group-index l.groups))) ≡ true;
-      tight : IsTight l.kind l.joined;
+      walk : (value : List ℕ) → before.value ≡ Some value → WalkedTo (chain_read f (plain_chain l.chain)) l.form.shape.now l.form.data_type.now l.form.fill_value.now value (spans_of l.numbers) l.groups l.group-index l.joined l.count;
+      sure : (value : List ℕ) → before.value ≡ Some value → are_given_sure before.sure (groups_rest (chain_rests f (plain_chain l.chain)) l.form.shape.now l.form.data_type.now l.form.fill_value.now value (spans_of l.numbers) (map group l.groups)) ≡ true → are_given_sure before.sure (groups_rest (chain_rests f (plain_chain l.chain)) l.form.shape.now l.form.data_type.now l.form.fill_value.now value (spans_of l.numbers) (map group (drop l.group-index l.groups))) ≡ true;
+      tight : IsTight l.form.data_type.now l.joined;
       state : g.H.BytesPartialDecoderTraits.state l.handle ≡ g.H.BytesPartialDecoderTraits.state l.fn.handle;
       lent : g.H.BytesPartialDecoderTraits.lent l.handle ≡ g.H.BytesPartialDecoderTraits.lent l.fn.handle;
     }

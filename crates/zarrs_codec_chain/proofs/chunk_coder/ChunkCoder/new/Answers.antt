@@ -34,17 +34,17 @@ returns-clause-index g c =
 pub returns-in_err-shape-clause-measured_first : goal.returns-in_err-shape-clause-measured_first
 returns-in_err-shape-clause-measured_first g c =
     let p = err_from_is_err_and c.from_residual.result c.from_residual.ensures.1 in
-    rw (p.1, p.2) (wanting_first (taken_form g.B.BytesToBytesCodecTraits.functions (plain_chain c.args.chain.now) c.args.shape.now c.args.data_type.now c.args.fill.now) c.args.shape.now c.in_err-shape.field-0.0 c.in_err-shape.ensures.copy)
+    rw (p.1, p.2) (wanting_first (taken_form g.B.BytesToBytesCodecTraits.functions (plain_chain c.args.chain.now) c.args.form.shape.now c.args.form.data_type.now c.args.form.fill_value.now) c.args.form.shape.now c.in_err-shape.field-0.0 c.in_err-shape.ensures.copy)
 
 pub returns-in_err-data_type-clause-measured_first : goal.returns-in_err-data_type-clause-measured_first
 returns-in_err-data_type-clause-measured_first g c =
     let p = err_from_is_err_and c.from_residual-in_err-data_type.result c.from_residual-in_err-data_type.ensures.1 in
-    rw (p.1, p.2) (wanting_first (taken_form g.B.BytesToBytesCodecTraits.functions (plain_chain c.args.chain.now) c.args.shape.now c.args.data_type.now c.args.fill.now) c.args.data_type.now c.in_err-data_type.field-0.0 c.in_err-data_type.ensures.copy)
+    rw (p.1, p.2) (wanting_first (taken_form g.B.BytesToBytesCodecTraits.functions (plain_chain c.args.chain.now) c.args.form.shape.now c.args.form.data_type.now c.args.form.fill_value.now) c.args.form.data_type.now c.in_err-data_type.field-0.0 c.in_err-data_type.ensures.copy)
 
 pub returns-in_err-fill_value-clause-measured_first : goal.returns-in_err-fill_value-clause-measured_first
 returns-in_err-fill_value-clause-measured_first g c =
     let p = err_from_is_err_and c.from_residual-in_err-fill_value.result c.from_residual-in_err-fill_value.ensures.1 in
-    rw (p.1, p.2) (wanting_first (taken_form g.B.BytesToBytesCodecTraits.functions (plain_chain c.args.chain.now) c.args.shape.now c.args.data_type.now c.args.fill.now) c.args.fill.now c.in_err-fill_value.field-0.0 c.in_err-fill_value.ensures.copy)
+    rw (p.1, p.2) (wanting_first (taken_form g.B.BytesToBytesCodecTraits.functions (plain_chain c.args.chain.now) c.args.form.shape.now c.args.form.data_type.now c.args.form.fill_value.now) c.args.form.fill_value.now c.in_err-fill_value.field-0.0 c.in_err-fill_value.ensures.copy)
 
 pub returns-in_err-encoded-clause-measured_first : goal.returns-in_err-encoded-clause-measured_first
 returns-in_err-encoded-clause-measured_first g c =

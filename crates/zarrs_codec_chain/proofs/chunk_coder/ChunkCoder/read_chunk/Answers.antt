@@ -2,9 +2,9 @@ use Rattle.std.proofs.Common.{◌≡◌, Bool, false, subst}
 use Rattle.zarrs_chunk.specs.Answer.{AnswersBy, is_fault, memory_or_fault}
 use Rattle.zarrs_chunk.specs.Indexer.{selection_of}
 use Rattle.zarrs_array_bytes.specs.Validity.{Holds}
+use Rattle.zarrs_codec_chain.specs.ChunkRead.{WhereSureBy}
 use Rattle.zarrs_codec_chain.specs.ChunkCoder.{coder_form, coder_knows_index, reader_source}
 use Rattle.zarrs_codec_chain.specs.ChunkSource.{kept_stage}
-use Rattle.zarrs_codec_chain.specs.KeptIndex.{WhereSureBy}
 use Rattle.zarrs_codec_chain.proofs.IndexReads.{reads_stored, sure_by_all}
 use Rattle.zarrs_codec_chain.proofs.PartialReads.{source_is_stored}
 use Rattle.zarrs_codec_chain.proofs.chunk_coder.ChunkCoder.read_chunk.Goals as goal

@@ -10,14 +10,14 @@ returns-in_ok-held-in-Some-2-clause-answer g c =
     let f = g.B.BytesToBytesCodecTraits.functions in
     let chain = plain_chain c.args.chain.now in
     let stored = same_stored _ _ (rw c.in-Some-2.is at c.in_ok-decode-in-Chunk.ensures.answer) in
-    let h = held_after f chain.array_to_bytes c.args.encoded.now c.args.kind.now c.args.fill.now c.in_ok-held-in-Some-2.held (outer_bytes f chain.bytes_to_bytes c.args.representation c.in-Some-2.value.items) c.in_ok-held-in-Some-2.ensures.answer.is in
+    let h = held_after f chain.array_to_bytes c.args.form.shape.now c.args.form.data_type.now c.args.form.fill_value.now c.in_ok-held-in-Some-2.held (outer_bytes f chain.bytes_to_bytes c.args.representation c.in-Some-2.value.items) c.in_ok-held-in-Some-2.ensures.answer.is in
     rw (c.in-Chunk.is, stored, h.0) refl
 
 pub returns-in_ok-held-in-Some-2-clause-fits : goal.returns-in_ok-held-in-Some-2-clause-fits
 returns-in_ok-held-in-Some-2-clause-fits g c =
     let f = g.B.BytesToBytesCodecTraits.functions in
     let chain = plain_chain c.args.chain.now in
-    let h = held_after f chain.array_to_bytes c.args.encoded.now c.args.kind.now c.args.fill.now c.in_ok-held-in-Some-2.held (outer_bytes f chain.bytes_to_bytes c.args.representation c.in-Some-2.value.items) c.in_ok-held-in-Some-2.ensures.answer.is in
+    let h = held_after f chain.array_to_bytes c.args.form.shape.now c.args.form.data_type.now c.args.form.fill_value.now c.in_ok-held-in-Some-2.held (outer_bytes f chain.bytes_to_bytes c.args.representation c.in-Some-2.value.items) c.in_ok-held-in-Some-2.ensures.answer.is in
     is_valid _ h.1
 
 pub returns-in-Nowhere-clause-counted : goal.returns-in-Nowhere-clause-counted

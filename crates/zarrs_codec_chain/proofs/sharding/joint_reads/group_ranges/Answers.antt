@@ -1,12 +1,11 @@
 use Rattle.std.proofs.Common.{◌≡◌, ◌<◌, ◌+◌, ◌*◌, ◌^◌, ℕ, List, get_or, drop, length, arith, sym, subst}
 use Rattle.std.proofs.lemmas.Bool.Decides.{nat_tests}
-use Rattle.zarrs_chain.specs.ChainView.{plain_chain}
+use Rattle.zarrs_chain.specs.FormView.{lent_form}
 use Rattle.zarrs_chain_meaning.specs.sharding.Sharding.{Span, spans_of}
 use Rattle.zarrs_chunk.specs.Runs.{joined_runs}
 use Rattle.zarrs_codec_chain.proofs.GroupWalks.{next_at, next_is, span_at}
 use Rattle.zarrs_codec_chain.proofs.JointReads.{one_counted, ranges_end, ranges_go_on}
 use Rattle.zarrs_codec_chain.specs.JointReads.{AddsSpan}
-use Rattle.zarrs_codec_chain.specs.SpanReads.{chain_rests}
 use Rattle.zarrs_codec_chain.proofs.sharding.joint_reads.group_ranges.Goals as goal
 
 pub append_group-requires-clause-count : goal.append_group-requires-clause-count
@@ -22,11 +21,8 @@ append_group-requires-clause-count g c =
 
 pub loop-group-preserved : goal.loop-group-preserved
 loop-group-preserved g c =
-    let rests = chain_rests g.B.BytesToBytesCodecTraits.functions (plain_chain c.args.chain.now) in
-    let shape = c.args.shape.now in
-    let type = c.args.kind.now in
-    let fill = c.args.fill.now in
-    let span = c.args.span.now in
+    let f = g.B.BytesToBytesCodecTraits.functions in
+    let form = lent_form c.args.form in
     let groups = c.args.groups.now in
     let numbers = c.args.numbers.now in
     let spans = spans_of numbers in
@@ -36,10 +32,10 @@ loop-group-preserved g c =
     let next = next_at groups index it under c.group-item.is in
     let inside : it.number < length spans = next_is (λ it. it.number < length spans) groups index it (drop (index + 1) groups) next c.requires.groups.there in
     let at : get_or spans it.number (0, 0) ≡ (get_or numbers (it.number * 2) 0, get_or numbers (it.number * 2 + 1) 0) = span_at numbers it.number (omega (arith, inside, c.requires.numbers)) in
-    ranges_go_on rests shape type fill span.at span.len spans groups index it c.loop-group.ranges.items c.append_group.new.ranges.items next c.loop-group.invariant
-    (subst (λ (p : Span). AddsSpan rests shape type fill span.at span.len p (joined_runs it.runs.items) c.loop-group.ranges.items c.append_group.new.ranges.items) (sym at)
-    (subst (λ (rs : List (ℕ × ℕ)). AddsSpan rests shape type fill span.at span.len (get_or numbers (it.number * 2) 0, get_or numbers (it.number * 2 + 1) 0) (joined_runs rs) c.loop-group.ranges.items c.append_group.new.ranges.items) c.as_slice-runs.ensures.value ((c.in_ok-append_group.ensures {u = tt}).added c.if-not-branch.false)))
+    ranges_go_on f c.args.chain.now form c.args.span.now numbers groups index it c.loop-group.ranges.items c.append_group.new.ranges.items next c.loop-group.invariant
+    (subst (λ (p : Span). AddsSpan f c.args.chain.now form c.args.span.now p it.runs.items c.loop-group.ranges.items c.append_group.new.ranges.items) (sym at)
+    (subst (λ (rs : List (ℕ × ℕ)). AddsSpan f c.args.chain.now form c.args.span.now (get_or numbers (it.number * 2) 0, get_or numbers (it.number * 2 + 1) 0) rs c.loop-group.ranges.items c.append_group.new.ranges.items) c.as_slice-runs.ensures.value ((c.in_ok-append_group.ensures {u = tt}).added c.if-not-branch.false)))
 
 pub returns-clause-ranges : goal.returns-clause-ranges
 returns-clause-ranges g c =
-    ranges_end (chain_rests g.B.BytesToBytesCodecTraits.functions (plain_chain c.args.chain.now)) c.args.shape.now c.args.kind.now c.args.fill.now c.args.span.now.at c.args.span.now.len (spans_of c.args.numbers.now) c.args.groups.now c.loop-group.group-index c.loop-group.ranges.items c.loop-group.invariant
+    ranges_end g.B.BytesToBytesCodecTraits.functions c.args.chain.now (lent_form c.args.form) c.args.span.now c.args.numbers.now c.args.groups.now c.loop-group.group-index c.loop-group.ranges.items c.loop-group.invariant

@@ -21,7 +21,7 @@ use Rattle.zarrs_codec_chain.proofs.sharding.joint_reads.moved_runs.Goals as goa
 pub region_runs-requires : goal.region_runs-requires
 region_runs-requires g c =
     let f = g.B.BytesToBytesCodecTraits.functions in
-    let form : ChunkForm _ = record { chain = plain_chain c.args.chain.now; sizes = c.args.shape.now; type = c.args.kind.now; fill = c.args.fill.now } in
+    let form : ChunkForm _ = record { chain = plain_chain c.args.chain.now; sizes = c.args.form.shape.now; type = c.args.form.data_type.now; fill = c.args.form.fill_value.now } in
     let encoded = c.args.encoded.now in
     let r = c.args.measured.now in
     let are = c.chain_is_sound.ensures.mappings.mappings in
@@ -35,13 +35,13 @@ returns-in-Some-clause-below g c =
     let f = g.B.BytesToBytesCodecTraits.functions in
     let are = c.chain_is_sound.ensures.mappings.mappings in
     let positive = subst (All (λ size. 0 < size)) c.as_slice.ensures.value c.as_slice.ensures.positive in
-    let h = is_readable f (plain_chain c.args.chain.now) c.args.shape.now c.args.kind.now c.args.fill.now c.args.encoded.now c.args.measured.now are positive c.requires.takes in
-    end_below c.region_runs.result (product c.args.encoded.now) (product c.args.shape.now) h.count c.region_runs.ensures.below
+    let h = is_readable f (plain_chain c.args.chain.now) c.args.form.shape.now c.args.form.data_type.now c.args.form.fill_value.now c.args.encoded.now c.args.measured.now are positive c.requires.takes in
+    end_below c.region_runs.result (product c.args.encoded.now) (product c.args.form.shape.now) h.count c.region_runs.ensures.below
 
 pub returns-in-Some-clause-rested : goal.returns-in-Some-clause-rested
 returns-in-Some-clause-rested g c =
     let f = g.B.BytesToBytesCodecTraits.functions in
-    let form : ChunkForm _ = record { chain = plain_chain c.args.chain.now; sizes = c.args.shape.now; type = c.args.kind.now; fill = c.args.fill.now } in
+    let form : ChunkForm _ = record { chain = plain_chain c.args.chain.now; sizes = c.args.form.shape.now; type = c.args.form.data_type.now; fill = c.args.form.fill_value.now } in
     let encoded = c.args.encoded.now in
     let r = c.args.measured.now in
     let are = c.chain_is_sound.ensures.mappings.mappings in
@@ -56,13 +56,13 @@ returns-clause-below g c =
     let f = g.B.BytesToBytesCodecTraits.functions in
     let are = c.chain_is_sound.ensures.mappings.mappings in
     let positive = subst (All (λ size. 0 < size)) c.as_slice.ensures.value c.as_slice.ensures.positive in
-    let h = is_readable f (plain_chain c.args.chain.now) c.args.shape.now c.args.kind.now c.args.fill.now c.args.encoded.now c.args.measured.now are positive c.requires.takes in
-    end_below c.encoded_runs.result (product c.args.encoded.now) (product c.args.shape.now) h.count c.encoded_runs.ensures.below
+    let h = is_readable f (plain_chain c.args.chain.now) c.args.form.shape.now c.args.form.data_type.now c.args.form.fill_value.now c.args.encoded.now c.args.measured.now are positive c.requires.takes in
+    end_below c.encoded_runs.result (product c.args.encoded.now) (product c.args.form.shape.now) h.count c.encoded_runs.ensures.below
 
 pub returns-clause-rested : goal.returns-clause-rested
 returns-clause-rested g c =
     let f = g.B.BytesToBytesCodecTraits.functions in
-    let form : ChunkForm _ = record { chain = plain_chain c.args.chain.now; sizes = c.args.shape.now; type = c.args.kind.now; fill = c.args.fill.now } in
+    let form : ChunkForm _ = record { chain = plain_chain c.args.chain.now; sizes = c.args.form.shape.now; type = c.args.form.data_type.now; fill = c.args.form.fill_value.now } in
     let are = c.chain_is_sound.ensures.mappings.mappings in
     let positive = subst (All (λ size. 0 < size)) c.as_slice.ensures.value c.as_slice.ensures.positive in
     let h = is_readable f form.chain form.sizes form.type form.fill c.args.encoded.now c.args.measured.now are positive c.requires.takes in
@@ -73,7 +73,7 @@ returns-clause-rested g c =
 pub returns-clause-refused : goal.returns-clause-refused
 returns-clause-refused g c =
     let f = g.B.BytesToBytesCodecTraits.functions in
-    let form : ChunkForm _ = record { chain = plain_chain c.args.chain.now; sizes = c.args.shape.now; type = c.args.kind.now; fill = c.args.fill.now } in
+    let form : ChunkForm _ = record { chain = plain_chain c.args.chain.now; sizes = c.args.form.shape.now; type = c.args.form.data_type.now; fill = c.args.form.fill_value.now } in
     let are = c.chain_is_sound.ensures.mappings.mappings in
     let positive = subst (All (λ size. 0 < size)) c.as_slice.ensures.value c.as_slice.ensures.positive in
     let h = is_readable f form.chain form.sizes form.type form.fill c.args.encoded.now c.args.measured.now are positive c.requires.takes in

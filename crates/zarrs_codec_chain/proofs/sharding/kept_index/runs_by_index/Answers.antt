@@ -6,18 +6,12 @@ use Rattle.zarrs_chunk.specs.Answer.{is_fault}
 use Rattle.zarrs_chunk.specs.Runs.{joined_runs}
 use Rattle.zarrs_codec.specs.StorageState.{StorageState, value_size}
 use Rattle.zarrs_codec_chain.proofs.IndexReads.{index_stored}
-use Rattle.zarrs_codec_chain.proofs.ShardParts.{is_ok_so}
-use Rattle.zarrs_codec_chain.proofs.ShardSpans.{shard_takes}
 use Rattle.zarrs_codec_chain.proofs.WholeSpans.{stored_seen}
+use Rattle.zarrs_codec_chain.specs.CodecPart.{rests_behind}
 use Rattle.zarrs_codec_chain.specs.ChunkRead.{are_given_sure}
-use Rattle.zarrs_codec_chain.specs.KeptIndex.{index_seen, rests_behind}
+use Rattle.zarrs_codec_chain.specs.KeptIndex.{index_seen}
 use Rattle.zarrs_codec_chain.specs.declared.sharding.shard_index.ShardIndex.{ShardIndex}
 use Rattle.zarrs_codec_chain.proofs.sharding.kept_index.runs_by_index.Goals as goal
-
-pub shard_form-requires : goal.shard_form-requires
-shard_form-requires g c =
-    let P = c.sharding_parts.result in
-    record { taken = shard_takes g.B.BytesToBytesCodecTraits.functions (plain_sharding c.args.codec.now) P.codecs.now P.index_codecs.now P.chunk_shape.now P.is_index_at_end c.args.shape.now c.args.kind.now c.args.fill.now c.sharding_parts.ensures.parts (is_ok_so _ c.requires.taken) }
 
 pub returns-in-Some-clause-sure : goal.returns-in-Some-clause-sure
 returns-in-Some-clause-sure g c =
@@ -25,7 +19,7 @@ returns-in-Some-clause-sure g c =
     let codec = plain_sharding c.args.codec.now in
     let state = g.H.BytesPartialDecoderTraits.state c.args.handle.now in
     let index = c.in-Some.index in
-    let found = index_stored f codec c.args.shape.now state.value index.len (spans_of index.numbers.items) (c.requires.index ∙ ap (λ (i : Option ShardIndex). ok (option_map index_seen i)) c.in-Some.is) in
+    let found = index_stored f codec c.args.form.shape.now state.value index.len (spans_of index.numbers.items) (c.requires.index ∙ ap (λ (i : Option ShardIndex). ok (option_map index_seen i)) c.in-Some.is) in
     let sized : value_size state.value ≡ Some index.len = ap value_size found.is ∙ ap (λ (n : ℕ). Some n) found.long in
-    subst (λ (s : StorageState). are_given_sure s.sure (rests_behind f codec c.args.shape.now c.args.kind.now c.args.fill.now s.value (joined_runs c.args.runs.now)) ≡ true → is_fault c.index_ahead.result ≡ false)
+    subst (λ (s : StorageState). are_given_sure s.sure (rests_behind f codec c.args.form.shape.now c.args.form.data_type.now c.args.form.fill_value.now s.value (joined_runs c.args.runs.now)) ≡ true → is_fault c.index_ahead.result ≡ false)
     (stored_seen c.stored-span.result index.len state c.stored-span.ensures.parts sized) c.index_ahead.ensures.sure

@@ -3,26 +3,20 @@ use Rattle.zarrs_chain.specs.ChainView.{plain_sharding}
 use Rattle.zarrs_chain_meaning.proofs.ArraySteps.{ok_is}
 use Rattle.zarrs_chain_meaning.specs.sharding.InnerChunks.{inner_chunk_count}
 use Rattle.zarrs_codec.specs.StorageState.{value_size}
-use Rattle.zarrs_codec_chain.proofs.ShardParts.{grid_known, index_measured, is_ok_so, stored_shard}
-use Rattle.zarrs_codec_chain.proofs.ShardSpans.{shard_takes}
+use Rattle.zarrs_codec_chain.proofs.ShardParts.{grid_known, index_measured, stored_shard}
 use Rattle.zarrs_codec_chain.proofs.StoredIndex.{two_each, whole_stands}
 use Rattle.zarrs_codec_chain.specs.SpanReads.{StandsIn}
 use Rattle.zarrs_codec_chain.proofs.sharding.kept_index.stored_index.Goals as goal
 
-pub shard_form-requires : goal.shard_form-requires
-shard_form-requires g c =
-    let P = c.sharding_parts-at_end.result in
-    record { taken = shard_takes g.B.BytesToBytesCodecTraits.functions (plain_sharding c.args.codec.now) P.codecs.now P.index_codecs.now P.chunk_shape.now P.is_index_at_end c.args.shape.now c.args.kind.now c.args.fill.now c.sharding_parts-at_end.ensures.parts (is_ok_so _ c.requires.taken) }
-
 pub index_numbers-requires : goal.index_numbers-requires
 index_numbers-requires g c =
     let f = g.B.BytesToBytesCodecTraits.functions in
-    let P = c.sharding_parts-at_end.result in
+    let P = c.taken_parts-at_end.result in
     let codec = plain_sharding c.args.codec.now in
     let state = g.H.BytesPartialDecoderTraits.state c.args.handle.now in
     let sized : value_size state.value ≡ Some c.in-Some.len = ok_is _ _ c.in_ok-size.ensures.answer ∙ c.in-Some.is in
     let stands = whole_stands c.stored-span.result c.in-Some.len state c.stored-span.ensures.parts sized in
-    let shard = stored_shard f codec P.codecs.now P.index_codecs.now P.chunk_shape.now P.is_index_at_end c.args.shape.now c.args.kind.now c.args.fill.now c.stored-span.result state c.sharding_parts-at_end.ensures.parts c.requires.taken stands in
+    let shard = stored_shard f codec P.codecs.now P.index_codecs.now P.chunk_shape.now P.is_index_at_end c.args.form.shape.now c.args.form.data_type.now c.args.form.fill_value.now c.stored-span.result state c.taken_parts-at_end.ensures.parts c.requires.taken stands in
     record {
       grid = grid_known shard;
       measured = index_measured shard;
@@ -31,5 +25,5 @@ index_numbers-requires g c =
 
 pub invariant_of-result : goal.invariant_of-result
 invariant_of-result g c =
-    let P = c.sharding_parts-at_end.result in
-    record { count = two_each (inner_chunk_count P.chunk_shape.now c.args.shape.now) c.in_ok-numbers-in-Some.numbers.items ((c.in_ok-numbers-in-Some.ensures {u = tt}).len) }
+    let P = c.taken_parts-at_end.result in
+    record { count = two_each (inner_chunk_count P.chunk_shape.now c.args.form.shape.now) c.in_ok-numbers-in-Some.numbers.items ((c.in_ok-numbers-in-Some.ensures {u = tt}).len) }

@@ -12,8 +12,8 @@ use Rattle.zarrs_codec_chain.proofs.sharding.leaf_reads.part_in_span.Goals as go
 pub returns-in-Some-clause-answer : goal.returns-in-Some-clause-answer
 returns-in-Some-clause-answer g c =
     let f = g.B.BytesToBytesCodecTraits.functions in
-    let type = c.args.kind.now in
-    subst (λ (v : Option (List ℕ)). AnswersBy memory_or_fault (Holds type) c.plain_runs.result (codec_read f (plain_codec c.args.codec.now) c.args.shape.now type c.args.fill.now v (joined_runs c.args.runs.now)))
+    let type = c.args.form.data_type.now in
+    subst (λ (v : Option (List ℕ)). AnswersBy memory_or_fault (Holds type) c.plain_runs.result (codec_read f (plain_codec c.args.codec.now) c.args.form.shape.now type c.args.form.fill_value.now v (joined_runs c.args.runs.now)))
     (c.new-lent.ensures.made ∙ ap (λ (bytes : List ℕ). Some bytes) c.part_of.ensures.value ∙ sym (held_value_is c.args.span.now c.in-Some.bytes (g.H.BytesPartialDecoderTraits.state c.args.handle.now) c.in-Some.is))
     c.plain_runs.ensures.answer
 

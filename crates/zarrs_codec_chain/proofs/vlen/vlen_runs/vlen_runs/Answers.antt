@@ -12,22 +12,22 @@ use Rattle.zarrs_codec_chain.proofs.vlen.vlen_runs.vlen_runs.Goals as goal
 
 pub plain_runs-requires : goal.plain_runs-requires
 plain_runs-requires g c =
-    let t = vlen_taken g.B.BytesToBytesCodecTraits.functions c.args.codec.now c.args.shape.now c.args.kind.now c.args.fill.now c.requires.taken in
+    let t = vlen_taken g.B.BytesToBytesCodecTraits.functions c.args.codec.now c.args.form.shape.now c.args.form.data_type.now c.args.form.fill_value.now c.requires.taken in
     record { variable = t.variable; filling = t.filled; counted = t.counted; inside = c.requires.inside; count = c.requires.count }
 
 pub whole_runs-requires : goal.whole_runs-requires
 whole_runs-requires g c =
-    let t = vlen_taken g.B.BytesToBytesCodecTraits.functions c.args.codec.now c.args.shape.now c.args.kind.now c.args.fill.now c.requires.taken in
+    let t = vlen_taken g.B.BytesToBytesCodecTraits.functions c.args.codec.now c.args.form.shape.now c.args.form.data_type.now c.args.form.fill_value.now c.requires.taken in
     record { taken = c.requires.taken; filling = t.filled; counted = t.counted; inside = c.requires.inside; count = c.requires.count }
 
 pub returns-in-Some-clause-answer : goal.returns-in-Some-clause-answer
 returns-in-Some-clause-answer g c =
     let codec = plain_vlen c.args.codec.now in
-    let type = c.args.kind.now in
+    let type = c.args.form.data_type.now in
     let form = sym c.plain_form.ensures.form ∙ ap (option_map plain_form) c.in-Some.is in
     let stored = (g.H.BytesPartialDecoderTraits.state c.args.handle.now).value in
     subst (λ expected. AnswersBy memory_or_fault (Holds type) c.plain_runs.result expected)
-    (sym ((part_laws codec).plainly g.B.BytesToBytesCodecTraits.functions (plain_form c.in-Some.plain) c.args.shape.now type c.args.fill.now stored (joined_runs c.args.runs.now) form))
+    (sym ((part_laws codec).plainly g.B.BytesToBytesCodecTraits.functions (plain_form c.in-Some.plain) c.args.form.shape.now type c.args.form.fill_value.now stored (joined_runs c.args.runs.now) form))
     c.plain_runs.ensures.answer
 
 pub returns-in-Some-clause-sure : goal.returns-in-Some-clause-sure
@@ -36,16 +36,16 @@ returns-in-Some-clause-sure g c reads =
     let form = sym c.plain_form.ensures.form ∙ ap (option_map plain_form) c.in-Some.is in
     let state = g.H.BytesPartialDecoderTraits.state c.args.handle.now in
     subst (λ rests. IfOk rests (λ numbers. are_sure state.sure numbers ≡ true → is_fault c.plain_runs.result ≡ false))
-    (sym ((part_laws codec).rests_plainly g.B.BytesToBytesCodecTraits.functions (plain_form c.in-Some.plain) c.args.shape.now c.args.kind.now c.args.fill.now state.value (joined_runs c.args.runs.now) form))
+    (sym ((part_laws codec).rests_plainly g.B.BytesToBytesCodecTraits.functions (plain_form c.in-Some.plain) c.args.form.shape.now c.args.form.data_type.now c.args.form.fill_value.now state.value (joined_runs c.args.runs.now) form))
     c.plain_runs.ensures.sure
 
 pub returns-in-None-clause-answer : goal.returns-in-None-clause-answer
 returns-in-None-clause-answer g c =
-    let type = c.args.kind.now in
+    let type = c.args.form.data_type.now in
     let form = sym c.plain_form.ensures.form ∙ ap (option_map plain_form) c.in-None.is in
     let stored = (g.H.BytesPartialDecoderTraits.state c.args.handle.now).value in
     subst (λ expected. AnswersBy memory_or_fault (Holds type) c.whole_runs.result expected)
-    (sym (read_wholly g.B.BytesToBytesCodecTraits.functions c.args.codec.now c.args.shape.now type c.args.fill.now stored (joined_runs c.args.runs.now) form))
+    (sym (read_wholly g.B.BytesToBytesCodecTraits.functions c.args.codec.now c.args.form.shape.now type c.args.form.fill_value.now stored (joined_runs c.args.runs.now) form))
     c.whole_runs.ensures.answer
 
 pub returns-in-None-clause-sure : goal.returns-in-None-clause-sure

@@ -5,8 +5,8 @@ use Rattle.zarrs_chunk.specs.Indexer.{selection_of}
 use Rattle.zarrs_codec.specs.Calls.{MakesReads}
 use Rattle.zarrs_codec.specs.StorageState.{StorageState}
 use Rattle.zarrs_codec_chain.specs.ChunkCalls.{WholeOnce}
-use Rattle.zarrs_codec_chain.specs.ChunkRead.{ReadsStoredChunk}
-use Rattle.zarrs_codec_chain.specs.KeptIndex.{WhereSureBy, asks_index, keeps_nothing}
+use Rattle.zarrs_codec_chain.specs.ChunkRead.{ReadsStoredChunk, WhereSureBy}
+use Rattle.zarrs_codec_chain.specs.KeptIndex.{asks_index, keeps_nothing}
 use Rattle.zarrs_codec_chain.specs.PartialDecoder.{decoder_form, handle_of}
 use Rattle.zarrs_codec_chain.proofs.IndexReads.{cached_unwanted, unasked_unwanted}
 use Rattle.zarrs_codec_chain.proofs.partial_decoder.array_partial_decoder.ArrayPartialDecoder.partial_decode.Goals as goal
