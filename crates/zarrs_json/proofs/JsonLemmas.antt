@@ -3,12 +3,15 @@ use Rattle.std.proofs.Common.{◌≡◌, ℕ, suc, List, [], ◌∷◌, length, 
 use Rattle.std.specs.Prelude.{option_and_then, ok_or, IsUtf8, String}
 use Rattle.std.specs.Str.{is_utf8}
 use Rattle.std.proofs.lemmas.Str.{IsUtf8-from_is_utf8, is_utf8-from_IsUtf8}
-use Rattle.serde_json.specs.Data.{Data}
+use Rattle.json.specs.Token.{Token}
+use Rattle.json.specs.Print.{print}
+use Rattle.serde_json.specs.Data.{Data, string}
 use Rattle.serde_json.specs.Read.{read}
 use Rattle.serde_json.specs.Find.{get_member}
-use Rattle.serde_json.specs.Written.{has_float}
+use Rattle.serde_json.specs.Written.{has_float, compact_text}
 use Rattle.serde_json.specs.View.{members_view}
 use Rattle.serde_json.specs.declared.value.Value.{Value}
+use Rattle.serde_json.proofs.Texts.{print-outline}
 use Rattle.zarrs_json.specs.declared.refusal.Refusal.TheVariants.{Syntax}
 use Rattle.zarrs_json.specs.Json.{tree_of, tree_without_floats, only_member, member_count}
 
@@ -43,3 +46,7 @@ only_member-none key (e ∷ f ∷ es) other = refl
 pub member_count_of_view : (entries : Entries) → member_count (members_view entries) ≡ length entries
 member_count_of_view [] = refl
 member_count_of_view (e ∷ es) = ap suc (member_count_of_view es)
+
+-- the text of a string alone
+pub print_text : (text : List ℕ) → print (Token.string text ∷ []) ≡ compact_text (string text)
+print_text text = print-outline (string text)

@@ -4,3 +4,5 @@ pub mod ContainerLemmas
 pub mod ShownLemmas
 pub mod ReadElements
 pub mod HeldElements
+pub mod HexListLemmas
+pub mod HexElements

@@ -1,5 +1,5 @@
 -- Edits as JSON: {"at":INDEXER,"data":ELEMENTS}.
-use Rattle.std.specs.Prelude.{◌==◌, ok_or, Result, Ok, codes}
+use Rattle.std.specs.Prelude.{ℕ, List, ◌==◌, ok_or, Result, Ok, codes}
 use Rattle.serde_json.specs.Data.{Data, Members}
 use Rattle.serde_json.specs.Find.{as_object}
 use Rattle.zarrs_chunk.specs.Answer.{◌>>=◌, demand, seen}
@@ -11,7 +11,7 @@ use Rattle.zarrs_json.specs.declared.edits.Edit.{Edit}
 use Rattle.zarrs_json.specs.declared.refusal.Refusal.{Refusal}
 use Rattle.zarrs_json.specs.declared.refusal.Refusal.TheVariants.{Syntax}
 use Rattle.zarrs_json.specs.Refusal.{ReadsAs}
-use Rattle.zarrs_json.specs.Json.{needed_member, member_count}
+use Rattle.zarrs_json.specs.Json.{tree_of, needed_member, member_count}
 use Rattle.zarrs_json.specs.Elements.{elements_of}
 use Rattle.zarrs_json.specs.Containers.{container_of}
 use Rattle.zarrs_json.specs.Indexer.{selection_shown}
@@ -32,6 +32,12 @@ ReadsEdit result expected = ReadsAs edit_seen result expected
 -- the container of the elements that a list shows, or the first error
 abbrev pub container_in : ElementType → Data → Result Held Refusal
 container_in type tree = seen (container_of type) (elements_of type tree)
+
+-- the container of the elements that a text lists, or the first error
+abbrev pub container_listed : ElementType → List ℕ → Result Held Refusal
+container_listed type text = do
+  tree ← tree_of text
+  container_in type tree
 
 -- of the trees of its two parts; the first one is read before the second
 abbrev pub edit_at : ElementType → Data → Data → Result PlainEdit Refusal

@@ -7,6 +7,7 @@ pub mod Element
 pub mod Shown
 pub mod Indexer
 pub mod Edit
+pub mod HexLists
 pub mod DataType
 pub mod Header
 pub mod HeaderRead

@@ -7,8 +7,8 @@ ghost use Rattle.zarrs_json.specs.Json.{members_seen, lent_object};
 ghost use Rattle.zarrs_json.specs.Refusal.{ReadsJson};
 ghost use Rattle.zarrs_json.specs.DataType.{type_named, number_at, truth_at, components_shown, components_alone, components_among, type_in};
 
-use crate::json::{Members, member, only_member};
 use crate::refusal::Refusal;
+use crate::trees::{Members, member, only_member};
 use serde_json::Value;
 use std::alloc::Global;
 use zarrs_data_type::DataType;

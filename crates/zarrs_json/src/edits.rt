@@ -7,8 +7,8 @@ ghost use Rattle.zarrs_json.specs.Json.{members_seen, needed_member};
 
 use crate::element_lists::elements;
 use crate::indexers::indexer;
-use crate::json::{Members, member, object};
 use crate::refusal::Refusal;
+use crate::trees::{Members, member, object};
 use serde_json::Value;
 use std::alloc::Global;
 use zarrs_array_bytes::ArrayBytes;
@@ -19,7 +19,7 @@ use zarrs_data_type::DataType;
 #[derive(Drop)]
 pub struct Edit {
     /// Where they go.
-    pub indexer: Indexer,
+    pub indexer: Indexer<'static>,
     /// The new elements, in the indexer's order.
     pub elements: ArrayBytes<'static>,
 }

@@ -6,8 +6,8 @@ ghost use Rattle.zarrs_json.specs.Refusal.{ReadsAs};
 ghost use Rattle.zarrs_json.specs.Elements.{bytes_shown, plain_in, element_shown};
 ghost use Rattle.zarrs_json.specs.Element.{element_seen};
 
-use crate::json::{hex_bytes, lone};
 use crate::refusal::Refusal;
+use crate::trees::{hex_bytes, lone};
 use serde_json::Value;
 use std::alloc::Global;
 use zarrs_chunk::CodecError;

@@ -1,16 +1,19 @@
 //! Elements read from JSON.
-ghost use Rattle.std.specs.Prelude.{◌≡◌, Some, IfOk, map};
+ghost use Rattle.std.specs.Prelude.{◌≡◌, Ok, Some, IfOk, IfSome, map};
 ghost use Rattle.serde_json.specs.View.{view, items_view};
 ghost use Rattle.zarrs_json.specs.Refusal.{ReadsJson, ReadsAs};
-ghost use Rattle.zarrs_json.specs.Edit.{container_in};
+ghost use Rattle.zarrs_json.specs.Edit.{container_in, container_listed};
 ghost use Rattle.zarrs_json.specs.Elements.{elements_shown};
 ghost use Rattle.zarrs_json.specs.Element.{element_seen, slots_seen};
 
 use crate::containers::container;
 use crate::element::{Element, read_element};
+use crate::hex_lists::hex_list;
 use crate::refusal::Refusal;
+use crate::trees::tree;
 use serde_json::Value;
 use std::alloc::{AllocError, Global};
+use std::borrow::CowSlice;
 use zarrs_array_bytes::ArrayBytes;
 use zarrs_data_type::DataType;
 
@@ -43,7 +46,7 @@ fn slots(alloc: Global, elements: &[Element]) -> Result<Vec<Option<&Element>>, A
 
 /// The elements of a list, in a container. Errors: `Syntax` where the tree is no list; those of the
 /// first element that is rejected; `OutOfMemory`.
-pub fn elements(
+pub(crate) fn elements(
     alloc: Global,
     data_type: &DataType,
     tree: &Value,
@@ -57,5 +60,50 @@ pub fn elements(
             container(alloc, data_type, slots)
         }
         _ => Err(Refusal::Syntax),
+    }
+}
+
+/// The elements of a type of one size that a text lists, read as the text goes by, or `None` where
+/// anything but hex texts of this size is in it.
+fn hex_elements(
+    alloc: Global,
+    data_type: &DataType,
+    text: &[u8],
+) -> Result<Option<ArrayBytes<'static>>, AllocError>
+    ensures value { IfOk result (λ found. IfSome found
+        (λ elements. container_listed data_type.now text.now ≡ Ok elements)) }
+{
+    let Some(size) = data_type.fixed_size() else {
+        return Ok(None);
+    };
+    match hex_list(alloc, size, text)? {
+        Some(bytes) => Ok(Some(ArrayBytes::new_flen(CowSlice::Owned(bytes)))),
+        None => Ok(None),
+    }
+}
+
+fn tree_elements(
+    alloc: Global,
+    data_type: &DataType,
+    text: &[u8],
+) -> Result<ArrayBytes<'static>, Refusal>
+    ensures answer { ReadsJson result (container_listed data_type.now text.now) }
+{
+    let tree = tree(alloc, text)?;
+    elements(alloc, data_type, &tree)
+}
+
+/// The elements that a text lists, in a container. Errors: those of `tree`, and then those of
+/// `elements`. A list of hex texts, each of the type's size, takes no tree.
+pub fn read_elements(
+    alloc: Global,
+    data_type: &DataType,
+    text: &[u8],
+) -> Result<ArrayBytes<'static>, Refusal>
+    ensures answer { ReadsJson result (container_listed data_type.now text.now) }
+{
+    match hex_elements(alloc, data_type, text)? {
+        Some(elements) => Ok(elements),
+        None => tree_elements(alloc, data_type, text),
     }
 }

@@ -7,10 +7,10 @@ ghost use Rattle.zarrs_json.specs.Header.{shape_at, data_type_at, fill_value_at,
 ghost use Rattle.zarrs_json.specs.HeaderRead.{header_seen};
 
 use crate::data_types::data_type;
-use crate::json::{Members, hex_bytes, member, numbers, object, tree};
 use crate::known_bytes_codec::KnownBytesCodec;
 use crate::known_maker::KnownMaker;
 use crate::refusal::Refusal;
+use crate::trees::{Members, hex_bytes, member, numbers, object, tree};
 use serde_json::Value;
 use std::alloc::Global;
 use zarrs_chain::CodecChain;

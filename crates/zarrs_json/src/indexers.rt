@@ -6,8 +6,8 @@ ghost use Rattle.zarrs_chunk.specs.Selection.{tuples_seen};
 ghost use Rattle.zarrs_json.specs.Refusal.{ReadsJson, ReadsAs, ReadsItems};
 ghost use Rattle.zarrs_json.specs.Indexer.{range_between, range_in, ranges_in, tuples_shown, ranges_selection, indices_selection, selection_shown};
 
-use crate::json::{numbers, object, only_member};
 use crate::refusal::Refusal;
+use crate::trees::{numbers, object, only_member};
 use serde_json::Value;
 use std::alloc::Global;
 use std::ops::Range;
@@ -52,7 +52,7 @@ fn tuples_among(alloc: Global, list: &Vec<Value>) -> Result<Vec<ArrayIndices>, R
     Ok(tuples)
 }
 
-fn subset(alloc: Global, tree: &Value) -> Result<Indexer, Refusal>
+fn subset<'b>(alloc: Global, tree: &Value) -> Result<Indexer<'b>, Refusal>
     ensures answer { ReadsAs selection_of result (ranges_selection (view tree.now)) }
 {
     let Value::Array(items) = tree else {
@@ -63,7 +63,7 @@ fn subset(alloc: Global, tree: &Value) -> Result<Indexer, Refusal>
     Ok(Indexer::Subset(subset))
 }
 
-fn indices(alloc: Global, tree: &Value) -> Result<Indexer, Refusal>
+fn indices<'b>(alloc: Global, tree: &Value) -> Result<Indexer<'b>, Refusal>
     ensures answer { ReadsAs selection_of result (indices_selection (view tree.now)) }
 {
     match tree {
@@ -75,7 +75,7 @@ fn indices(alloc: Global, tree: &Value) -> Result<Indexer, Refusal>
 /// The indexer of `{"ranges":[[start,end],..]}` or `{"indices":[[..],..]}`. Errors: `Syntax` where
 /// the tree is anything else; then `ReversedRange` where a range ends before it starts;
 /// `OutOfMemory`.
-pub fn indexer(alloc: Global, tree: &Value) -> Result<Indexer, Refusal>
+pub fn indexer<'b>(alloc: Global, tree: &Value) -> Result<Indexer<'b>, Refusal>
     ensures answer { ReadsAs selection_of result (selection_shown (view tree.now)) }
 {
     let members = object(tree)?;

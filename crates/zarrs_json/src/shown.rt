@@ -12,8 +12,8 @@ ghost use Rattle.zarrs_json.specs.Json.{hex_tree, ok_line as line_of};
 ghost use Rattle.zarrs_json.specs.Elements.{chunk_tree, tree_at};
 ghost use Rattle.zarrs_json.specs.Shown.{HasElement};
 
-use crate::json::ok_line;
 use crate::refusal::Refusal;
+use crate::trees::ok_line;
 use serde_json::Value;
 use std::alloc::{AllocError, Global};
 use zarrs_array_bytes::ArrayBytes;

@@ -1,3 +1,4 @@
 pub mod LineLemmas
 pub mod RunLemmas
 pub mod ReadLemmas
+pub mod EncodeLemmas

@@ -5,6 +5,7 @@ use Rattle.zarrs_chunk.specs.Answer.{◌>>=◌, Answers, memory, seen}
 use Rattle.zarrs_chunk.specs.Selection.{Selection}
 use Rattle.zarrs_chunk.specs.declared.codec_error.CodecError.{CodecError}
 use Rattle.zarrs_data_type.specs.Element.{Chunk}
+use Rattle.zarrs_array_bytes.specs.Held.{Held}
 use Rattle.zarrs_json.specs.KnownBytesCodec.{known_codecs, known_reads}
 use Rattle.zarrs_json.specs.declared.known_bytes_codec.KnownBytesCodec.{KnownBytesCodec}
 use Rattle.zarrs_chain_meaning.specs.Chain.{held_value}
@@ -47,13 +48,18 @@ stored_answer answer state (Some value) = answer state value
 
 -- ---- the commands
 
--- encode ELEMENTS: the value of the chunk of these elements, which isn't stored
+-- the value of the elements in a container, which isn't stored
+abbrev pub held_answer : State → Held → LineAnswer
+held_answer state held = do
+  value ← codec_answer (held_value known_codecs state.header.chain state.header.sizes state.header.data_type state.header.fill held)
+  Ok (ok_line (hex_tree value), state)
+
+-- encode ELEMENTS: the value of the chunk of these elements
 abbrev pub encode_answer : State → List ℕ → LineAnswer
 encode_answer state text = do
   tree ← tree_of text
   chunk ← elements_of state.header.data_type tree
-  value ← codec_answer (held_value known_codecs state.header.chain state.header.sizes state.header.data_type state.header.fill (container_of state.header.data_type chunk))
-  Ok (ok_line (hex_tree value), state)
+  held_answer state (container_of state.header.data_type chunk)
 
 -- load "HEX": these bytes are stored
 abbrev pub load_answer : State → List ℕ → LineAnswer

@@ -7,7 +7,7 @@ ghost use Rattle.zarrs_json.specs.Edit.{edit_seen};
 ghost use Rattle.zarrs_json.specs.Refusal.{ReadsAs};
 ghost use Rattle.zarrs_json.specs.Header.{line_header};
 ghost use Rattle.zarrs_json.specs.declared.known_maker.KnownMaker.TheVariants.{WithSamples};
-ghost use Rattle.zarrs_tool_lines.specs.Commands.{first_state, encode_answer, load_answer, chunk_answer, decode_answer, read_answer, write_answer, erase_answer, value_answer, reencode_answer, reencoded_answer, answer_to, StoresEdit};
+ghost use Rattle.zarrs_tool_lines.specs.Commands.{first_state, held_answer, encode_answer, load_answer, chunk_answer, decode_answer, read_answer, write_answer, erase_answer, value_answer, reencode_answer, reencoded_answer, answer_to, StoresEdit};
 ghost use Rattle.zarrs_tool_lines.specs.Session.{state_of, state_with, GivesChunkPart, Replies};
 
 use crate::command::{Command, command_of};
@@ -20,8 +20,8 @@ use zarrs_chunk::{CodecError, Indexer};
 use zarrs_codec::MemoryHandle;
 use zarrs_codec_chain::CodecChainPartialTraits;
 use zarrs_json::{
-    ChunkHeader, Edit, KnownBytesCodec, KnownMaker, Refusal, elements, hex_bytes, indexer,
-    ok_elements, ok_hex, read_codecs, read_edit, read_header, tree,
+    ChunkHeader, Edit, KnownBytesCodec, KnownMaker, Refusal, hex_bytes, indexer, ok_elements,
+    ok_hex, read_codecs, read_edit, read_elements, read_header, tree,
 };
 
 /// What a header opened, and what is stored since.
@@ -96,11 +96,13 @@ impl Session {
         })
     }
 
-    fn encode(&self, alloc: Global, text: &[u8]) -> Result<Vec<u8>, Refusal>
-        ensures answer { Replies self.now result (encode_answer (state_of self.now) text.now) }
+    fn encode_elements(
+        &self,
+        alloc: Global,
+        elements: ArrayBytes<'static>,
+    ) -> Result<Vec<u8>, Refusal>
+        ensures answer { Replies self.now result (held_answer (state_of self.now) elements.entry) }
     {
-        let tree = tree(alloc, text)?;
-        let elements = elements(alloc, &self.header.data_type, &tree)?;
         let value = self.header.chain.encode(
             alloc,
             elements,
@@ -110,6 +112,14 @@ impl Session {
         )?;
         let line = ok_hex(alloc, value.as_slice())?;
         Ok(line)
+    }
+
+    #[tactic(auto, using(crate::proofs::EncodeLemmas::encode_read, crate::proofs::EncodeLemmas::encode_refused))]
+    fn encode(&self, alloc: Global, text: &[u8]) -> Result<Vec<u8>, Refusal>
+        ensures answer { Replies self.now result (encode_answer (state_of self.now) text.now) }
+    {
+        let elements = read_elements(alloc, &self.header.data_type, text)?;
+        self.encode_elements(alloc, elements)
     }
 
     fn load(&mut self, alloc: Global, text: &[u8]) -> Result<Vec<u8>, Refusal>
