@@ -27,6 +27,7 @@ use Rattle.zarrs_chain_meaning.specs.Meaning.{Meaning}
 use Rattle.zarrs_bytes.proofs.Coding.{bind_ok, ok}
 use Rattle.zarrs_codec_chain.specs.ChunkRead.{IsReadPlan, encoded_places, form_in_place, places_in_order, planned_places, planned_region, reads_places, standing_places}
 use Rattle.zarrs_chain_meaning.specs.ChunkForm.{ChunkForm}
+use Rattle.zarrs_data_type.specs.Form.{form_of}
 use Rattle.zarrs_codec_chain.specs.CodecPart.{IsCodecPlan, codec_rests_on, Part}
 use Rattle.zarrs_codec_chain.proofs.LawfulPart.{part_laws}
 use Rattle.zarrs_codec_chain.proofs.PlaceWrites.{bytes_alone}
@@ -80,7 +81,7 @@ module _ (made : List ByteSpan) (test : ℕ → Bool) where
   abbrev Passing : Result (List ℕ) CodecError → Type 0
   Passing r = (numbers : List ℕ) × (r ≡ Ok numbers) × (list_all test numbers ≡ list_all test (range_indices made))
 
-  codec_passes : (codec : PlainCodec KnownBytesCodec) (sizes : List ℕ) (type : ElementType) (fill places : List ℕ) → IsCodecPlan codec sizes type fill places made → Passing (codec_rests_on known_codecs codec sizes type fill None places)
+  codec_passes : (codec : PlainCodec KnownBytesCodec) (sizes : List ℕ) (type : ElementType) (fill places : List ℕ) → IsCodecPlan codec (form_of sizes type fill) places made → Passing (codec_rests_on known_codecs codec sizes type fill None places)
   codec_passes codec sizes type fill places plan =
       let b = (part_laws codec).planned_bytes known_codecs sizes type fill places made plan in
       (b.0, b.1, sym (b.2 test))
@@ -100,14 +101,14 @@ module _ (made : List ByteSpan) (test : ℕ → Bool) where
   was_planned false found places e = absurd (cc)
 
   chain_passes : (b : Bool) (arrange : List ℕ → List ℕ) (codec : PlainCodec KnownBytesCodec) (type : ElementType) (fill : List ℕ) (p : Result (List ℕ) CodecError) (t : Result (List ℕ × BytesRepresentation) CodecError) (places : List ℕ)
-      → ((sizes meant : List ℕ) → p ≡ Ok meant → IsCodecPlan codec sizes type fill (arrange meant) made → Passing (codec_rests_on known_codecs codec sizes type fill None meant))
-      → seen (some_if b) (seen arrange p) ≡ Ok (Some places) → IsOkAnd t (λ taken. IsCodecPlan codec taken.0 type fill places made)
+      → ((sizes meant : List ℕ) → p ≡ Ok meant → IsCodecPlan codec (form_of sizes type fill) (arrange meant) made → Passing (codec_rests_on known_codecs codec sizes type fill None meant))
+      → seen (some_if b) (seen arrange p) ≡ Ok (Some places) → IsOkAnd t (λ taken. IsCodecPlan codec (form_of taken.0 type fill) places made)
       → (numbers : List ℕ) × ((p >>= λ found. t >>= λ taken. codec_rests_on known_codecs codec taken.0 type fill None found >>= λ bytes. ok (some_if b bytes)) ≡ Ok (Some numbers)) × (list_all test numbers ≡ list_all test (range_indices made))
   chain_passes b arrange codec type fill (Err e) t places passing is plan = absurd (cc)
   chain_passes b arrange codec type fill (Ok meant) (Err e) places passing is plan = absurd plan
   chain_passes b arrange codec type fill (Ok meant) (Ok taken) places passing is plan =
       let was = was_planned b (arrange meant) places is in
-      let own : IsCodecPlan codec taken.0 type fill (arrange meant) made = subst (λ (ps : List ℕ). IsCodecPlan codec taken.0 type fill ps made) (sym was.1) plan in
+      let own : IsCodecPlan codec (form_of taken.0 type fill) (arrange meant) made = subst (λ (ps : List ℕ). IsCodecPlan codec (form_of taken.0 type fill) ps made) (sym was.1) plan in
       let found_numbers = passing taken.0 meant refl own in (
         found_numbers.0,
         ap (λ (r : Result (List ℕ) CodecError). r >>= λ bytes. ok (some_if b bytes)) found_numbers.1 ∙ ap (λ (s : Bool). ok (some_if s found_numbers.0)) was.0,
@@ -117,7 +118,7 @@ module _ (made : List ByteSpan) (test : ℕ → Bool) where
   module _ (form : ChunkForm KnownBytesCodec) (selection : Selection) (are : All IsMapping form.chain.array_to_array) (positive : All (λ size. 0 < size) form.sizes) where
     -- the selected places, where these are planned in their order
     ordered_passes : (planned : Option Region) → planned_region form selection ≡ planned → (sizes meant : List ℕ) → encoded_places form.type form.chain.array_to_array form.sizes selection ≡ Ok meant
-        → IsCodecPlan form.chain.array_to_bytes sizes form.type form.fill (places_in_order form.chain.array_to_array form.sizes planned meant) made → Passing (codec_rests_on known_codecs form.chain.array_to_bytes sizes form.type form.fill None meant)
+        → IsCodecPlan form.chain.array_to_bytes (form_of sizes form.type form.fill) (places_in_order form.chain.array_to_array form.sizes planned meant) made → Passing (codec_rests_on known_codecs form.chain.array_to_bytes sizes form.type form.fill None meant)
     ordered_passes None p sizes meant e plan = codec_passes form.chain.array_to_bytes sizes form.type form.fill meant plan
     ordered_passes (Some region) p sizes meant e plan =
         let own = in_place (form_in_place form) _ region p in

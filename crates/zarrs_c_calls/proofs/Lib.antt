@@ -14,6 +14,5 @@ pub mod ListLemmas
 pub mod ManyLemmas
 pub mod OnceLemmas
 pub mod PlanLemmas
-pub mod SelectionLemmas
 pub mod TellLemmas
 pub mod WrittenLemmas

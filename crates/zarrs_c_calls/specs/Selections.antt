@@ -1,7 +1,8 @@
 -- Selections as they cross: a box, by its starts and then its lengths, or tuples one after another.
-use Rattle.std.specs.Prelude.{ℕ, zero, suc, ◌==◌, ◌*◌, ◌/◌, ◌%◌, ◌^◌, ◌-◌, if◌then◌else◌, List, [], ◌∷◌, length, take, drop, Result, Ok}
+use Rattle.std.specs.Prelude.{ℕ, ◌==◌, ◌*◌, ◌/◌, ◌%◌, ◌^◌, ◌-◌, if◌then◌else◌, List, length, take, drop, Result, Ok}
 use Rattle.zarrs_chunk.specs.Answer.{◌>>=◌, demand, Answers}
 use Rattle.zarrs_chunk.specs.ArraySubset.{subset_of_start_shape}
+use Rattle.zarrs_chunk.specs.IndexTuples.{rows}
 use Rattle.zarrs_chunk.specs.Indexer.{selection_of}
 use Rattle.zarrs_chunk.specs.Selection.{Selection, subset, indices}
 use Rattle.zarrs_chunk.specs.declared.indexer.Indexer.{Indexer}
@@ -15,11 +16,6 @@ box_given numbers = do
   _ ← demand (length numbers % 2 == 0) Argument
   region ← codec_call_answer (subset_of_start_shape (take (length numbers / 2) numbers) (drop (length numbers / 2) numbers))
   Ok (subset region)
-
--- so many tuples of so many numbers each, one after another
-abbrev pub rows : ℕ → ℕ → List ℕ → List (List ℕ)
-rows axes zero numbers = []
-rows axes (suc count) numbers = take axes numbers ∷ rows axes count (drop axes numbers)
 
 -- these tuples, where there are just so many numbers
 abbrev pub tuples_given : ℕ → ℕ → List ℕ → Result Selection Cause

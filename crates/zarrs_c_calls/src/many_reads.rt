@@ -24,12 +24,12 @@ use zarrs_json::{ChunkHeader, KnownBytesCodec, Refusal};
 use zarrs_lent_handles::LentHandle;
 
 /// The indexer of a selection whose numbers stand in front of those that are left.
-fn front_selection(
+fn front_selection<'n>(
     alloc: Global,
     form: &ChunkHeader,
     size: &SelectionSize,
-    numbers: &[u64],
-) -> Result<Indexer, Cause>
+    numbers: &'n [u64],
+) -> Result<Indexer<'n>, Cause>
     ensures answer { Selects result (front_given (header_seen form.now) size.now numbers.now) }
     ensures count { IfOk result (λ _. size.now.numbers ≤ length numbers.now) }
 {
