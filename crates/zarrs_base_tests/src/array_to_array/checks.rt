@@ -37,7 +37,7 @@ pub(crate) enum Asked<'a> {
     Tuples(&'a [&'a [u64]]),
 }
 
-pub(crate) fn indexer(alloc: Global, asked: &Asked<'_>) -> Result<Indexer, CodecError> {
+pub(crate) fn indexer<'b>(alloc: Global, asked: &Asked<'_>) -> Result<Indexer<'b>, CodecError> {
     match asked {
         Asked::Ranges(ranges) => {
             Ok(Indexer::Subset(ArraySubset::new_with_ranges(alloc, ranges)?))
@@ -46,7 +46,7 @@ pub(crate) fn indexer(alloc: Global, asked: &Asked<'_>) -> Result<Indexer, Codec
     }
 }
 
-fn list(alloc: Global, tuples: &[&[u64]]) -> Result<Indexer, CodecError> {
+fn list<'b>(alloc: Global, tuples: &[&[u64]]) -> Result<Indexer<'b>, CodecError> {
     let mut indices = Vec::new(alloc);
     for tuple in tuples {
         indices.push(tuple.to_vec(alloc)?)?;

@@ -5,7 +5,7 @@ use std::alloc::Global;
 use std::fmt::Debug;
 use std::ops::Range;
 use std::process::Abort;
-use zarrs_chunk::{ArraySubset, ChunkShape, CodecError, Indexer};
+use zarrs_chunk::{ArraySubset, ChunkShape, CodecError, IndexTuples, Indexer};
 
 /// What came is what is wanted.
 pub(crate) fn is<T: PartialEq + Debug>(rt: &impl Abort, name: &str, came: &T, wanted: &T) {
@@ -54,21 +54,30 @@ pub(crate) fn shape(alloc: Global, sizes: &[u64]) -> Result<ChunkShape, CodecErr
     ChunkShape::new(sizes.to_vec(alloc)?).ok_or(CodecError::OutOfBounds)
 }
 
-/// Which elements are selected, as plain data: those in a range for each axis, or those of a list
-/// of tuples.
+/// Which elements are selected, as plain data: those in a range for each axis, those of a list of
+/// tuples, or those of so many tuples of so many numbers each, one after another.
 pub(crate) enum Asked {
     Ranges(&'static [Range<u64>]),
     Tuples(&'static [&'static [u64]]),
+    Numbers(usize, usize, &'static [u64]),
 }
 
-pub(crate) fn indexer(alloc: Global, asked: &Asked) -> Result<Indexer, CodecError> {
+pub(crate) fn indexer<'b>(alloc: Global, asked: &Asked) -> Result<Indexer<'b>, CodecError> {
     match asked {
         Asked::Ranges(ranges) => Ok(Indexer::Subset(ArraySubset::new_with_ranges(alloc, ranges)?)),
         Asked::Tuples(tuples) => list(alloc, tuples),
+        Asked::Numbers(count, axes, numbers) => lent(*count, *axes, numbers),
     }
 }
 
-fn list(alloc: Global, tuples: &[&[u64]]) -> Result<Indexer, CodecError> {
+fn lent<'b>(count: usize, axes: usize, numbers: &'b [u64]) -> Result<Indexer<'b>, CodecError> {
+    match IndexTuples::new(axes, count, numbers) {
+        Some(tuples) => Ok(Indexer::Tuples(tuples)),
+        None => Err(CodecError::InvalidOffsets),
+    }
+}
+
+fn list<'b>(alloc: Global, tuples: &[&[u64]]) -> Result<Indexer<'b>, CodecError> {
     let mut indices = Vec::new(alloc);
     for tuple in tuples {
         indices.push(tuple.to_vec(alloc)?)?;

@@ -2,10 +2,12 @@
 
 use crate::base::checks::{Asked, gives, indexer, is, lists, shape};
 use crate::base::chunks::is_unravelled;
-use Asked::{Ranges, Tuples};
+use Asked::{Numbers, Ranges, Tuples};
 use std::alloc::Global;
 use std::process::Abort;
-use zarrs_chunk::{ArraySubset, ChunkShape, CodecError, Indexer, count_places, ravel_indices};
+use zarrs_chunk::{
+    ArraySubset, ChunkShape, CodecError, IndexTuples, Indexer, count_places, ravel_indices,
+};
 
 /// What an indexer selects in a chunk of these sizes: its places, and its runs, each a start and a
 /// length. A run covers one row of the last axis that a box doesn't cover whole, with all axes
@@ -69,6 +71,27 @@ const ROWS: &'static [Row] = &[
         places: &[],
         runs: &[],
     },
+    Row {
+        name: "neighbours, lent",
+        sizes: &[4, 4],
+        asked: Numbers(5, 2, &[1, 0, 1, 1, 1, 1, 1, 2, 0, 0]),
+        places: &[4, 5, 5, 6, 0],
+        runs: &[(4, 2), (5, 2), (0, 1)],
+    },
+    Row {
+        name: "tuples of no numbers, lent",
+        sizes: &[],
+        asked: Numbers(2, 0, &[]),
+        places: &[0, 0],
+        runs: &[(0, 1), (0, 1)],
+    },
+    Row {
+        name: "no tuple of other axes, lent",
+        sizes: &[4, 4],
+        asked: Numbers(0, 3, &[]),
+        places: &[],
+        runs: &[],
+    },
 ];
 
 fn means(
@@ -118,7 +141,7 @@ fn ones(alloc: Global, axes: usize) -> Result<ChunkShape, CodecError> {
 }
 
 /// All elements of a chunk of these sizes.
-fn select_all(alloc: Global, sizes: &[u64]) -> Result<Indexer, CodecError> {
+fn select_all<'b>(alloc: Global, sizes: &[u64]) -> Result<Indexer<'b>, CodecError> {
     let subset = ArraySubset::new_with_shape(alloc, sizes.to_vec(alloc)?)?;
     Ok(Indexer::Subset(subset))
 }
@@ -158,4 +181,26 @@ fn runs_have_so_many_places(rt: HostRuntime) {
         &count_places(&[(0, u64::MAX), (0, 2)]),
         &u64::MAX,
     );
+}
+
+/// As many tuples of no numbers as there can be: a call that took a step for each wouldn't end here.
+fn accepts_most(rt: &impl Abort, alloc: Global, asked: &Indexer) -> Result<(), CodecError> {
+    let chunk = shape(alloc, &[])?;
+    is(rt, "most, checked", &asked.check(&chunk), &Ok(()));
+    is(rt, "most, counted", &asked.len(), &Ok(u64::MAX));
+    Ok(())
+}
+
+#[test]
+fn lent_tuples_have_just_their_numbers(rt: HostRuntime) -> Result<(), CodecError> {
+    is(&rt, "one left", &IndexTuples::new(2, 1, &[1, 2, 3]), &None);
+    is(&rt, "one lacks", &IndexTuples::new(2, 2, &[1, 2, 3]), &None);
+    is(
+        &rt,
+        "most",
+        &IndexTuples::new(usize::MAX, usize::MAX, &[1]),
+        &None,
+    );
+    let most = indexer(rt.alloc(), &Numbers(usize::MAX, 0, &[]))?;
+    accepts_most(&rt, rt.alloc(), &most)
 }

@@ -136,7 +136,7 @@ const ROWS: &'static [Row] = &[
 struct Selection {
     data_type: DataType,
     shape: ChunkShape,
-    at: Indexer,
+    at: Indexer<'static>,
 }
 
 fn make_selection(alloc: Global, row: &Row) -> Result<Selection, CodecError> {

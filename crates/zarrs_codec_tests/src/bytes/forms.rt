@@ -130,7 +130,7 @@ pub(crate) enum Asked<'a> {
     Numbers(&'a [u64]),
 }
 
-fn list_tuples(alloc: Global, tuples: &[&[u64]]) -> Result<Indexer, CodecError> {
+fn list_tuples<'b>(alloc: Global, tuples: &[&[u64]]) -> Result<Indexer<'b>, CodecError> {
     let mut indices = Vec::new(alloc);
     for tuple in tuples {
         indices.push(tuple.to_vec(alloc)?)?;
@@ -138,7 +138,7 @@ fn list_tuples(alloc: Global, tuples: &[&[u64]]) -> Result<Indexer, CodecError> 
     Ok(Indexer::Indices(indices))
 }
 
-fn list_numbers(alloc: Global, numbers: &[u64]) -> Result<Indexer, CodecError> {
+fn list_numbers<'b>(alloc: Global, numbers: &[u64]) -> Result<Indexer<'b>, CodecError> {
     let mut indices = Vec::new(alloc);
     for number in numbers {
         indices.push(vec![in alloc; *number]?)?;
@@ -146,7 +146,7 @@ fn list_numbers(alloc: Global, numbers: &[u64]) -> Result<Indexer, CodecError> {
     Ok(Indexer::Indices(indices))
 }
 
-pub(crate) fn indexer(alloc: Global, asked: Asked<'_>) -> Result<Indexer, CodecError> {
+pub(crate) fn indexer<'b>(alloc: Global, asked: Asked<'_>) -> Result<Indexer<'b>, CodecError> {
     match asked {
         Asked::Ranges(ranges) => Ok(Indexer::Subset(ArraySubset::new_with_ranges(alloc, ranges)?)),
         Asked::Tuples(tuples) => list_tuples(alloc, tuples),

@@ -138,6 +138,6 @@ pub(crate) fn decoder(
     decoder_of(alloc, codec, &form, handle)
 }
 
-pub(crate) fn subset(alloc: Global, ranges: &[Range<u64>]) -> Result<Indexer, CodecError> {
+pub(crate) fn subset<'b>(alloc: Global, ranges: &[Range<u64>]) -> Result<Indexer<'b>, CodecError> {
     Ok(Indexer::Subset(ArraySubset::new_with_ranges(alloc, ranges)?))
 }
