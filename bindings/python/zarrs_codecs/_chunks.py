@@ -127,7 +127,9 @@ class Chunks:
             return self._chain._read_inner(self._opened(path, source), selection, out)
         size = source.length()
         self._check_size(size)
-        if size <= _SMALL and out is not None and out.shape == self._chain.shape:
+        # of a long value a read that is planned or composed holds a part at a time
+        is_at_once = size <= _SMALL or not (self._is_planned or self._chain._is_composed)
+        if is_at_once and out is not None and out.shape == self._chain.shape:
             # all of the chunk: one call instead of two
             return self._chain.decode(source.whole(), out)
         if self._is_planned:

@@ -1,16 +1,16 @@
-"""Parts of shards, and shards with codecs of Python inside: Python cuts the chunk. Nothing about that is proved."""
+"""Shards that Python cuts, those with codecs of Python inside most of all. Nothing about that is proved."""
 
 import itertools
 import math
-from collections.abc import Callable, Iterable, Iterator, Sequence
-from functools import cached_property, partial
-from typing import Any, NamedTuple, TypeVar
+from collections.abc import Iterable, Iterator, Sequence
+from functools import cached_property
+from typing import Any, NamedTuple
 
 import numpy as np
 
 from ._bytes_codecs import split, wrong
 from ._elements import empty, mask_of, put, spread
-from ._files import Held
+from ._files import Held, Source
 from ._header import json_of
 from ._rounds import Fetched
 from ._selections import Rows, Selection, select
@@ -31,9 +31,6 @@ from .refusals import (
 NAME = "sharding_indexed"
 # What the index has for an inner chunk that isn't stored.
 _ABSENT = (1 << 64) - 1
-
-_R = TypeVar("_R")
-
 
 class _Configuration(NamedTuple):
     """What a configuration says."""
@@ -71,11 +68,28 @@ def has_pythons(codecs: Any) -> bool:
         return True
 
 
-def chain_of(codecs: Sequence[Any], shape: Sequence[int], data_type: Any, fill_value: Any = None) -> Chain:
-    """The chain of these codecs: the library's, or the one that reads parts where they are `sharding_indexed`."""
-    if isinstance(codecs, (list, tuple)) and is_sharded(codecs):
-        return ShardedChain(codecs, shape, data_type, fill_value)
-    return Chain(codecs, shape, data_type, fill_value)
+def array_chain(codecs: Any, shape: Sequence[int], data_type: Any, fill_value: Any = None) -> Chain:
+    """The chain of an array's chunks. Python cuts shards whose inner chunks the library asks for one after the other,
+    since each of these calls may go to a store that is far away."""
+    chain = Chain(codecs, shape, data_type, fill_value)
+    if chain._is_composed or not is_sharded(chain.codecs):
+        return chain
+    parts = ShardedChain(chain.codecs, shape, data_type, fill_value)
+    inner = parts._chunk
+    return chain if inner._is_planned or inner._is_read_whole else parts
+
+
+def say_inner_chunk(error: Refused, chain: Chain, source: Source, selection: Any) -> None:
+    """Puts into the library's refusal of a read which inner chunk it is of, where the value is a shard: Python reads the
+    same, inner chunk by inner chunk."""
+    if not is_sharded(chain._inner_list):
+        return
+    try:
+        parts = ShardedChain(chain._inner_list, chain.shape, chain.data_type, chain.fill_value)
+        parts._read_fetched(Fetched(source), selection, None)
+    except Refused as found:
+        if type(found) is type(error):
+            error.args, error.codec = found.args, (0, NAME)
 
 
 def _configuration(codec: dict[str, Any]) -> _Configuration:
@@ -118,12 +132,9 @@ class ShardedChain(Chain):
     """A chunk that is a shard: it is cut into inner chunks, each encoded by a chain of its own, and an index says
     where each of them is in the value.
 
-    What a read needs of a value is the index and the inner chunks with elements of the answer: Python reads the
-    index's numbers and cuts, and `unproved` begins with the codec's name for it; where all inner chunks are needed
-    the library reads the value. It encodes, decodes and writes values, too, where all codecs inside are its own.
-    Where the inner chunks have Python's codecs, Python cuts and joins: a write then makes a value of the inner
-    chunks as they are afterwards, in the order of their numbers, and leaves the bytes of those that it doesn't
-    touch. Raises what `Chain` does, and of the inner chains what making and calling them raises.
+    Python cuts and joins, and `unproved` begins with the codec's name for it. What a read needs of a value is the index and the inner chunks with elements of the answer. A write
+    makes a value of the inner chunks as they are afterwards, in the order of their numbers, and leaves the bytes of
+    those that it doesn't touch. Raises what `Chain` does, and of the inner chains what making and calling them raises.
     """
 
     _is_composed = True
@@ -139,8 +150,6 @@ class ShardedChain(Chain):
             self._chunk_shape, self._is_last = said.chunk_shape, said.index_is_last
             self._grid = self._grid_of(said.chunk_shape)
             self._made_chains(said, data_type, fill_value)
-            # the library's, where it runs all codecs
-            self._whole = None if has_pythons(self.codecs) else Chain(self.codecs, self.shape, data_type, fill_value)
         except Refused as error:
             self._locate(error)
             raise
@@ -173,7 +182,7 @@ class ShardedChain(Chain):
     def _inside(self, key: str, codecs: list[Any], shape: Shape, data_type: Any, fill_value: Any) -> Chain:
         """The chain of a key; a refusal says where it stands."""
         try:
-            return chain_of(codecs, shape, data_type, fill_value)
+            return Chain(codecs, shape, data_type, fill_value)
         except Refused as error:
             if error.codec is not None:
                 error.inner = ((key, *error.codec), *error.inner)
@@ -197,14 +206,10 @@ class ShardedChain(Chain):
         """Raises the refusal of these codecs for such chunks, if there is one; so does making a chain."""
         self._chunk.check()
         self._index.check()
-        if self._whole is not None:
-            self._whole.check()
 
     @cached_property
     def representation(self) -> Representation:
         """How many bytes a value has: at most those of all inner chunks and the index, where these are bounded."""
-        if self._whole is not None:
-            return self._whole.representation
         size = self._chunk.representation.size
         if size is None or self._chunk.unproved:
             return Representation("unbounded", None)
@@ -220,7 +225,7 @@ class ShardedChain(Chain):
 
     @property
     def unproved(self) -> tuple[str, ...]:
-        """The codec's name, since Python cuts parts of chunks, and those of the codecs that it runs on inner chunks."""
+        """The codec's name, since Python cuts the chunk, and those of the codecs that it runs on inner chunks."""
         return NAME, *self._chunk.unproved
 
     # -- the index, and the inner chunks of a value
@@ -304,33 +309,15 @@ class ShardedChain(Chain):
 
     def _encode(self, elements: AnyArray) -> Bytes:
         """The value of elements that the type holds, of this shape."""
-        if self._whole is not None:
-            return self._whole._encode(elements)
         parts: Iterator[Any] = ((*place, ...) for place in self._places())
         return self._joined([self._part(elements[part]) for part in parts])
 
     def decode(self, value: Any, out: AnyArray | None = None) -> AnyArray:
         """The chunk that a value stands for, an array of this shape; in `out` where it is given."""
-        whole = self._whole
-        if whole is not None:
-            return self._told_by(partial(whole.decode, value, out), value)
-        return put(self._decoded(value), out)
-
-    def _told_by(self, call: Callable[[], _R], value: Any) -> _R:
-        """What the library's chain answers of a value; a refusal says which inner chunk it is of."""
-        try:
-            return call()
-        except Refused:
-            if value is not None:
-                self._decoded(value)
-            raise
-
-    def _decoded(self, value: Any) -> AnyArray:
-        """The chunk that a value stands for, inner chunk by inner chunk."""
         elements = empty(self._type, self.shape)
         for number, (place, part) in enumerate(zip(self._places(), self._stored(value), strict=True)):
             elements[(*place, ...)] = self._fill if part is None else self._opened(number, part)
-        return elements
+        return put(elements, out)
 
     def _opened(self, number: int, part: Any, inside: Any = None) -> AnyArray:
         """The elements of a stored inner chunk, or those that a selection means; a refusal says which it is."""
@@ -343,9 +330,6 @@ class ShardedChain(Chain):
 
     def reencode(self, value: Any, codecs: Sequence[Any]) -> Bytes:
         """The value, an array of bytes, that other codecs write for the chunk that a value stands for."""
-        if self._whole is not None:
-            whole = self._whole
-            return self._told_by(lambda: whole.reencode(value, codecs), value)
         other = Chain(codecs, self.shape, self.data_type, self.fill_value)
         return other._encode(self.decode(value))
 
@@ -376,10 +360,7 @@ class ShardedChain(Chain):
         """The elements of a selection, in numpy's shape of it: by the index, and then the inner chunks."""
         chosen = select(selection, self.shape)
         self._check_rows(chosen)
-        pieces, length, whole = self._pieces(chosen), fetched.length, self._whole
-        if whole is not None and len(pieces) == math.prod(self._grid):
-            value = next(fetched.source.each([(0, length)]))
-            return self._told_by(partial(whole._read_inner, value, selection, out), value)
+        pieces, length = self._pieces(chosen), fetched.length
         elements = empty(self._type, chosen.shape)
         entries = self._entries(fetched.index(*self._index_range(length)))
         stored, failure = [], None
@@ -441,9 +422,6 @@ class ShardedChain(Chain):
     def _write(self, inner: Any, meant: Selection, elements: AnyArray) -> Bytes:
         """The value that is left of a value, or of None, where elements are written at a selection."""
         self._check_rows(meant)
-        if self._whole is not None:
-            whole = self._whole
-            return self._told_by(lambda: whole._write(inner, meant, elements), inner)
         new = spread(self._type, elements, meant.shape, meant.after)
         stored: list[Any] = [None] * math.prod(self._grid) if inner is None else self._stored(inner)
         for number, inside, there in self._pieces(meant):

@@ -20,7 +20,7 @@ from ._fill_values import fill_json
 from ._indexing import Outer, Points, is_list
 from ._metadata import made, metadata_of, parsed, usual_codecs
 from ._selections import box
-from ._sharding import chain_of
+from ._sharding import array_chain
 from ._stores import Folder, Store
 from ._types import AnyArray, Shape
 from .chain import codec_list
@@ -62,8 +62,8 @@ class Array:
     written is broadcast as numpy does.
 
     Reading touches the chunks that have elements of the answer, and of each, where its chain plans its reads,
-    the bytes that these elements need; of a shard (`sharding_indexed`, whose chain is a `ShardedChain`) the index
-    and the inner chunks with such elements; a chunk that isn't there has fill values. Values that are needed whole
+    the bytes that these elements need; of a shard (`sharding_indexed`) the index, and of the inner chunks with such
+    elements what their own codecs need; a chunk that isn't there has fill values. Values that are needed whole
     are kept, `cache` bytes at most, behind the codecs that Python runs, for as long as the file is the same; of
     others an index, or the offsets of texts.
     Writing replaces whole files, each by a rename of one that is on the disk as a whole, with the mode that the
@@ -111,7 +111,7 @@ class Array:
             self._type = data_type_of(said["data_type"])
             if said["fill_value"] is None and not self._type.is_optional:
                 raise InvalidFillValue(f"null isn't of {self._type.name}")
-            self.chain = chain_of(said["codecs"], self.chunks, said["data_type"], said["fill_value"])
+            self.chain = array_chain(said["codecs"], self.chunks, said["data_type"], said["fill_value"])
         except Refused as error:
             error.path = path
             raise
@@ -156,7 +156,7 @@ class Array:
         shape, chunks = tuple(map(operator.index, shape)), tuple(map(operator.index, chunks))
         kind = data_type_of(data_type)
         codecs = usual_codecs(kind) if codecs is None else codec_list(codecs)
-        first: Any = chain_of(codecs, chunks, data_type, fill_value).read(None, (0,) * len(chunks))
+        first: Any = array_chain(codecs, chunks, data_type, fill_value).read(None, (0,) * len(chunks))
         metadata = made(shape, chunks, data_type, fill_json(kind, first), codecs)
         if attributes is not None:
             metadata["attributes"] = attributes

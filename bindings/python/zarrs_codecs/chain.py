@@ -1,11 +1,12 @@
 """A chunk's codecs, as the library runs them."""
 
+import contextlib
 import copy
 import ctypes
 import math
 import operator
 import reprlib
-from collections.abc import Callable, Iterable, Sequence
+from collections.abc import Callable, Iterable, Iterator, Sequence
 from functools import cached_property, partial, wraps
 from typing import Any, Concatenate, NamedTuple, ParamSpec, TypeVar
 
@@ -18,7 +19,7 @@ from ._bytes_codecs import hint, split
 from ._data_types import DataType
 from ._data_types import data_type as data_type_of
 from ._elements import given, held, put, spread, takes, told, told_into, told_many
-from ._files import PART_BYTES, File, Source
+from ._files import PART_BYTES, File, Held, Source
 from ._header import Header, copied, json_of
 from ._library import SHORT, EditSize, checked, library
 from ._locating import OF_CODECS, OF_VALUES, locate, locate_stored
@@ -202,6 +203,19 @@ class Chain:
             last = error.inner[-1][2] if error.inner else error.codec[1]
             error.hint = hint(last)
 
+    @contextlib.contextmanager
+    def _saying_inner_chunk(self, source: Source, selection: Any) -> Iterator[None]:
+        """A refusal of a read of this value says which inner chunk of a shard it is of."""
+        try:
+            yield
+        except Storage:
+            raise
+        except Refused as error:
+            from ._sharding import say_inner_chunk
+
+            say_inner_chunk(error, self, source, selection)
+            raise
+
     def __repr__(self) -> str:
         return f"Chain({self.codecs!r}, {self.shape}, {self.data_type!r}, {self.fill_value!r})"
 
@@ -323,7 +337,8 @@ class Chain:
         inner = self._inner(value)
         at, length = lent(inner)
         call = partial(library.zarrs_decode, self._header, self._length, at, length)
-        return self._told(call, self.shape, inner, length, out)
+        with self._saying_inner_chunk(Held(inner), ...):
+            return self._told(call, self.shape, inner, length, out)
 
     def _told(
         self, call: Callable[..., Any], shape: Shape, value: Any, length: int, out: AnyArray | None
@@ -395,9 +410,10 @@ class Chain:
     def _read_inner(self, inner: Any, selection: Any, out: AnyArray | None = None) -> AnyArray:
         """The same of the library's value."""
         chosen = select(selection, self.shape).closed()
-        if chosen.after is None:
-            return self._read(inner, chosen, out)
-        return put(self._read(inner, chosen)[chosen.after], out)
+        with self._saying_inner_chunk(Held(b"" if inner is None else inner), selection):
+            if chosen.after is None:
+                return self._read(inner, chosen, out)
+            return put(self._read(inner, chosen)[chosen.after], out)
 
     @_naming
     def read_many(self, value: Any, selections: Iterable[Any]) -> list[AnyArray]:
@@ -568,7 +584,8 @@ class Chain:
                 library.zarrs_read_pieces, self._header, self._length, *fetched.arguments(), *numbers
             )
             try:
-                elements = told(self._type, call, chosen.shape, fetched.size + 64)
+                with self._saying_inner_chunk(fetched.source, selection):
+                    elements = told(self._type, call, chosen.shape, fetched.size + 64)
             except Storage:
                 if not lacking.size:
                     raise
