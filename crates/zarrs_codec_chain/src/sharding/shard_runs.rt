@@ -1,6 +1,6 @@
 //! Reading runs of places through `sharding_indexed`: the index, and then of each inner chunk that has
 //! any of the places what is read of its own bytes.
-ghost use Rattle.std.specs.Prelude.{◌≡◌, ◌*◌, ◌<◌, ◌^◌, IfOk, IfSome, Ok, length, true, false};
+ghost use Rattle.std.specs.Prelude.{◌≡◌, ◌≤◌, ◌*◌, ◌<◌, ◌^◌, IfOk, IfSome, Ok, length, true, false};
 ghost use Rattle.zarrs_array_bytes.specs.Tight.{IsTight};
 ghost use Rattle.zarrs_chain.specs.ChainView.{plain_sharding};
 ghost use Rattle.zarrs_chain.specs.FormView.{lent_form};
@@ -64,6 +64,14 @@ fn read_group<H: ReadAheadTraits, B: BytesToBytesCodecTraits>(
     }
     let inside = span.inside(place.0 as u64, place.1 as u64)?;
     chain_in_span(alloc, chain, handle, &inside, form, encoded, measured, runs)
+}
+
+/// For how many elements there is room from the start where groups have so many: a group alone is read
+/// before its elements are joined to none.
+fn joined_room(groups: &[InnerRuns], count: u64) -> u64
+    ensures within { result ≤ count }
+{
+    if groups.len() > 1 { count } else { 0 }
 }
 
 /// The elements at the places of groups, one group behind the other. Where it is known what is read of
@@ -179,8 +187,9 @@ pub(crate) fn shard_by_index<H: ReadAheadTraits, B: BytesToBytesCodecTraits>(
         ..form
     };
     let count = count_places(runs);
+    let room = joined_room(groups, count);
     let joined = read_groups(
-        alloc, chain, handle, span, numbers, groups, count, inside, &encoded, &measured,
+        alloc, chain, handle, span, numbers, groups, room, inside, &encoded, &measured,
     )?;
     in_order(alloc, joined, grouped.order, count, form.data_type)
 }
