@@ -97,12 +97,18 @@ def _whole_objects(kind: DataType, array: AnyArray) -> AnyArray:
         raise TypeError(f"an element isn't of {kind.name}: {error}") from error
 
 
+def _truths(array: AnyArray) -> AnyArray:
+    """Truth values as the bytes 0 and 1: numpy takes every other byte for true as well."""
+    bytes_of = array.view(np.uint8)
+    return array if array.size == 0 or bytes_of.max() <= 1 else bytes_of != 0
+
+
 def _held(kind: DataType, array: AnyArray) -> AnyArray:
     """Elements as the type holds them, where none is absent."""
     if kind.is_variable:
         return np.asarray(array, object)
     if array.dtype == kind.dtype and kind.has_all:
-        return array
+        return _truths(array) if kind.dtype == bool else array
     if array.size == 0:
         return np.empty(array.shape, kind.dtype)
     if kind.bounds is not None:
@@ -137,7 +143,7 @@ def held(kind: DataType, array: Any) -> AnyArray:
     absent = mask_of(array)
     data = array.data
     if data.dtype == kind.dtype and kind.has_all and not kind.is_variable:
-        return masked(data, absent)
+        return masked(_held(kind, data), absent)
     if absent.all():
         data = np.full(array.shape, _blank(kind, kind.dtype), kind.dtype)
     elif absent.any():
