@@ -99,8 +99,11 @@ def _whole_objects(kind: DataType, array: AnyArray) -> AnyArray:
 
 def _truths(array: AnyArray) -> AnyArray:
     """Truth values as the bytes 0 and 1: numpy takes every other byte for true as well."""
-    bytes_of = array.view(np.uint8)
-    return array if array.size == 0 or bytes_of.max() <= 1 else bytes_of != 0
+    bytes_of: AnyArray = array.view(np.uint8)
+    if array.size == 0 or bytes_of.max() <= 1:
+        return array
+    truths: AnyArray = bytes_of != 0
+    return truths
 
 
 def _held(kind: DataType, array: AnyArray) -> AnyArray:

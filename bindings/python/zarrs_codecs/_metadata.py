@@ -2,6 +2,7 @@
 
 import json
 import reprlib
+from collections.abc import Sequence
 from dataclasses import dataclass
 from typing import Any
 
@@ -186,7 +187,7 @@ def _named_type(said: Any) -> Any:
     return said
 
 
-def _as_objects(codecs: list[Any]) -> list[Any]:
+def _as_objects(codecs: Sequence[Any]) -> list[Any]:
     """The codecs, and those in their configurations, each an object: readers of Zarr 3.0 take no name alone."""
     return [{"name": codec} if isinstance(codec, str) else _with_objects(codec) for codec in codecs]
 

@@ -62,7 +62,7 @@ def has_pythons(codecs: Any) -> bool:
     said = codecs[0].get("configuration")
     inner = said.get("codecs") if isinstance(said, dict) else None
     try:
-        return isinstance(inner, list) and (bool(split(inner)[1]) or has_pythons(inner))
+        return isinstance(inner, (list, tuple)) and (bool(split(list(inner))[1]) or has_pythons(inner))
     except Refused:
         # one of them, with a key that is wrong
         return True
@@ -315,7 +315,8 @@ class ShardedChain(Chain):
     def decode(self, value: Any, out: AnyArray | None = None) -> AnyArray:
         """The chunk that a value stands for, an array of this shape; in `out` where it is given."""
         elements = empty(self._type, self.shape)
-        for number, (place, part) in enumerate(zip(self._places(), self._stored(value), strict=True)):
+        places: Iterator[Any] = self._places()
+        for number, (place, part) in enumerate(zip(places, self._stored(value), strict=True)):
             elements[(*place, ...)] = self._fill if part is None else self._opened(number, part)
         return put(elements, out)
 
@@ -341,7 +342,7 @@ class ShardedChain(Chain):
             sizes = np.array(self._chunk_shape, np.uint64)
             grid = chosen.rows // sizes if chosen.rows.size else chosen.rows
             inside = chosen.rows - grid * sizes
-            numbers = np.zeros(len(grid), np.int64)
+            numbers: AnyArray = np.zeros(len(grid), np.int64)
             for axis, count in enumerate(self._grid):
                 numbers = numbers * count + grid[:, axis].astype(np.int64)
             places = ((int(number), np.nonzero(numbers == number)[0]) for number in np.unique(numbers))

@@ -10,3 +10,9 @@ AnyArray = npt.NDArray[Any]
 # The bytes of a value.
 Bytes = npt.NDArray[np.uint8]
 Shape = tuple[int, ...]
+
+
+def listed(array: AnyArray) -> list[Any]:
+    """An array's elements in a list, whose types numpy doesn't say."""
+    elements: Any = array.tolist()
+    return list(elements)
