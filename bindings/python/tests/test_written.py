@@ -212,6 +212,7 @@ def test_checksums_of_zstd():
     # the bit of a frame's header that says that a checksum ends it
     assert value[4] & 4 and not Chain(["bytes", ZSTD], (1000,), "uint8").encode(array)[4] & 4
     same(chain.decode(value), array)
+    value = value.copy()
     value[-1] ^= 1
     with pytest.raises(z.BytesCodec, match="by codec 1, 'zstd'"):
         chain.decode(value)

@@ -9,6 +9,7 @@ from typing import Any, NamedTuple
 import numpy as np
 
 from ._bytes_codecs import split, wrong
+from ._data_types import zarrs_own
 from ._elements import empty, mask_of, put, spread
 from ._files import Held, Source
 from ._header import json_of
@@ -140,9 +141,10 @@ class ShardedChain(Chain):
     _is_composed = True
 
     def __init__(
-        self, codecs: Sequence[Any], shape: Sequence[int], data_type: Any, fill_value: Any = None
+        self, codecs: Sequence[Any], shape: int | Sequence[int], data_type: Any, fill_value: Any = None
     ) -> None:
         self._text = json_of(list(codecs))
+        data_type = zarrs_own(data_type)
         self._set_elements(shape, data_type)
         self._outer = []
         try:

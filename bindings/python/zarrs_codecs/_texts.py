@@ -32,6 +32,8 @@ def joined(elements: list[Any], is_text: bool) -> tuple[AnyArray, bytes]:
         return _joined(elements, is_text)
     except UnicodeEncodeError as error:
         raise InvalidText(f"an element is no text: {error}") from error
+    except TypeError as error:
+        raise TypeError(f"an element is no {'text' if is_text else 'byte string'}: {error}") from error
 
 
 def _joined(elements: list[Any], is_text: bool) -> tuple[AnyArray, bytes]:
