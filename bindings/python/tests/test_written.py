@@ -89,6 +89,8 @@ def test_an_array_of_version_2_is_told(tmp_path):
     "data_type, codec, fill, expected",
     [
         ("bool", "bytes", True, True),
+        ("bool", "bytes", 1, True),
+        ("uint8", "bytes", True, 1),
         ("int8", "bytes", -3, -3),
         ("uint64", LITTLE, 2**64 - 1, 2**64 - 1),
         ("float16", LITTLE, "0x7e01", np.frombuffer(b"\x01\x7e", "<f2")[0]),

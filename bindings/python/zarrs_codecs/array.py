@@ -77,6 +77,10 @@ class Array:
     another length than its codecs always write, `IndexError` for an index that is none, `ValueError` for
     elements that don't broadcast or aren't of the type, and `TypeError` for those of another kind.
 
+    `shape`, `dtype`, `ndim` and `size` are as numpy has them, and `chunks` is the shape of a chunk;
+    `dimension_names` has the axes' names, or is None; `metadata` is what `zarr.json` said, `chain` the `Chain` of
+    its chunks, and `folder` where they are.
+
     `store` is an object that opens files by `store.open(path)`, whose paths begin with `folder`: each file has
     `seek`, and `readinto` or `read`, and one that isn't there is a `FileNotFoundError` or a `KeyError`, as
     `zipfile.ZipFile` has it. Where it has `info` and `cat_ranges`, as fsspec's file systems have, all ranges of a
