@@ -26,7 +26,7 @@ if HAS_ZARR:
         "zstd with a checksum": [ZstdCodec(level=3, checksum=True)],
         "blosc": [BloscCodec(cname="zstd", shuffle="bitshuffle")],
         "crc32c": [Crc32cCodec()],
-        "several": [BloscCodec(cname="lz4", shuffle="shuffle"), GzipCodec(level=1)],
+        "several": [BloscCodec(cname="lz4", shuffle="shuffle"), GzipCodec(level=1), Crc32cCodec()],
     }
 else:
     COMPRESSORS = {}
@@ -52,7 +52,8 @@ LISTS = {
     "crc32c": [LITTLE, "crc32c"],
     "shards": shards(LITTLE, place="start"),
     "shards with checksums": shards(LITTLE, {"name": "crc32c"}),
-    "shards of gzip": shards(transpose([1, 0]), LITTLE, GZIP),
+    "checksums of gzip": [LITTLE, GZIP, "crc32c"],
+    "shards of gzip": shards(transpose([1, 0]), LITTLE, GZIP, "crc32c"),
 }
 
 
