@@ -54,12 +54,21 @@ def _places(entry: Any, axis: int, size: int) -> AnyArray:
     return np.flatnonzero(places)
 
 
+def grouped(numbers: AnyArray) -> Iterator[tuple[int, AnyArray]]:
+    """Each number that comes, in order, and its places."""
+    order = np.argsort(numbers, kind="stable")
+    in_order = numbers[order]
+    begin = 0
+    for end in listed(np.flatnonzero(in_order[1:] != in_order[:-1]) + 1) + [len(order)]:
+        if begin < end:
+            yield int(in_order[begin]), order[begin:end]
+        begin = end
+
+
 def _stretches(places: AnyArray, size: int) -> Iterator[tuple[slice, AnyArray, AnyArray]]:
     """For each chunk of an axis with places of a list: the stretch from the first to the last of these, the
     places in it, and their numbers in the list."""
-    chunk_of = places // size
-    for chunk in np.unique(chunk_of):
-        numbers = np.flatnonzero(chunk_of == chunk)
+    for _, numbers in grouped(places // size):
         inside = places[numbers]
         first, last = int(inside.min()), int(inside.max())
         yield slice(first, last + 1), inside - first, numbers
@@ -157,6 +166,5 @@ class Points:
             yield (), np.zeros((1, 0), np.uint64), np.zeros(1, np.int64)
             return
         chunk_of, which = np.unique(self._rows // chunks, axis=0, return_inverse=True)
-        for number, chunk in enumerate(listed(chunk_of)):
-            numbers = np.flatnonzero(which.ravel() == number)
-            yield tuple(chunk), self._rows[numbers] - np.multiply(chunk, chunks), numbers
+        for number, numbers in grouped(which.ravel()):
+            yield tuple(listed(chunk_of[number])), self._rows[numbers] - chunk_of[number] * chunks, numbers
