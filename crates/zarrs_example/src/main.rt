@@ -1,7 +1,7 @@
 //! Stores a chunk of 4 by 6 bytes, reads a window of it, edits the window and decodes the whole.
 //!
-//! The chunk is transposed, and a checksum stands behind the value. The
-//! window is read, and the edit made, through a storage handle, as if the whole chunk were there.
+//! The chunk is transposed, and a checksum stands behind the value. The window is read and edited
+//! through a storage handle, as if the whole chunk were there.
 #![tactic(auto)]
 
 use std::alloc::Global;
@@ -40,7 +40,7 @@ const ELEMENTS: &'static [u8] = &[
     30, 31, 32, 33, 34, 35,
 ];
 
-/// What a chain is returned of a chunk.
+/// Which chunks are encoded: their shape, the type of their elements, and the fill value.
 #[derive(Drop)]
 struct Form {
     shape: ChunkShape,
@@ -57,7 +57,7 @@ fn example_form(alloc: Global) -> Result<Form, CodecError> {
     })
 }
 
-/// The whole chunk is encoded, and its value is stored.
+/// Encodes the whole chunk, and stores its value.
 fn store(
     alloc: Global,
     chain: &CodecChain<Crc32cCodec>,
