@@ -581,7 +581,14 @@ def compare(rng, array, expected):
         values = some_values(rng, np.shape(found))
     yield index, values
     assert np.shape(array[index]) == np.shape(found) and np.array_equal(array[index], found)
-    array[index] = expected[index] = values
+    try:
+        expected[index] = values
+    except ValueError:
+        # from 2.4 on numpy takes no array with axes for an element
+        with pytest.raises(ValueError):
+            array[index] = values
+        return
+    array[index] = values
 
 
 def test_a_thousand_indices_beside_numpy(tmp_path):
