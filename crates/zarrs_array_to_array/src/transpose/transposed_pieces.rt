@@ -150,6 +150,7 @@ fn transposed_pieces(
 }
 
 /// The elements of one size of a chunk with its axes in this order.
+#[inline(always)]
 pub(crate) fn transpose_fixed<'b>(
     alloc: Global,
     bytes: &[u8],
