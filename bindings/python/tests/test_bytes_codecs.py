@@ -135,11 +135,36 @@ def test_configurations_that_are_none(codec):
 def test_only_codecs_at_the_end_are_pythons():
     for codecs in (
         [GZIP, "bytes"],
-        ["bytes", GZIP, "crc32c"],
+        ["bytes", GZIP, "adler32"],
+        ["bytes", GZIP, transpose([0])],
         [{**VLEN, "configuration": {**VLEN["configuration"], "data_codecs": ["bytes", GZIP]}}],
     ):
         with pytest.raises(z.UnknownName):
             Chain(codecs, (4,), "string" if len(codecs) == 1 else "uint8")
+
+
+def test_checksums_behind_codecs_of_python(rng):
+    codecs = [LITTLE, "crc32c", GZIP, {"name": "crc32c"}]
+    chain = Chain(codecs, (5, 6), "int16")
+    array = some(rng, "int16", chain.dtype, chain.shape)
+    value = chain.encode(array)
+    zipped = Chain(codecs[:3], (5, 6), "int16").encode(array)
+    assert value[:-4].tobytes() == zipped.tobytes()
+    assert value.tobytes() == Chain(["bytes", "crc32c"], zipped.shape, "uint8").encode(zipped).tobytes()
+    same(chain.decode(value), array)
+    same(chain.read(value, np.s_[1:3, 2]), array[1:3, 2])
+    same(chain.decode(chain.write(value, 0, 7)), np.concatenate([np.full((1, 6), 7, "<i2"), array[1:]]))
+    assert chain.unproved == ("gzip",)
+    for damaged in (b"", value[:4], value[:-1], value[1:], value ^ np.uint8(1)):
+        with pytest.raises(z.BytesCodec, match="by codec 3, 'crc32c'"):
+            chain.decode(damaged)
+    with pytest.raises(z.Refused) as told:
+        Chain([LITTLE, GZIP, {"name": "crc32c", "configuration": 5}], (5, 6), "int16")
+    assert told.value.codec == (2, "crc32c")
+    inner = {"chunk_shape": [5, 3], "codecs": codecs, "index_codecs": [LITTLE]}
+    shards = Chain([{"name": "sharding_indexed", "configuration": inner}], (5, 6), "int16")
+    same(shards.decode(shards.encode(array)), array)
+    assert shards.unproved == ("sharding_indexed", "gzip")
 
 
 def test_without_numcodecs():

@@ -244,6 +244,37 @@ def test_many_chunks_at_once(name, codec, tmp_path, rng):
     same(other[...], expected)
 
 
+@pytest.mark.parametrize(
+    "by, index",
+    [
+        (None, np.s_[::3]),
+        (None, [0, 4, 8]),
+        (None, np.arange(9) % 4 == 0),
+        ("oindex", ([0, 3, 7], slice(1))),
+        ("oindex", (slice(None, None, 4), 0)),
+        ("vindex", ([0, 3, 7], [0, 1, 0])),
+    ],
+)
+def test_so_many_chunks_of_any_index_at_a_time(by, index, tmp_path, monkeypatch):
+    make_array(tmp_path / "a", (9, 2), (3, 2), "int32", [LITTLE], 0)
+    array, together = Array(tmp_path / "a", threads=3), threading.Barrier(3, timeout=5)
+    written = np.arange(18).reshape(9, 2)
+    array[...] = written
+    for name in ("read_into", "write"):
+        call = getattr(array._chunks, name)
+
+        def waiting(*arguments, call=call):
+            together.wait()
+            return call(*arguments)
+
+        monkeypatch.setattr(array._chunks, name, waiting)
+    indexed = array if by is None else getattr(array, by)
+    assert np.array_equal(indexed[index], written[index])
+    indexed[index] = written[index] = -written[index]
+    monkeypatch.undo()
+    assert np.array_equal(array[...], written)
+
+
 def test_many_threads_and_one_cache(tmp_path, rng):
     """Each thread writes chunks of its own, and reads all."""
     make_array(tmp_path / "a", (64,), (4,), "int32", [LITTLE, GZIP], 0)

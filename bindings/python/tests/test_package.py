@@ -215,6 +215,32 @@ def constants():
     return {int(number): name for name, number in re.findall(r"^ +ZARRS_(\w+) = (\d+)", text, re.MULTILINE)}
 
 
+# The codes of version 0.1.0, each behind the number of the first.
+CODES = {
+    0: (
+        "DONE SHORT SYNTAX ARGUMENT NOT_IN_PLACE"
+    ),
+    10: (
+        "OUT_OF_MEMORY STORAGE UNSUPPORTED_DATA_TYPE ENDIANNESS_MISSING ARRAY_BYTES_KIND INVALID_BYTES_LENGTH "
+        "INCOMPATIBLE_DIMENSIONALITY OUT_OF_BOUNDS OVERFLOW INVALID_FILL_VALUE RESHAPE_DIMENSION RESHAPE_ELEMENTS "
+        "BIT_RANGE PADDING_BYTE INDEX_LENGTH INVALID_OFFSETS OFFSET_TOO_LARGE OFFSET_NOT_KEPT MASK_VALUE "
+        "HEADER_OVERFLOW INVALID_BYTE_RANGE BYTES_CODEC DATA_MISMATCH UNSUPPORTED_TARGET TARGET_MISMATCH "
+        "REVERSED_RANGE ELEMENT_COUNT INDIVISIBLE_SHAPE INDEX_NOT_FIXED"
+    ),
+    50: (
+        "UNKNOWN_NAME INVALID_CONFIGURATION MISSING_ARRAY_TO_BYTES MULTIPLE_ARRAY_TO_BYTES BIT_ORDER MULTIPLE_AUTO "
+        "ZERO_SIZE NOT_A_PERMUTATION"
+    ),
+}
+
+
+def test_codes_keep_their_numbers():
+    """In all later versions too."""
+    for first, names in CODES.items():
+        for number, name in enumerate(names.split(), first):
+            assert constants()[number] == name
+
+
 def test_codes_of_the_header_are_the_librarys():
     codes = constants()
     named = re.findall(r'(\d+) => "(\w+)"', NAMES.read_text())

@@ -12,24 +12,23 @@ from samples import LITTLE, NUMERIC, some, some_index, some_shape, transpose
 import zarrs_codecs as z
 from zarrs_codecs import Array
 
-HAS_ZARR = importlib.util.find_spec("zarr") is not None and int(importlib.metadata.version("zarr").split(".")[0]) >= 3
-pytestmark = pytest.mark.skipif(not HAS_ZARR, reason="zarr-python 3 isn't installed")
-if HAS_ZARR:
-    import zarr
-    from zarr.codecs import BloscCodec, Crc32cCodec, GzipCodec, ZstdCodec
+if importlib.util.find_spec("zarr") is None or int(importlib.metadata.version("zarr").split(".")[0]) < 3:
+    pytest.skip("zarr-python 3 isn't installed", allow_module_level=True)
 
-    COMPRESSORS = {
-        "usual": "auto",
-        "none": None,
-        "gzip": [GzipCodec(level=4)],
-        "zstd": [ZstdCodec(level=3)],
-        "zstd with a checksum": [ZstdCodec(level=3, checksum=True)],
-        "blosc": [BloscCodec(cname="zstd", shuffle="bitshuffle")],
-        "crc32c": [Crc32cCodec()],
-        "several": [BloscCodec(cname="lz4", shuffle="shuffle"), GzipCodec(level=1)],
-    }
-else:
-    COMPRESSORS = {}
+import zarr  # noqa: E402
+from zarr.codecs import BloscCodec, Crc32cCodec, GzipCodec, ZstdCodec  # noqa: E402
+
+IS_3_0 = zarr.__version__.startswith("3.0.")
+COMPRESSORS = {
+    "usual": "auto",
+    "none": None,
+    "gzip": [GzipCodec(level=4)],
+    "zstd": [ZstdCodec(level=3)],
+    "zstd with a checksum": [ZstdCodec(level=3, checksum=True)],
+    "blosc": [BloscCodec(cname="zstd", shuffle="bitshuffle")],
+    "crc32c": [Crc32cCodec()],
+    "several": [BloscCodec(cname="lz4", shuffle="shuffle"), GzipCodec(level=1), Crc32cCodec()],
+}
 GZIP = {"name": "gzip", "configuration": {"level": 1}}
 ZSTD = {"name": "zstd", "configuration": {"level": 1, "checksum": True}}
 BLOSC = {
@@ -52,7 +51,8 @@ LISTS = {
     "crc32c": [LITTLE, "crc32c"],
     "shards": shards(LITTLE, place="start"),
     "shards with checksums": shards(LITTLE, {"name": "crc32c"}),
-    "shards of gzip": shards(transpose([1, 0]), LITTLE, GZIP),
+    "checksums of gzip": [LITTLE, GZIP, "crc32c"],
+    "shards of gzip": shards(transpose([1, 0]), LITTLE, GZIP, "crc32c"),
 }
 
 
@@ -122,7 +122,13 @@ def test_what_is_made_here(codecs, name, rng, tmp_path):
 
 
 # a fill value of bytes is written in base64 here, which zarr-python 3.0 takes for the bytes themselves
-@pytest.mark.parametrize("name, texts", [("string", ["a", "ä", "", "c" * 99]), ("bytes", [b"", b"a", b"\xff", b"c" * 99])])
+@pytest.mark.parametrize(
+    "name, texts",
+    [
+        ("string", ["a", "ä", "", "c" * 99]),
+        pytest.param("bytes", [b"", b"a", b"\xff", b"c" * 99], marks=pytest.mark.skipif(not IS_3_0, reason="made for zarr-python 3.0")),
+    ],
+)
 def test_texts_and_byte_strings(name, texts, tmp_path):
     for number, (compressors, shards_of) in enumerate(itertools.product(("auto", None), (None, (4,)))):
         theirs = zarr.create_array(

@@ -14,7 +14,7 @@ import numpy as np
 
 from ._locating import name_of as codec_name
 from ._types import AnyArray, Bytes
-from .refusals import BytesCodec, InvalidConfiguration, OutOfMemory
+from .refusals import BytesCodec, InvalidConfiguration, OutOfMemory, Refused
 
 _SHUFFLES = {"noshuffle": 0, "shuffle": 1, "bitshuffle": 2}
 _MISSING = object()
@@ -29,6 +29,7 @@ class OuterCodec:
     name: str
     compress: Callable[[AnyArray], Any]
     decompress: Callable[[Any], Any]
+    is_proved: bool = False
 
     def encode(self, value: Bytes) -> Bytes:
         """What is stored of a value."""
@@ -135,6 +136,33 @@ def _blosc(configuration: dict[str, Any]) -> OuterCodec:
     return OuterCodec("blosc", compress, lambda stored: codec.decode(_blosc_part(stored)))
 
 
+_CHECKSUM = "crc32c"
+
+
+def _checksum(codecs: list[Any], place: int) -> OuterCodec:
+    """The library's own codec, behind those of Python. A refusal says that it is of this one."""
+    from .chain import Chain
+
+    def chain(size: int) -> Any:
+        return Chain(["bytes", codecs[place]], (size,), "uint8")
+
+    def decompress(stored: Any) -> Any:
+        size = memoryview(stored).nbytes
+        if size < 5:
+            raise ValueError(f"{size} bytes, where there are more behind another codec")
+        try:
+            return chain(size - 4).decode(stored)
+        except BytesCodec as error:
+            raise ValueError("the checksum is another one") from error
+
+    try:
+        chain(1)
+    except Refused as error:
+        error.codec = place, _CHECKSUM
+        raise
+    return OuterCodec(_CHECKSUM, lambda value: chain(value.size).encode(value), decompress, True)
+
+
 _MAKERS = {"gzip": _gzip, "zstd": _zstd, "blosc": _blosc}
 # Names that the library has in another form.
 _OTHER_NAMES = {"squeeze": "zarrs.squeeze", "vlen": "zarrs.vlen"}
@@ -144,14 +172,23 @@ def hint(name: str) -> str | None:
     """What could help where no codec has this name."""
     if name in _MAKERS:
         needs = "" if name == "gzip" else ", where numcodecs is installed"
-        return f"Python runs {name} at the end of a list of codecs alone{needs}"
+        return f"Python runs {name} at the end of a list of codecs alone, with crc32c or without{needs}"
     if name in _OTHER_NAMES:
         return f"there is {_OTHER_NAMES[name]!r}"
     return None
 
 
-def _made(metadata: Any) -> OuterCodec | None:
-    """The codec of a metadata, where it is one of those that Python runs and what it needs is installed."""
+def _made(codecs: list[Any], place: int) -> OuterCodec | None:
+    """The codec at a place, where it is one of those that Python runs and what it needs is installed. A refusal says that
+    it is of this one."""
+    try:
+        return _made_of(codecs[place])
+    except InvalidConfiguration as error:
+        error.codec = place, codec_name(codecs[place])
+        raise
+
+
+def _made_of(metadata: Any) -> OuterCodec | None:
     name = metadata.get("name") if isinstance(metadata, dict) else metadata
     make = _MAKERS.get(name) if isinstance(name, str) else None
     if make is None:
@@ -165,16 +202,19 @@ def _made(metadata: Any) -> OuterCodec | None:
         return None
 
 
+def _first_of_pythons(codecs: list[Any]) -> int:
+    """The place of the first codec from which on each is one that Python runs, or a checksum behind such a one."""
+    first = len(codecs)
+    for place in reversed(range(len(codecs))):
+        if _made(codecs, place) is not None:
+            first = place
+        elif codec_name(codecs[place]) != _CHECKSUM:
+            break
+    return first
+
+
 def split(codecs: list[Any]) -> tuple[list[Any], list[OuterCodec]]:
     """The codecs that the library runs, and those behind them that Python runs, the first one first."""
-    outer: list[OuterCodec] = []
-    for count in range(len(codecs), 0, -1):
-        try:
-            made = _made(codecs[count - 1])
-        except InvalidConfiguration as error:
-            error.codec = count - 1, codec_name(codecs[count - 1])
-            raise
-        if made is None:
-            return codecs[:count], outer
-        outer.insert(0, made)
-    return [], outer
+    first = _first_of_pythons(codecs)
+    outer = (_made(codecs, place) or _checksum(codecs, place) for place in range(first, len(codecs)))
+    return codecs[:first], list(outer)

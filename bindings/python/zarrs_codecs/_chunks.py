@@ -39,6 +39,16 @@ def _naming(path: str) -> Iterator[None]:
         raise
 
 
+# What calls with the arguments of each part.
+Each = Callable[[Callable[..., None], Iterable[tuple[Any, ...]]], None]
+
+
+def one_by_one(call: Callable[..., None], parts: Iterable[tuple[Any, ...]]) -> None:
+    """Calls with the arguments of each part, one after another."""
+    for arguments in parts:
+        call(*arguments)
+
+
 class Chunks:
     """Reads and writes chunks, of each as much as a selection needs, by so many threads at most.
 
@@ -68,8 +78,7 @@ class Chunks:
         """Calls with the arguments of each part, each of another chunk. The first exception is raised, when all
         calls that were begun have ended."""
         if self._threads == 1:
-            for arguments in parts:
-                call(*arguments)
+            one_by_one(call, parts)
             return
         with ThreadPoolExecutor(self._threads) as pool:
             begun = [pool.submit(call, *arguments) for arguments in parts]

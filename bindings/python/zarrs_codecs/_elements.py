@@ -142,8 +142,8 @@ def held(kind: DataType, array: Any) -> AnyArray:
     """Elements as the type holds them; whatever stands under absent ones, it is of the type.
 
     Whole numbers are of the type where it can hold them; else numpy's casting within a kind is allowed, which may
-    round. None among objects is absent where the type is an optional one. Raises `InvalidElement` where the type can't hold an element or one is absent, and `TypeError` where the
-    kinds differ.
+    round. None among objects is absent where the type is an optional one. Raises `InvalidElement` where the type can't
+    hold an element or one is absent, and `TypeError` where the kinds differ.
     """
     if not kind.is_optional:
         return _held(kind, _as_array(kind, _all_there(array)))

@@ -54,15 +54,24 @@ def _places(entry: Any, axis: int, size: int) -> AnyArray:
     return np.flatnonzero(places)
 
 
-def _stretches(places: AnyArray, size: int) -> Iterator[tuple[slice, AnyArray, AnyArray]]:
-    """For each chunk of an axis with places of a list: the stretch from the first to the last of these, the
-    places in it, and their numbers in the list."""
-    chunk_of = places // size
-    for chunk in np.unique(chunk_of):
-        numbers = np.flatnonzero(chunk_of == chunk)
+def grouped(numbers: AnyArray) -> Iterator[tuple[int, AnyArray]]:
+    """Each number that comes, in order, and its places."""
+    order = np.argsort(numbers, kind="stable")
+    in_order = numbers[order]
+    begin = 0
+    for end in listed(np.flatnonzero(in_order[1:] != in_order[:-1]) + 1) + [len(order)]:
+        if begin < end:
+            yield int(in_order[begin]), order[begin:end]
+        begin = end
+
+
+def _stretches(places: AnyArray, size: int, step: int = 1) -> Iterator[tuple[slice, AnyArray, AnyArray]]:
+    """For each chunk of an axis with places of a list: the stretch from the first to the last of these, each so many apart
+    from the next, the places in it, and their numbers in the list."""
+    for _, numbers in grouped(places // size):
         inside = places[numbers]
         first, last = int(inside.min()), int(inside.max())
-        yield slice(first, last + 1), inside - first, numbers
+        yield slice(first, last + 1, step), (inside - first) // step, numbers
 
 
 @dataclass(slots=True)
@@ -93,6 +102,7 @@ class Outer:
     """
 
     def __init__(self, selection: Any, shape: Shape) -> None:
+        self._whole = shape
         self._axes: list[_Axis] = []
         number = 0
         for entry in entries_of(selection, len(shape))[0]:
@@ -119,14 +129,18 @@ class Outer:
             return None
         return next(n for n, axis in enumerate(self._kept) if axis.places is not None)
 
+    def _of_chunks(self, axis: _Axis, chunks: Shape) -> Iterator[tuple[Any, AnyArray, AnyArray]]:
+        """The stretches of the chunks that an axis of the answer touches."""
+        if axis.number is None:
+            return iter([(None, np.arange(1), np.arange(1))])
+        if axis.places is not None:
+            return _stretches(axis.places, chunks[axis.number])
+        places = range(*axis.entry.indices(self._whole[axis.number]))
+        return _stretches(np.arange(places.start, places.stop, places.step), chunks[axis.number], abs(places.step))
+
     def steps(self, chunks: Shape) -> Iterator[Step]:
-        """Reads or writes of no chunk without places of the index."""
-        stretches: list[list[tuple[Any, AnyArray, AnyArray]]] = [
-            [(axis.entry, np.arange(length), np.arange(length))]
-            if axis.places is None
-            else list(_stretches(axis.places, chunks[axis.number or 0]))
-            for axis, length in zip(self._kept, self.shape)
-        ]
+        """Reads or writes of one chunk each, of all chunks with places of the index."""
+        stretches = [list(self._of_chunks(axis, chunks)) for axis in self._kept]
         for each in itertools.product(*stretches):
             entries = iter([one[0] for one in each])
             index = tuple(axis.entry if axis.is_dropped else next(entries) for axis in self._axes)
@@ -157,6 +171,5 @@ class Points:
             yield (), np.zeros((1, 0), np.uint64), np.zeros(1, np.int64)
             return
         chunk_of, which = np.unique(self._rows // chunks, axis=0, return_inverse=True)
-        for number, chunk in enumerate(listed(chunk_of)):
-            numbers = np.flatnonzero(which.ravel() == number)
-            yield tuple(chunk), self._rows[numbers] - np.multiply(chunk, chunks), numbers
+        for number, numbers in grouped(which.ravel()):
+            yield tuple(listed(chunk_of[number])), self._rows[numbers] - chunk_of[number] * chunks, numbers

@@ -13,6 +13,7 @@ from ._data_types import zarrs_own
 from ._elements import empty, mask_of, put, spread
 from ._files import Held, Source
 from ._header import json_of
+from ._indexing import grouped
 from ._rounds import Fetched
 from ._selections import Rows, Selection, select
 from ._types import AnyArray, Bytes, Shape
@@ -347,8 +348,7 @@ class ShardedChain(Chain):
             numbers: AnyArray = np.zeros(len(grid), np.int64)
             for axis, count in enumerate(self._grid):
                 numbers = numbers * count + grid[:, axis].astype(np.int64)
-            places = ((int(number), np.nonzero(numbers == number)[0]) for number in np.unique(numbers))
-            return [Piece(number, inside[there], there) for number, there in places]
+            return [Piece(number, inside[there], there) for number, there in grouped(numbers)]
         on_axes = [_on_axis(one, size) for one, size in zip(chosen.on_axes, self._chunk_shape, strict=True)]
         found = []
         for each in itertools.product(*on_axes):

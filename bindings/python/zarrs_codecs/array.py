@@ -12,15 +12,15 @@ import numpy as np
 from numpy.typing import ArrayLike, DTypeLike
 
 from ._attributes import Attributes, bytes_of
-from ._chunks import Chunks
+from ._chunks import Chunks, Each, one_by_one
 from ._data_types import data_type as data_type_of
 from ._data_types import zarrs_own
 from ._elements import empty, held, spread
 from ._files import replace
 from ._fill_values import fill_json
-from ._indexing import Outer, Points, is_list
+from ._indexing import Outer, Points, Step, is_list
 from ._metadata import made, metadata_of, parsed, usual_codecs
-from ._selections import box
+from ._selections import Box, box
 from ._sharding import array_chain
 from ._stores import Folder, Store
 from ._types import AnyArray, Shape, sizes_of
@@ -317,14 +317,27 @@ class Array:
             return self._read_outer(*self._numpys(selection))
         chosen = box(selection, self.shape)
         self._chunks.check_folder()
+        return self._read_box(chosen, self._chunks.each)
+
+    def _read_box(self, chosen: Box, each: Each) -> Any:
+        """The elements of a basic index."""
         answer = empty(self._type, chosen.shape)
         parts = self._parts(chosen.on_axes)
         fill = self._fill
-        self._chunks.each(
+        each(
             self._chunks.read_into,
             ((chunk, (*inside, ...), answer, (*there, ...), fill) for chunk, inside, there in parts),
         )
         return answer if chosen.after is None else answer[chosen.after]
+
+    def _write_box(self, new: AnyArray, chosen: Box, each: Each) -> None:
+        """Writes elements that the type holds, broadcast, at the places of a basic index."""
+        parts = self._parts(chosen.on_axes)
+        whole: Any = spread(self._type, new, chosen.shape, chosen.after)
+        each(
+            self._chunks.write,
+            ((chunk, (*inside, ...), whole[(*there, ...)]) for chunk, inside, there in parts),
+        )
 
     def _numpys(self, selection: Any) -> tuple[Outer, int | None]:
         """An outer index with one list, which is numpy's too, and the axis that numpy puts first."""
@@ -336,8 +349,12 @@ class Array:
     def _read_outer(self, chosen: Outer, front: int | None = None) -> AnyArray:
         self._chunks.check_folder()
         answer = empty(self._type, chosen.shape)
-        for step in chosen.steps(self.chunks):
-            answer[step.there] = self[(*step.place, ...)][step.inside]
+
+        def read(step: Step) -> None:
+            found = self._read_box(box((*step.place, ...), self.shape), one_by_one)
+            answer[step.there] = found[step.inside]
+
+        self._chunks.each(read, ((step,) for step in chosen.steps(self.chunks)))
         return answer if front is None else np.moveaxis(answer, front, 0)
 
     def _write_outer(self, array: ArrayLike, chosen: Outer, front: int | None = None) -> None:
@@ -347,10 +364,15 @@ class Array:
         new = spread(self._type, held(self._type, array), tuple(shape), None)
         if front is not None:
             new = np.moveaxis(new, 0, front)
-        for step in chosen.steps(self.chunks):
-            elements = self[(*step.place, ...)]
+        self._chunks.check_folder()
+
+        def write(step: Step) -> None:
+            place = box((*step.place, ...), self.shape)
+            elements = self._read_box(place, one_by_one)
             elements[step.inside] = new[step.there]
-            self[(*step.place, ...)] = elements
+            self._write_box(elements, place, one_by_one)
+
+        self._chunks.each(write, ((step,) for step in chosen.steps(self.chunks)))
 
     def _read_points(self, points: Points) -> Any:
         self._chunks.check_folder()
@@ -375,14 +397,7 @@ class Array:
         if _has_list(selection):
             self._write_outer(array, *self._numpys(selection))
             return
-        chosen = box(selection, self.shape)
-        new = spread(self._type, held(self._type, array), chosen.shape, chosen.after)
-        parts = self._parts(chosen.on_axes)
-        whole: Any = new
-        self._chunks.each(
-            self._chunks.write,
-            ((chunk, (*inside, ...), whole[(*there, ...)]) for chunk, inside, there in parts),
-        )
+        self._write_box(held(self._type, array), box(selection, self.shape), self._chunks.each)
 
 
 class OuterIndex:

@@ -100,7 +100,7 @@ class Chain:
     `codecs`, `data_type` and `fill_value` are as `zarr.json` has them, or the type is numpy's; a fill value of None
     is zero, empty or absent. Floats cross as unsigned integers of their size, complex numbers as two of them, `rN` as void
     elements; `string` and `bytes` have object arrays, an optional type (`{"optional": TYPE}`) masked ones.
-    Where `gzip`, `zstd` or `blosc` come last, Python runs them, on whole values: nothing about them is
+    Where `gzip`, `zstd` or `blosc` come last, with `crc32c` or without, Python runs them, on whole values: nothing about them is
     proved, and the last two need numcodecs. So it does where they come last in the `codecs` of
     `sharding_indexed`, alone in the list: Python then cuts the chunk, and the chain is a `ShardedChain`.
 
@@ -265,7 +265,7 @@ class Chain:
         >>> Chain(["bytes", {"name": "gzip", "configuration": {"level": 1}}], (4,), "uint8").unproved
         ('gzip',)
         """
-        return tuple(codec.name for codec in self._outer)
+        return tuple(codec.name for codec in self._outer if not codec.is_proved)
 
     # -- values in and out
 
