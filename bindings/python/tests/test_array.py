@@ -386,6 +386,9 @@ def test_indices_outside(tmp_path):
         array[np.ones((2, 4), bool)]
     with pytest.raises(IndexError, match="list of places, and not str"):
         array["x"]
+    for truth in (True, np.True_, np.array(True)):
+        with pytest.raises(IndexError, match="a truth value is no index"):
+            array[truth]
     same(array[range(3, 0, -2), 1:], array[...][range(3, 0, -2), 1:])
 
 

@@ -50,6 +50,24 @@ def test_arrays_of_every_type(name, fill, said, tmp_path):
     assert opened.chunk_path((1, 0)).is_file()
 
 
+def test_codecs_are_written_as_objects(tmp_path):
+    """zarr-python 3.0 opens no array whose `zarr.json` has a codec's name alone."""
+    inner = {"chunk_shape": (1,), "codecs": ["bytes", "crc32c"], "index_codecs": (LITTLE, "crc32c")}
+    shards = {"name": "sharding_indexed", "configuration": {"chunk_shape": [2], "codecs": [{"name": "sharding_indexed", "configuration": inner}], "index_codecs": [LITTLE]}}
+    lists = {"int8": (["bytes", "crc32c"], [{"name": "bytes"}, {"name": "crc32c"}]), "uint8": ([shards], None), "optional": (None, None)}
+    for name, (codecs, due) in lists.items():
+        array = Array.create(tmp_path / name, [4], [4], {"optional": "int8"} if name == "optional" else name, codecs=codecs)
+        array[:2] = 1
+        said = json.loads((tmp_path / name / "zarr.json").read_text())["codecs"]
+        assert due in (None, said)
+        left = list(said)
+        while left:
+            codec = left.pop()
+            assert isinstance(codec, dict)
+            left += [one for key, value in codec.get("configuration", {}).items() if key.endswith("codecs") for one in value]
+        assert Array(tmp_path / name)[:2].tolist() == [1, 1]
+
+
 def test_where_an_array_is_made(tmp_path, monkeypatch):
     monkeypatch.chdir(tmp_path)
     array = Array.create("a/b", (4,), (2,), "int8", attributes={"a": 1}, dimension_names=[None])

@@ -6,7 +6,7 @@ import numpy as np
 import pytest
 from samples import LITTLE, VLEN, optional
 
-from zarrs_codecs import Chain, InvalidFillValue
+from zarrs_codecs import Array, Chain, InvalidFillValue, UnsupportedDataType
 
 
 def filled(name, fill, codec=LITTLE):
@@ -46,6 +46,44 @@ def test_fill_values(name, fill, expected):
         else LITTLE
     )
     assert filled(name, fill, codec) == expected
+
+
+@pytest.mark.parametrize(
+    "numpys, own",
+    [
+        (np.float32, "float32"),
+        (np.dtype(">i4"), "int32"),
+        (float, "float64"),
+        (int, "int64"),
+        (bool, "bool"),
+        (np.complex64, "complex64"),
+        (np.dtype("V3"), "r24"),
+        (np.dtype("M8[10ms]"), {"name": "numpy.datetime64", "configuration": {"unit": "ms", "scale_factor": 10}}),
+        (np.dtype("m8"), {"name": "numpy.timedelta64", "configuration": {"unit": "generic", "scale_factor": 1}}),
+        (np.dtype("U2"), {"name": "fixed_length_utf32", "configuration": {"length_bytes": 8}}),
+        (np.dtype("S2"), {"name": "null_terminated_bytes", "configuration": {"length_bytes": 2}}),
+        ({"optional": np.int16}, {"optional": "int16"}),
+    ],
+)
+def test_numpys_types(numpys, own, tmp_path):
+    """One of numpy's stands for Zarr's, and is written so."""
+    codec = optional(LITTLE) if isinstance(own, dict) and "optional" in own else LITTLE
+    chain = Chain([codec], 2, numpys)
+    assert chain.data_type == own and chain.dtype == Chain([codec], (2,), own).dtype and chain.shape == (2,)
+    made, other = Array.create(tmp_path / "a", 5, 2, numpys), Array.create(tmp_path / "b", (5,), (2,), own)
+    assert made.metadata == other.metadata and made.shape == (5,) and made.chunks == (2,)
+
+
+@pytest.mark.parametrize("numpys", [str, object, np.longdouble, np.dtype([("a", "i4")]), np.dtype("U"), np.void, "M8[s]", "O"])
+def test_numpys_types_that_zarr_has_not(numpys):
+    with pytest.raises(UnsupportedDataType):
+        Chain([LITTLE], (2,), numpys)
+
+
+@pytest.mark.parametrize("name, own", [("f4", "float32"), ("<u2", "uint16"), ("i8", "int64"), ("c16", "complex128")])
+def test_a_short_name_of_numpys_is_told(name, own):
+    with pytest.raises(UnsupportedDataType, match=f"named '{name}'; there is '{own}'$"):
+        Chain([LITTLE], (2,), name)
 
 
 def test_not_a_number():

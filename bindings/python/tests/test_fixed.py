@@ -176,6 +176,18 @@ def test_finite_numbers_do_not_become_infinite(name, wrong):
     assert np.isinf(chain.decode(chain.encode([np.inf, -np.inf]))).all()
 
 
+@pytest.mark.parametrize("codec", ["bytes", "packbits"])
+def test_truth_values_are_zero_and_one(codec):
+    """numpy takes each byte but 0 for true."""
+    of_bytes = np.array([2, 0, 255], np.uint8).view(bool)
+    mask = {"name": "optional", "configuration": {"mask_codecs": ["packbits"], "data_codecs": [codec]}}
+    for codecs, name in (([codec], "bool"), ([mask], {"optional": "bool"})):
+        chain = Chain(codecs, (3,), name)
+        for array in (of_bytes, np.repeat(of_bytes, 2)[::2]):
+            same(chain.encode(array), chain.encode([True, False, True]))
+            same(chain.write(None, ..., array), chain.encode([True, False, True]))
+
+
 @pytest.mark.parametrize("length", [1, 3])
 def test_elements_of_bytes_are_neither_cut_nor_made_longer(length):
     chain = Chain(["bytes"], (2,), "r16")

@@ -89,6 +89,18 @@ def test_what_is_absent_may_be_anything():
     assert found.data.tolist() == ["", "a", ""]
 
 
+def test_none_is_absent():
+    chain = Chain([optional(LITTLE)], (3,), {"optional": "int32"})
+    expected = np.ma.MaskedArray([1, 0, 3], [False, True, False], "<i4")
+    same_masked(chain.decode(chain.encode([1, None, 3])), expected)
+    same_masked(chain.decode(chain.write(chain.encode([1, 2, 3]), 1, None)), expected)
+    both = np.ma.MaskedArray(np.array([1, None, 3], object), [False, False, True])
+    same_masked(chain.decode(chain.encode(both)), np.ma.MaskedArray([1, 0, 0], [False, True, True], "<i4"))
+    texts = Chain([optional(VLEN)], (3,), {"optional": "string"})
+    found = texts.decode(texts.encode(np.array(["a", None, ""], object)))
+    assert found.data.tolist() == ["a", "", ""] and found.mask.tolist() == [False, True, False]
+
+
 def test_masks_in_any_order_of_memory():
     chain = Chain([optional(LITTLE)], (2, 3), {"optional": "int16"})
     mask = np.asfortranarray([[False, True, False], [True, False, False]])

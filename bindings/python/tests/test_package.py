@@ -150,6 +150,55 @@ def test_the_header_in_c(words, tmp_path):
     assert names[:-1] == [_library.name_of(code) for code in range(60)]
 
 
+MADE = TOP / "bindings" / "out" / "zarrs_codecs.pc"
+LINES = re.findall(r"^    (cc .*) -o window$", (TOP / "bindings/README.md").read_text(), re.MULTILINE)
+
+
+@pytest.mark.skipif(shutil.which("cc") is None, reason="no C compiler is installed")
+@pytest.mark.skipif(
+    not MADE.is_file() or f'-I"{TOP}/include"' not in MADE.read_text(), reason="bindings/build didn't make the library in this folder"
+)
+@pytest.mark.parametrize("line", LINES)
+def test_the_lines_that_compile_a_program(line, tmp_path):
+    """Those of the page; what they make runs in any folder."""
+    if "pkg-config" in line and shutil.which("pkg-config") is None:
+        pytest.skip("no pkg-config is installed")
+    assert len(LINES) == 3
+    subprocess.run(["bash", "-c", f"{line} -o {tmp_path}/window"], cwd=TOP, check=True)
+    run = subprocess.run([tmp_path / "window"], cwd="/", capture_output=True, text=True, check=True)
+    assert run.stdout.endswith("window: 6 7 10 11\n")
+
+
+@pytest.mark.skipif(shutil.which("readelf") is None, reason="no readelf is installed")
+def test_a_program_asks_for_the_library_by_its_number():
+    said = subprocess.run(["readelf", "-d", _library.library._name], capture_output=True, text=True, check=True).stdout
+    assert re.findall(r"SONAME.*\[(.*)\]", said) == ["libzarrs_codecs.so.0"]
+    assert re.findall(r"NEEDED.*\[(.*)\]", said) == ["libc.so.6"]
+
+
+@pytest.mark.parametrize(
+    "script, more, says",
+    [
+        ("bindings/test", {"PYTHON": "false"}, "false has no numpy or no pytest"),
+        ("bindings/test", {"ZARRS_CODECS_LIBRARY": "/nowhere/x.so"}, "the package doesn't load"),
+        ("bindings/fuzz", {"ZARRS_CODECS_LIBRARY": "/nowhere/x.so"}, "needs the library that bindings/build makes"),
+        ("bindings/build", {"PATH": "nothing"}, "rt isn't there"),
+        ("bench/run", {"PATH": "nothing"}, "cc isn't there"),
+        ("examples/run", {"PYTHON": "false"}, "false has no numpy|libzarrs_codecs.so isn't there"),
+    ],
+)
+def test_scripts_say_what_is_missing(script, more, says, tmp_path):
+    nothing = tmp_path / "bin"
+    nothing.mkdir()
+    for name in ("bash", "dirname", "env"):
+        (nothing / name).symlink_to(shutil.which(name))
+    more = {name: str(nothing) if value == "nothing" else value for name, value in more.items()}
+    run = subprocess.run(
+        [TOP / script, tmp_path / "made"], env={**os.environ, "PYTHON": sys.executable, **more}, capture_output=True, text=True
+    )
+    assert run.returncode == 1 and re.search(says, run.stderr), run.stderr
+
+
 @pytest.mark.skipif(shutil.which("cc") is None, reason="no C compiler is installed")
 def test_calls_of_all_kinds_and_offsets_above_zero(tmp_path):
     """Two seconds of the fuzzer."""

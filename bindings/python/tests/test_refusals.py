@@ -352,6 +352,13 @@ def test_bad_metadata_raises_refusals_alone(codecs, data_type, fill):
         Chain(codecs, (4,), data_type, fill)
 
 
+@pytest.mark.parametrize("codec, data_type, fill", [("bytes", "r16", 2), (VLEN, "bytes", 3), ("bytes", "r16", np.uint8(2)), (VLEN, "bytes", True)])
+def test_a_number_is_no_list_of_bytes(codec, data_type, fill):
+    """Python's `bytes` makes so many zeros of one."""
+    with pytest.raises(z.InvalidFillValue, match="is no list of bytes"):
+        Chain([codec], (4,), data_type, fill)
+
+
 SHORT = [
     ([LITTLE], INT, 15, "InvalidBytesLength", 0, "15 bytes, where 16 are due"),
     ([transpose([0]), LITTLE], INT, 17, "InvalidBytesLength", 1, "17 bytes, where 16 are due"),

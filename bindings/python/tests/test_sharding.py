@@ -60,6 +60,14 @@ def test_a_value_with_its_index_behind(make):
     assert chain.representation == ("bounded", 4 * 8 + 68)
 
 
+def test_codecs_in_a_tuple():
+    inner = {"chunk_shape": (2, 2), "codecs": (LITTLE, GZIP), "index_codecs": (LITTLE,)}
+    chain = Chain(({"name": "sharding_indexed", "configuration": inner},), (4, 4), "int16", 7)
+    chunk = np.arange(16, dtype="<i2").reshape(4, 4)
+    same(chain.decode(chain.encode(chunk)), chunk)
+    assert chain.unproved == ("sharding_indexed", "gzip") and chain.codecs == sharded([2, 2], [LITTLE, GZIP])
+
+
 @EACH
 def test_a_value_with_its_index_before(make):
     chain = make(sharded([2, 4], ["bytes"], index_location="start"), (4, 4), "uint8", 255)

@@ -54,6 +54,15 @@ def test_values_are_those_of_numcodecs(name, empty, codec, rng):
         same(chain.decode(np.frombuffer(bytes(other.encode(array)), np.uint8)), array)
 
 
+@pytest.mark.parametrize("name, wrong", [("string", b"a"), ("string", None), ("string", 5), ("bytes", "a"), ("bytes", 5)])
+def test_elements_that_are_none(name, wrong):
+    chain = Chain([VLEN], (2,), name)
+    kind = "text" if name == "string" else "byte string"
+    for call in (lambda: chain.encode(np.array([wrong, wrong], object)), lambda: chain.write(None, 0, wrong)):
+        with pytest.raises(TypeError, match=f"an element is no {kind}"):
+            call()
+
+
 def test_damage_behind_lengths_is_refused():
     chain = Chain(["vlen-utf8"], (2,), "string")
     value = chain.encode(["ab", "c"]).tobytes()

@@ -2,6 +2,9 @@
 
 import mmap
 import pickle
+import sys
+import threading
+import time
 import tracemalloc
 from concurrent.futures import ThreadPoolExecutor
 
@@ -143,6 +146,42 @@ def test_threads_share_a_chain(rng):
         values = list(threads.map(chain.encode, arrays))
         for found, array in zip(threads.map(chain.decode, values), arrays):
             same(found, array)
+
+
+def test_calls_let_other_threads_run(monkeypatch):
+    """While one is in a call, another goes on, though Python gives none of them up by itself."""
+    chain = Chain(["packbits"], (1 << 25,), "bool")
+    value, out = np.zeros(1 << 22, np.uint8), np.empty(1 << 25, bool)
+    turns, is_done = 0, threading.Event()
+
+    def count():
+        nonlocal turns
+        while not is_done.is_set():
+            turns += 1
+            time.sleep(0.0001)
+
+    other = threading.Thread(target=count)
+    other.start()
+    seen = []
+    call = chain_module.library.zarrs_decode
+
+    def counted(*arguments):
+        before = turns
+        code = call(*arguments)
+        seen.append(turns - before)
+        return code
+
+    monkeypatch.setattr(chain_module.library, "zarrs_decode", counted)
+    usual = sys.getswitchinterval()
+    sys.setswitchinterval(100)
+    try:
+        for _ in range(20):
+            chain.decode(value, out)
+    finally:
+        sys.setswitchinterval(usual)
+        is_done.set()
+        other.join()
+    assert max(seen) > 0
 
 
 def test_representations():

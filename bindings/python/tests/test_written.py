@@ -1,5 +1,6 @@
 """`zarr.json` as zarr-python 3 and zarrs write it: what opens, and what a refusal says of what doesn't."""
 
+import datetime
 import json
 
 import numpy as np
@@ -89,6 +90,8 @@ def test_an_array_of_version_2_is_told(tmp_path):
     "data_type, codec, fill, expected",
     [
         ("bool", "bytes", True, True),
+        ("bool", "bytes", 1, True),
+        ("uint8", "bytes", True, 1),
         ("int8", "bytes", -3, -3),
         ("uint64", LITTLE, 2**64 - 1, 2**64 - 1),
         ("float16", LITTLE, "0x7e01", np.frombuffer(b"\x01\x7e", "<f2")[0]),
@@ -147,6 +150,66 @@ def test_types_of_one_length_and_moments(tmp_path):
         Chain([LITTLE], (2,), moments("datetime64", "ns"), far[0])
     big = Chain([{"name": "bytes", "configuration": {"endian": "big"}}], (1,), sized("fixed_length_utf32", 4))
     assert big.encode(["ä"]).tobytes() == "ä".encode("utf-32-be")
+
+
+DAY = datetime.date(2020, 1, 1)
+
+
+@pytest.mark.parametrize(
+    "kind, given, due",
+    [
+        ("M8[s]", "2020-01-01", DAY),
+        ("M8[s]", [DAY, None], [DAY, "NaT"]),
+        ("M8[s]", np.array(["2020-01-01T03", "NaT"]), [datetime.datetime(2020, 1, 1, 3), "NaT"]),
+        ("M8[10ms]", np.datetime64("2020-01-01"), DAY),
+        ("m8[s]", [datetime.timedelta(1), None], np.array([86400, "NaT"], "m8[s]")),
+        ("m8[s]", 5, np.timedelta64(5, "s")),
+        ("m8[s]", np.array([5, 6], "u1"), np.array([5, 6], "m8[s]")),
+        ("U3", np.array(["ä", "abc"], object), ["ä", "abc"]),
+        ("U3", b"ab", "ab"),
+        ("S3", np.array([b"a", b"abc"], object), [b"a", b"abc"]),
+        ("V2", [b"ab", b"c\0"], np.array([b"ab", b"c\0"], "V2")),
+        ("V2", np.array([b"ab", np.void(b"cd")], object), np.array([b"ab", b"cd"], "V2")),
+        ("V2", np.array([b"ab", b"cd"]), np.array([b"ab", b"cd"], "V2")),
+    ],
+)
+def test_elements_as_python_and_numpy_have_them(kind, given, due):
+    chain = Chain([LITTLE], (2,), np.dtype(kind))
+    expected = np.empty(2, kind)
+    expected[...] = due
+    same(chain.decode(chain.write(None, ..., given)), expected)
+
+
+@pytest.mark.parametrize(
+    "kind, given, refused",
+    [
+        ("M8[s]", 5, TypeError),
+        ("M8[s]", np.timedelta64(5, "s"), TypeError),
+        ("M8[s]", datetime.timedelta(1), TypeError),
+        ("M8[s]", "x", z.InvalidElement),
+        ("m8[s]", "5", TypeError),
+        ("m8[s]", DAY, TypeError),
+        ("m8[s]", np.array([1 << 63] * 2, np.uint64), TypeError),
+        ("U3", 12345, TypeError),
+        ("U3", np.array(["a", 5], object), TypeError),
+        ("U3", np.array(["a", "abcd"], object), z.InvalidElement),
+        ("U3", b"\xff", z.InvalidText),
+        ("U3", b"abcd", z.InvalidElement),
+        ("S3", 12345, TypeError),
+        ("S3", "ab", TypeError),
+        ("S3", np.array([b"a", None], object), TypeError),
+        ("V2", 70000, TypeError),
+        ("V2", 1.5, TypeError),
+        ("V2", "ab", TypeError),
+        ("V2", [b"ab", b"c"], z.InvalidElement),
+        ("V2", np.array([b"a", b"b"]), z.InvalidElement),
+        ("V2", np.array([b"abc", b"abc"]), z.InvalidElement),
+    ],
+)
+def test_elements_that_numpy_would_cut(kind, given, refused):
+    chain = Chain([LITTLE], (2,), np.dtype(kind))
+    with pytest.raises(refused, match="isn't of|aren't of"):
+        chain.write(None, ..., given)
 
 
 @pytest.mark.parametrize(
@@ -212,6 +275,7 @@ def test_checksums_of_zstd():
     # the bit of a frame's header that says that a checksum ends it
     assert value[4] & 4 and not Chain(["bytes", ZSTD], (1000,), "uint8").encode(array)[4] & 4
     same(chain.decode(value), array)
+    value = value.copy()
     value[-1] ^= 1
     with pytest.raises(z.BytesCodec, match="by codec 1, 'zstd'"):
         chain.decode(value)

@@ -3,6 +3,7 @@
 import ctypes
 import ctypes.util
 import gzip
+import importlib
 import reprlib
 import zlib
 from collections.abc import Callable
@@ -75,8 +76,7 @@ def _gzip(configuration: dict[str, Any]) -> OuterCodec:
 
 
 def _zstd(configuration: dict[str, Any]) -> OuterCodec:
-    from numcodecs import Zstd  # type: ignore[import]
-
+    Zstd = importlib.import_module("numcodecs.zstd").Zstd
     level = _integer(configuration, "level", -(1 << 17), 22)
     if not _one_of(configuration, "checksum", (False, True), False):
         return OuterCodec("zstd", Zstd(level).encode, Zstd(level).decode)
@@ -120,13 +120,12 @@ def _blosc_part(stored: Any) -> memoryview:
 
 
 def _blosc(configuration: dict[str, Any]) -> OuterCodec:
-    from numcodecs import Blosc, blosc
-
+    blosc = importlib.import_module("numcodecs.blosc")
     name = _one_of(configuration, "cname", blosc.list_compressors())
     level = _integer(configuration, "clevel", 0, 9)
     size = _integer(configuration, "typesize", 1, 255, 1)
     shuffle = _SHUFFLES[_one_of(configuration, "shuffle", _SHUFFLES)]
-    codec = Blosc(name, level, shuffle, _integer(configuration, "blocksize", 0, (1 << 31) - 1, 0))
+    codec = blosc.Blosc(name, level, shuffle, _integer(configuration, "blocksize", 0, (1 << 31) - 1, 0))
 
     def compress(value: AnyArray) -> Any:
         # the size of what is shuffled is told by the array's type

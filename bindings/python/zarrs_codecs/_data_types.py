@@ -82,6 +82,19 @@ def _numeric(name: str) -> DataType | None:
     return None
 
 
+# The kinds of numpy's short names, "f4" or "<u2".
+_KINDS = {"i": "int", "u": "uint", "f": "float", "c": "complex"}
+
+
+def _unknown(name: str) -> UnsupportedDataType:
+    """The refusal of a name; of a short one of numpy's it says the long one."""
+    error = UnsupportedDataType(f"no data type is named {name!r}")
+    short = re.fullmatch(r"[<>=|]?([iufc])([1248]|16)", name)
+    if short is not None:
+        error.hint = f"there is '{_KINDS[short[1]]}{8 * int(short[2])}'"
+    return error
+
+
 def _named(name: str) -> DataType:
     if name == "bool":
         return DataType("bool", np.dtype(bool))
@@ -91,7 +104,7 @@ def _named(name: str) -> DataType:
         return DataType("bytes", np.dtype(object))
     found = _numeric(name)
     if found is None:
-        raise UnsupportedDataType(f"no data type is named {name!r}")
+        raise _unknown(name)
     return found
 
 
@@ -137,6 +150,24 @@ def _optional(inner: DataType) -> DataType:
     if inner.is_optional:
         raise UnsupportedDataType("an optional type of an optional type has no masked arrays")
     return DataType({"optional": inner.header}, inner.dtype, inner.bits, inner.is_text, True)
+
+
+def zarrs_own(said: Any) -> Any:
+    """A type of numpy's, or one of Python's numbers, as `zarr.json` has it; anything else as it is."""
+    if isinstance(said, dict) and said.keys() == {"optional"} and not isinstance(said["optional"], dict):
+        return {"optional": zarrs_own(said["optional"])}
+    of_python = isinstance(said, type) and issubclass(said, (np.generic, bool, int, float, complex))
+    if not isinstance(said, np.dtype) and not of_python:
+        return said
+    kind = np.dtype(said)
+    if kind.kind in "mM":
+        unit, factor = np.datetime_data(kind)
+        name = "numpy.datetime64" if kind.kind == "M" else "numpy.timedelta64"
+        return {"name": name, "configuration": {"unit": unit, "scale_factor": factor}}
+    if kind.kind in "US":
+        name = "fixed_length_utf32" if kind.kind == "U" else "null_terminated_bytes"
+        return {"name": name, "configuration": {"length_bytes": kind.itemsize}}
+    return f"r{8 * kind.itemsize}" if kind.kind == "V" and kind.fields is None else kind.name
 
 
 def data_type(said: Any) -> DataType:

@@ -12,10 +12,11 @@ import numpy as np
 
 from ._buffers import counted, lent, start
 from ._data_types import DataType
+from ._kinds import of_kind
 from ._library import SHORT, Sizes, checked
 from ._texts import joined, parted
 from ._types import AnyArray
-from .refusals import InvalidElement
+from .refusals import InvalidElement, InvalidText
 
 _ma: Any = np.ma  # numpy says no types of it
 _NONE: tuple[Any, int] = (None, 0)
@@ -63,10 +64,10 @@ def _whole_numbers(kind: DataType, array: AnyArray) -> AnyArray:
 def _check_size(kind: DataType, array: AnyArray) -> None:
     """Raises `InvalidElement` where numpy would cut elements of a fixed length, or make them longer by zeros."""
     itemsize = kind.dtype.itemsize
-    if kind.dtype.kind == "V" and array.dtype.kind == "V" and array.dtype.itemsize != itemsize:
+    if kind.dtype.kind == "V" and array.dtype.itemsize != itemsize:
         raise InvalidElement(f"elements of {array.dtype.itemsize} bytes aren't of {kind.name}")
-    if kind.dtype.kind in "US" and array.dtype.itemsize > itemsize:
-        longest = int(np.char.str_len(array).max()) if array.dtype.kind in "US" else 0
+    if kind.dtype.kind in "US" and array.dtype.itemsize > itemsize // (4 if array.dtype.kind == "S" and kind.dtype.kind == "U" else 1):
+        longest = int(np.char.str_len(array).max())
         if longest > itemsize // (4 if kind.dtype.kind == "U" else 1):
             raise InvalidElement(f"an element of length {longest} isn't of {kind.name}")
 
@@ -81,8 +82,10 @@ def _cast(kind: DataType, array: AnyArray) -> AnyArray:
             made = array.astype(kind.dtype, casting="unsafe" if is_numbers else "same_kind")
     except (OverflowError, FloatingPointError) as error:
         raise InvalidElement(f"an element isn't of {kind.name}: {error}") from error
+    except UnicodeError as error:
+        raise InvalidText(f"an element isn't of {kind.name}: {error}") from error
     # of moments that are too far away numpy says nothing
-    if kind.dtype.kind in "mM" and np.can_cast(array.dtype, kind.dtype, "safe"):
+    if array.dtype.kind in "mM" and np.can_cast(array.dtype, kind.dtype, "safe"):
         differs = ~np.isnat(array) & (made.astype(array.dtype) != array)
         if differs.any():
             raise InvalidElement(f"{array[differs][0]} isn't of {kind.name}")
@@ -97,12 +100,21 @@ def _whole_objects(kind: DataType, array: AnyArray) -> AnyArray:
         raise TypeError(f"an element isn't of {kind.name}: {error}") from error
 
 
+def _truths(array: AnyArray) -> AnyArray:
+    """Truth values as the bytes 0 and 1: numpy takes every other byte for true as well."""
+    bytes_of: AnyArray = array.view(np.uint8)
+    if array.size == 0 or bytes_of.max() <= 1:
+        return array
+    truths: AnyArray = bytes_of != 0
+    return truths
+
+
 def _held(kind: DataType, array: AnyArray) -> AnyArray:
     """Elements as the type holds them, where none is absent."""
     if kind.is_variable:
         return np.asarray(array, object)
     if array.dtype == kind.dtype and kind.has_all:
-        return array
+        return _truths(array) if kind.dtype == bool else array
     if array.size == 0:
         return np.empty(array.shape, kind.dtype)
     if kind.bounds is not None:
@@ -112,14 +124,16 @@ def _held(kind: DataType, array: AnyArray) -> AnyArray:
             if kind.has_all and np.can_cast(array.dtype, kind.dtype):
                 return array.astype(kind.dtype)
             return _whole_numbers(kind, array)
+    array = of_kind(kind, array)
     _check_size(kind, array)
     return _cast(kind, array)
 
 
 def _as_array(kind: DataType, array: Any) -> AnyArray:
-    """Elements as numpy has them: of Python's whole numbers, which have no bounds, it would make floats of some."""
+    """Elements as numpy has them: of Python's whole numbers, which have no bounds, it would make floats of some, and byte
+    strings all as long as the longest."""
     made = np.asarray(array)
-    if kind.bounds is None or made is array or made.dtype.kind in "biu":
+    if kind.bounds is None and kind.dtype.kind != "V" or made is array or made.dtype.kind in "biu":
         return made
     return made if isinstance(array, (np.ndarray, np.generic)) else np.asarray(array, object)
 
@@ -128,7 +142,7 @@ def held(kind: DataType, array: Any) -> AnyArray:
     """Elements as the type holds them; whatever stands under absent ones, it is of the type.
 
     Whole numbers are of the type where it can hold them; else numpy's casting within a kind is allowed, which may
-    round. Raises `InvalidElement` where the type can't hold an element or one is absent, and `TypeError` where the
+    round. None among objects is absent where the type is an optional one. Raises `InvalidElement` where the type can't hold an element or one is absent, and `TypeError` where the
     kinds differ.
     """
     if not kind.is_optional:
@@ -136,8 +150,11 @@ def held(kind: DataType, array: Any) -> AnyArray:
     array = _ma.asarray(array)
     absent = mask_of(array)
     data = array.data
+    if data.dtype == object:
+        nothing: Any = None
+        absent = absent | np.equal(data, nothing).astype(bool)
     if data.dtype == kind.dtype and kind.has_all and not kind.is_variable:
-        return masked(data, absent)
+        return masked(_held(kind, data), absent)
     if absent.all():
         data = np.full(array.shape, _blank(kind, kind.dtype), kind.dtype)
     elif absent.any():

@@ -11,7 +11,7 @@ from typing import Any
 import numpy as np
 
 from ._cache import State, state_of
-from ._types import AnyArray
+from ._types import AnyArray, listed
 
 # How many bytes of a file are fetched at a time, where a read needs more.
 PART_BYTES = 1 << 20
@@ -79,7 +79,7 @@ class Held(Source):
         return len(self._view)
 
     def pieces(self, ranges: AnyArray) -> AnyArray:
-        return np.concatenate([np.frombuffer(part, np.uint8) for part in self.each(ranges.tolist())])
+        return np.concatenate([np.frombuffer(part, np.uint8) for part in self.each(listed(ranges))])
 
     def each(self, ranges: list[tuple[int, int]]) -> Iterator[Any]:
         for begin, end in ranges:
@@ -125,7 +125,7 @@ class File(Source):
     def pieces(self, ranges: AnyArray) -> AnyArray:
         fetched = np.empty(int((ranges[:, 1] - ranges[:, 0]).sum()), np.uint8)
         view, at = fetched.data, 0
-        for begin, end in ranges.tolist():
+        for begin, end in listed(ranges):
             self._read(view[at : at + end - begin], begin)
             at += end - begin
         return fetched

@@ -46,7 +46,7 @@ def _raw_bytes(fill: Any) -> bytes:
     if isinstance(fill, str):
         return base64.b64decode(fill, validate=True)
     if not isinstance(fill, (list, tuple, bytes, bytearray, memoryview, np.ndarray, np.void)):
-        raise InvalidFillValue(f"{reprlib.repr(fill)} is a {type(fill).__name__}, where bytes are due")
+        raise InvalidFillValue(f"{reprlib.repr(fill)} is no list of bytes and no text in base64")
     return bytes(fill)
 
 

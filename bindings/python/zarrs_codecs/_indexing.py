@@ -8,7 +8,7 @@ from typing import Any, NamedTuple
 import numpy as np
 
 from ._selections import as_places, entries_of
-from ._types import AnyArray, Shape
+from ._types import AnyArray, Shape, listed
 
 
 class Step(NamedTuple):
@@ -121,7 +121,7 @@ class Outer:
 
     def steps(self, chunks: Shape) -> Iterator[Step]:
         """Reads or writes of no chunk without places of the index."""
-        stretches = [
+        stretches: list[list[tuple[Any, AnyArray, AnyArray]]] = [
             [(axis.entry, np.arange(length), np.arange(length))]
             if axis.places is None
             else list(_stretches(axis.places, chunks[axis.number or 0]))
@@ -157,6 +157,6 @@ class Points:
             yield (), np.zeros((1, 0), np.uint64), np.zeros(1, np.int64)
             return
         chunk_of, which = np.unique(self._rows // chunks, axis=0, return_inverse=True)
-        for number, chunk in enumerate(chunk_of.tolist()):
+        for number, chunk in enumerate(listed(chunk_of)):
             numbers = np.flatnonzero(which.ravel() == number)
             yield tuple(chunk), self._rows[numbers] - np.multiply(chunk, chunks), numbers

@@ -2,6 +2,7 @@
 
 import json
 import reprlib
+from collections.abc import Sequence
 from dataclasses import dataclass
 from typing import Any
 
@@ -186,6 +187,22 @@ def _named_type(said: Any) -> Any:
     return said
 
 
+def _as_objects(codecs: Sequence[Any]) -> list[Any]:
+    """The codecs, and those in their configurations, each an object: readers of Zarr 3.0 take no name alone."""
+    return [{"name": codec} if isinstance(codec, str) else _with_objects(codec) for codec in codecs]
+
+
+def _with_objects(codec: Any) -> Any:
+    match codec:
+        case {"configuration": dict(configuration)}:
+            inner = {
+                key: _as_objects(value) if key.endswith("codecs") and isinstance(value, (list, tuple)) else value
+                for key, value in configuration.items()
+            }
+            return {**codec, "configuration": inner}
+    return codec
+
+
 def made(shape: Shape, chunks: Shape, data_type: Any, fill: Any, codecs: list[Any]) -> dict[str, Any]:
     """The `zarr.json` of an array, whose fill value is in the form of it."""
     return {
@@ -196,5 +213,5 @@ def made(shape: Shape, chunks: Shape, data_type: Any, fill: Any, codecs: list[An
         "chunk_grid": {"name": "regular", "configuration": {"chunk_shape": list(chunks)}},
         "chunk_key_encoding": {"name": "default", "configuration": {"separator": "/"}},
         "fill_value": fill,
-        "codecs": codecs,
+        "codecs": _as_objects(codecs),
     }

@@ -7,7 +7,7 @@ import numpy.typing as npt
 
 from ._buffers import counted
 from ._files import Source
-from ._types import AnyArray
+from ._types import AnyArray, listed
 
 Ranges = npt.NDArray[np.uint64]
 
@@ -76,7 +76,7 @@ def _merged(*parts: Pieces) -> Pieces:
         ends = np.cumsum((part.ranges[:, 1] - part.ranges[:, 0]).astype(np.int64))
         split += np.split(part.bytes, ends[:-1])
     order = np.argsort(ranges[:, 0], kind="stable")
-    return Pieces(_joined(ranges[order]), np.concatenate([split[place] for place in order.tolist()]))
+    return Pieces(_joined(ranges[order]), np.concatenate([split[place] for place in listed(order)]))
 
 
 def _joined(ranges: Ranges) -> Ranges:

@@ -155,7 +155,7 @@ def entries_of(selection: Any, axes: int) -> tuple[list[Any], bool]:
 
 
 def _place(index: Any, axis: int, size: int) -> int:
-    if isinstance(index, (bool, np.bool_)):
+    if isinstance(index, (bool, np.bool_)) or (isinstance(index, np.ndarray) and index.dtype == bool):
         raise IndexError("a truth value is no index here")
     try:
         place = operator.index(index)

@@ -9,6 +9,7 @@ from typing import Any, NamedTuple
 import numpy as np
 
 from ._bytes_codecs import split, wrong
+from ._data_types import zarrs_own
 from ._elements import empty, mask_of, put, spread
 from ._files import Held, Source
 from ._header import json_of
@@ -62,7 +63,7 @@ def has_pythons(codecs: Any) -> bool:
     said = codecs[0].get("configuration")
     inner = said.get("codecs") if isinstance(said, dict) else None
     try:
-        return isinstance(inner, list) and (bool(split(inner)[1]) or has_pythons(inner))
+        return isinstance(inner, (list, tuple)) and (bool(split(list(inner))[1]) or has_pythons(inner))
     except Refused:
         # one of them, with a key that is wrong
         return True
@@ -140,9 +141,10 @@ class ShardedChain(Chain):
     _is_composed = True
 
     def __init__(
-        self, codecs: Sequence[Any], shape: Sequence[int], data_type: Any, fill_value: Any = None
+        self, codecs: Sequence[Any], shape: int | Sequence[int], data_type: Any, fill_value: Any = None
     ) -> None:
         self._text = json_of(list(codecs))
+        data_type = zarrs_own(data_type)
         self._set_elements(shape, data_type)
         self._outer = []
         try:
@@ -315,7 +317,8 @@ class ShardedChain(Chain):
     def decode(self, value: Any, out: AnyArray | None = None) -> AnyArray:
         """The chunk that a value stands for, an array of this shape; in `out` where it is given."""
         elements = empty(self._type, self.shape)
-        for number, (place, part) in enumerate(zip(self._places(), self._stored(value), strict=True)):
+        places: Iterator[Any] = self._places()
+        for number, (place, part) in enumerate(zip(places, self._stored(value), strict=True)):
             elements[(*place, ...)] = self._fill if part is None else self._opened(number, part)
         return put(elements, out)
 
@@ -341,7 +344,7 @@ class ShardedChain(Chain):
             sizes = np.array(self._chunk_shape, np.uint64)
             grid = chosen.rows // sizes if chosen.rows.size else chosen.rows
             inside = chosen.rows - grid * sizes
-            numbers = np.zeros(len(grid), np.int64)
+            numbers: AnyArray = np.zeros(len(grid), np.int64)
             for axis, count in enumerate(self._grid):
                 numbers = numbers * count + grid[:, axis].astype(np.int64)
             places = ((int(number), np.nonzero(numbers == number)[0]) for number in np.unique(numbers))

@@ -10,7 +10,7 @@ import numpy as np
 
 from ._cache import State
 from ._files import File, Source, replace
-from ._types import AnyArray
+from ._types import AnyArray, listed
 
 # Words of `info` that tell of a change, in whatever case.
 _CHANGES = ("etag", "modified", "mtime", "created", "updated", "version", "generation", "md5", "digest", "checksum")
@@ -119,7 +119,7 @@ class _Ranged(Source):
     def pieces(self, ranges: AnyArray) -> AnyArray:
         if not len(ranges):
             return np.empty(0, np.uint8)
-        begins, ends = ranges[:, 0].tolist(), ranges[:, 1].tolist()
+        begins, ends = listed(ranges[:, 0]), listed(ranges[:, 1])
         parts = self._store.cat_ranges([self._path] * len(begins), begins, ends)
         for part, begin, end in zip(parts, begins, ends, strict=True):
             if isinstance(part, BaseException):

@@ -5,7 +5,7 @@ from typing import Any
 
 import numpy as np
 
-from ._types import AnyArray
+from ._types import AnyArray, listed
 from .refusals import InvalidText
 
 
@@ -32,6 +32,8 @@ def joined(elements: list[Any], is_text: bool) -> tuple[AnyArray, bytes]:
         return _joined(elements, is_text)
     except UnicodeEncodeError as error:
         raise InvalidText(f"an element is no text: {error}") from error
+    except TypeError as error:
+        raise TypeError(f"an element is no {'text' if is_text else 'byte string'}: {error}") from error
 
 
 def _joined(elements: list[Any], is_text: bool) -> tuple[AnyArray, bytes]:
@@ -74,6 +76,6 @@ def _parted(offsets: AnyArray, whole: bytes, is_text: bool) -> AnyArray:
         mark = bytes([byte])
         elements[:] = separated.decode().split(mark.decode()) if is_text else separated.split(mark)
         return elements
-    parts = [whole[begin:end] for begin, end in pairwise(offsets.tolist())]
+    parts = [whole[begin:end] for begin, end in pairwise(listed(offsets))]
     elements[:] = [part.decode() for part in parts] if is_text else parts
     return elements

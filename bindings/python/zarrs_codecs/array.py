@@ -14,6 +14,7 @@ from numpy.typing import ArrayLike, DTypeLike
 from ._attributes import Attributes, bytes_of
 from ._chunks import Chunks
 from ._data_types import data_type as data_type_of
+from ._data_types import zarrs_own
 from ._elements import empty, held, spread
 from ._files import replace
 from ._fill_values import fill_json
@@ -22,7 +23,7 @@ from ._metadata import made, metadata_of, parsed, usual_codecs
 from ._selections import box
 from ._sharding import array_chain
 from ._stores import Folder, Store
-from ._types import AnyArray, Shape
+from ._types import AnyArray, Shape, sizes_of
 from .chain import codec_list
 from .refusals import InvalidFillValue, Refused
 
@@ -76,6 +77,10 @@ class Array:
     another length than its codecs always write, `IndexError` for an index that is none, `ValueError` for
     elements that don't broadcast or aren't of the type, and `TypeError` for those of another kind.
 
+    `shape`, `dtype`, `ndim` and `size` are as numpy has them, and `chunks` is the shape of a chunk;
+    `dimension_names` has the axes' names, or is None; `metadata` is what `zarr.json` said, `chain` the `Chain` of
+    its chunks, and `folder` where they are.
+
     `store` is an object that opens files by `store.open(path)`, whose paths begin with `folder`: each file has
     `seek`, and `readinto` or `read`, and one that isn't there is a `FileNotFoundError` or a `KeyError`, as
     `zipfile.ZipFile` has it. Where it has `info` and `cat_ranges`, as fsspec's file systems have, all ranges of a
@@ -128,8 +133,8 @@ class Array:
     def create(
         cls,
         folder: str | os.PathLike[str],
-        shape: Sequence[int],
-        chunks: Sequence[int],
+        shape: int | Sequence[int],
+        chunks: int | Sequence[int],
         data_type: Any,
         *,
         fill_value: Any = None,
@@ -142,7 +147,8 @@ class Array:
         """A new array, in a folder that isn't there or is empty: else `FileExistsError` is raised, and the
         refusals of opening such an array where there is none.
 
-        `data_type` is as `zarr.json` has it, `fill_value` so or as Python does; None is zero, empty or absent.
+        `data_type` is as `zarr.json` has it, or numpy's; `fill_value` is so too, or as Python has it, and None is
+        zero, empty or absent.
         Without `codecs` the elements are stored as they are, the lowest byte first, and texts and byte strings
         as zarr-python stores them, by `vlen-utf8` and `vlen-bytes`; `zarrs.vlen` reads a few of them by themselves.
 
@@ -153,7 +159,7 @@ class Array:
         ...     array[...], array.dimension_names
         (array(['a text', '?', '?'], dtype=object), ('x',))
         """
-        shape, chunks = tuple(map(operator.index, shape)), tuple(map(operator.index, chunks))
+        shape, chunks, data_type = sizes_of(shape), sizes_of(chunks), zarrs_own(data_type)
         kind = data_type_of(data_type)
         codecs = usual_codecs(kind) if codecs is None else codec_list(codecs)
         first: Any = array_chain(codecs, chunks, data_type, fill_value).read(None, (0,) * len(chunks))

@@ -4,7 +4,6 @@ import contextlib
 import copy
 import ctypes
 import math
-import operator
 import reprlib
 from collections.abc import Callable, Iterable, Iterator, Sequence
 from functools import cached_property, partial, wraps
@@ -18,6 +17,7 @@ from ._buffers import counted, lent, overlaps, start
 from ._bytes_codecs import hint, split
 from ._data_types import DataType
 from ._data_types import data_type as data_type_of
+from ._data_types import zarrs_own
 from ._elements import given, held, put, spread, takes, told, told_into, told_many
 from ._files import PART_BYTES, File, Held, Source
 from ._header import Header, copied, json_of
@@ -25,7 +25,7 @@ from ._library import SHORT, EditSize, checked, library
 from ._locating import OF_CODECS, OF_VALUES, locate, locate_stored
 from ._rounds import Fetched
 from ._selections import Selection, select
-from ._types import AnyArray, Bytes, Shape
+from ._types import AnyArray, Bytes, Shape, sizes_of
 from .refusals import InvalidConfiguration, NotInPlace, Refused, Storage, Syntax, UnknownName
 
 # How many bytes of an answer are read from a file at a time: a quarter of it, between these. Some three
@@ -97,8 +97,8 @@ def codec_list(codecs: Any) -> list[Any]:
 class Chain:
     """The codecs of chunks of one shape, data type and fill value.
 
-    `codecs`, `data_type` and `fill_value` are as `zarr.json` has them; a fill value of None is zero, empty
-    or absent. Floats cross as unsigned integers of their size, complex numbers as two of them, `rN` as void
+    `codecs`, `data_type` and `fill_value` are as `zarr.json` has them, or the type is numpy's; a fill value of None
+    is zero, empty or absent. Floats cross as unsigned integers of their size, complex numbers as two of them, `rN` as void
     elements; `string` and `bytes` have object arrays, an optional type (`{"optional": TYPE}`) masked ones.
     Where `gzip`, `zstd` or `blosc` come last, Python runs them, on whole values: nothing about them is
     proved, and the last two need numcodecs. So it does where they come last in the `codecs` of
@@ -130,9 +130,10 @@ class Chain:
         return chain
 
     def __init__(
-        self, codecs: Sequence[Any], shape: Sequence[int], data_type: Any, fill_value: Any = None
+        self, codecs: Sequence[Any], shape: int | Sequence[int], data_type: Any, fill_value: Any = None
     ) -> None:
         self._text = json_of(codec_list(codecs))
+        data_type = zarrs_own(data_type)
         self._set_elements(shape, data_type)
         self._inner_list, self._outer = split(self.codecs)
         self._said = Header(self.shape, self._type, fill_value)
@@ -143,9 +144,9 @@ class Chain:
         self._length = len(self._header)
         self.check()
 
-    def _set_elements(self, shape: Sequence[int], data_type: Any) -> None:
+    def _set_elements(self, shape: int | Sequence[int], data_type: Any) -> None:
         """Keeps what the elements of a chunk are. Raises `Syntax` of sizes that no chunk has."""
-        self.shape = tuple(map(operator.index, shape))
+        self.shape = sizes_of(shape)
         if any(not 0 < size < 1 << 64 for size in self.shape):
             raise Syntax(f"a chunk of shape {reprlib.repr(self.shape)}, where each size is from 1 to 2^64 - 1")
         self._type: DataType = data_type_of(data_type)
