@@ -29,6 +29,7 @@ GZIP = {"name": "gzip", "configuration": {"level": 1}}
         ("float64", -np.inf, "-Infinity"),
         ("complex64", complex(1, np.inf), [1.0, "Infinity"]),
         ("r16", b"\1\2", [1, 2]),
+        ({"name": "raw_bytes", "configuration": {"length_bytes": 2}}, b"\1\2", "AQI="),
         ("string", "ä", "ä"),
         ("bytes", b"\1\2", "AQI="),
         ({"optional": "int16"}, 5, [5]),

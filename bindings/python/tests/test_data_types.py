@@ -57,7 +57,7 @@ def test_fill_values(name, fill, expected):
         (int, "int64"),
         (bool, "bool"),
         (np.complex64, "complex64"),
-        (np.dtype("V3"), "r24"),
+        (np.dtype("V3"), {"name": "raw_bytes", "configuration": {"length_bytes": 3}}),
         (np.dtype("M8[10ms]"), {"name": "numpy.datetime64", "configuration": {"unit": "ms", "scale_factor": 10}}),
         (np.dtype("m8"), {"name": "numpy.timedelta64", "configuration": {"unit": "generic", "scale_factor": 1}}),
         (np.dtype("U2"), {"name": "fixed_length_utf32", "configuration": {"length_bytes": 8}}),

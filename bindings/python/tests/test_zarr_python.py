@@ -121,12 +121,12 @@ def test_what_is_made_here(codecs, name, rng, tmp_path):
     same(array[...], expected)
 
 
-# a fill value of bytes is written in base64 here, which zarr-python 3.0 takes for the bytes themselves
+# zarr-python 3.0 names byte strings otherwise, and takes base64, in which a fill value of them is written, for themselves
 @pytest.mark.parametrize(
     "name, texts",
     [
         ("string", ["a", "ä", "", "c" * 99]),
-        pytest.param("bytes", [b"", b"a", b"\xff", b"c" * 99], marks=pytest.mark.skipif(not IS_3_0, reason="made for zarr-python 3.0")),
+        ("bytes" if IS_3_0 else "variable_length_bytes", [b"" if IS_3_0 else b"?", b"a", b"\xff", b"c" * 99]),
     ],
 )
 def test_texts_and_byte_strings(name, texts, tmp_path):
@@ -148,6 +148,31 @@ def test_texts_and_byte_strings(name, texts, tmp_path):
     made = Array.create(tmp_path / "made", [7], [2], name, fill_value=texts[0])
     made[1:5] = np.array(texts, object)
     same(made[...], opened(tmp_path / "made")[...])
+
+
+@pytest.mark.skipif(IS_3_0, reason="zarr-python 3.0 has no such types")
+@pytest.mark.parametrize(
+    "kind, elements, fill",
+    [
+        ("M8[s]", ["2020-01-01", "NaT", "1970-01-02"], "NaT"),
+        ("M8[10ms]", ["2020-01-01", "NaT", "1970-01-02"], np.datetime64(5, "s")),
+        ("m8[us]", [1, -2, 3], np.timedelta64(7, "us")),
+        ("U4", ["a", "äbcd", ""], "?"),
+        ("S3", [b"a", b"abc", b""], b"?"),
+        ("V2", [b"ab", b"cd", b"\0\1"], b"?!"),
+    ],
+)
+def test_types_of_numpys_with_a_configuration(kind, elements, fill, tmp_path):
+    data = np.array(elements, kind)
+    theirs = zarr.create_array(str(tmp_path / "a"), shape=(5,), chunks=(2,), dtype=data.dtype)
+    theirs[:3] = data
+    mine = Array(tmp_path / "a")
+    same(mine[...], theirs[...])
+    mine[2:] = data
+    same(opened(tmp_path / "a")[...], mine[...])
+    made = Array.create(tmp_path / "b", 5, 2, data.dtype, fill_value=fill)
+    made[:3] = data
+    same(opened(tmp_path / "b")[...], made[...])
 
 
 def test_groups_and_arrays_of_version_2(tmp_path):

@@ -3,7 +3,7 @@
 import re
 import reprlib
 from collections.abc import Callable
-from dataclasses import dataclass
+from dataclasses import dataclass, replace
 from functools import cached_property, partial
 from typing import Any
 
@@ -14,13 +14,15 @@ from .refusals import UnsupportedDataType
 
 @dataclass(frozen=True)
 class DataType:
-    """A type of elements: of one size where `dtype` isn't `object`, and else texts or byte strings."""
+    """A type of elements: of one size where `dtype` isn't `object`, and else texts or byte strings. `is_base64` says that
+    bytes of one size are written in base64 in `zarr.json`, as zarr-python has them."""
 
     header: Any
     dtype: np.dtype[Any]
     bits: int = 0
     is_text: bool = False
     is_optional: bool = False
+    is_base64: bool = False
 
     @cached_property
     def is_variable(self) -> bool:
@@ -126,7 +128,8 @@ def _sized(letter: str, configuration: dict[str, Any]) -> DataType:
     size, each = configuration["length_bytes"], 4 if letter == "U" else 1
     if type(size) is not int or not 0 < size < 1 << 31 or size % each:
         raise UnsupportedDataType(f"no data type has {reprlib.repr(configuration)}")
-    return DataType(_components(8 * each, size // each), np.dtype(f"<{letter}{size // each}"), 8 * size)
+    dtype = np.dtype(f"<{letter}{size // each}")
+    return DataType(_components(8 * each, size // each), dtype, 8 * size, is_base64=letter == "V")
 
 
 # Types of zarr-python's that have a configuration.
@@ -149,7 +152,7 @@ def _configured(name: str, configuration: dict[str, Any]) -> DataType:
 def _optional(inner: DataType) -> DataType:
     if inner.is_optional:
         raise UnsupportedDataType("an optional type of an optional type has no masked arrays")
-    return DataType({"optional": inner.header}, inner.dtype, inner.bits, inner.is_text, True)
+    return replace(inner, header={"optional": inner.header}, is_optional=True)
 
 
 def zarrs_own(said: Any) -> Any:
@@ -164,10 +167,10 @@ def zarrs_own(said: Any) -> Any:
         unit, factor = np.datetime_data(kind)
         name = "numpy.datetime64" if kind.kind == "M" else "numpy.timedelta64"
         return {"name": name, "configuration": {"unit": unit, "scale_factor": factor}}
-    if kind.kind in "US":
-        name = "fixed_length_utf32" if kind.kind == "U" else "null_terminated_bytes"
-        return {"name": name, "configuration": {"length_bytes": kind.itemsize}}
-    return f"r{8 * kind.itemsize}" if kind.kind == "V" and kind.fields is None else kind.name
+    sized = {"U": "fixed_length_utf32", "S": "null_terminated_bytes", "V": "raw_bytes"}
+    if kind.kind not in sized or kind.fields is not None:
+        return kind.name
+    return {"name": sized[kind.kind], "configuration": {"length_bytes": kind.itemsize}}
 
 
 def data_type(said: Any) -> DataType:

@@ -159,7 +159,7 @@ def _plain_json(kind: DataType, element: Any) -> Any:
         case "c":
             return [_float_json(element.real), _float_json(element.imag)]
         case "V":
-            return list(bytes(element))
+            return base64.b64encode(bytes(element)).decode() if kind.is_base64 else list(bytes(element))
         case "m" | "M":
             return "NaT" if np.isnat(element) else int(element.astype(np.int64))
         case "U":

@@ -194,7 +194,7 @@ class Array:
 
         >>> import tempfile
         >>> with tempfile.TemporaryDirectory() as folder:
-        ...     Array.create(folder, [3], [2], "float32", fill_value="NaN").fill_value
+        ...     print(Array.create(folder, [3], [2], "float32", fill_value="NaN").fill_value)
         nan
         """
         return None if self._fill is np.ma.masked else self._fill

@@ -332,7 +332,7 @@ class Chain:
         Elements of one size are written straight into it where it is in one piece and of this type. Raises a
         refusal where the value is damaged or of another length.
 
-        >>> Chain(["packbits"], (9,), "bool").decode(b"\\xff\\x00").sum()
+        >>> print(Chain(["packbits"], (9,), "bool").decode(b"\\xff\\x00").sum())
         8
         """
         inner = self._inner(value)
