@@ -22,6 +22,7 @@ use zarrs_chunk::{ArraySubset, ChunkShape, CodecError};
 use zarrs_data_type::DataType;
 
 /// The elements of a part with the axes of both in the codec's order, at the part's own lengths.
+#[inline(always)]
 pub(crate) fn transposed_part<'b>(
     alloc: Global,
     codec: &TransposeCodec,

@@ -21,6 +21,7 @@ pub mod MappedChunks
 pub mod Stages
 pub mod CheckedTuples
 pub mod PlaneRows
+pub mod SwappedAxes
 pub mod RowGroups
 pub mod ElementWords
 pub mod AxisRows

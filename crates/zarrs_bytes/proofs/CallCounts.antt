@@ -1,8 +1,8 @@
 -- How many calls a read or a write in part has made, call by call.
-use Rattle.std.proofs.Common.{◌≡◌, ◌∙◌, ℕ, suc, ◌+◌, ◌-◌, ◌*◌, ◌<◌, min, nat_lt, Bool, true, false, if◌then◌else◌, Option, Some, None, Result, Ok, Err, List, length, map, arith, refl, sym, ap}
+use Rattle.std.proofs.Common.{◌≡◌, ◌∙◌, ℕ, suc, ◌+◌, ◌-◌, ◌*◌, ◌<◌, ◌≤◌, ◌/◌, ◌&&◌, ◌||◌, min, nat_le, nat_lt, Bool, true, false, if◌then◌else◌, Option, Some, None, Result, Ok, Err, List, length, map, arith, refl, sym, ap, inl, inr}
 use Rattle.std.specs.Prelude.{OnOk, is_some}
 use Rattle.std.specs.List.{concat}
-use Rattle.std.proofs.lemmas.Bool.{and_parts}
+use Rattle.std.proofs.lemmas.Bool.{and_parts, cases_lt}
 use Rattle.std.proofs.lemmas.Bool.Decides.{nat_tests}
 use Rattle.zarrs_chunk.specs.Runs.{joined_runs}
 use Rattle.zarrs_chunk.specs.declared.codec_error.CodecError.{CodecError}
@@ -16,8 +16,9 @@ use Rattle.zarrs_codec.proofs.CallLemmas.{after_reads-none, after_reads-more}
 use Rattle.zarrs_bytes.specs.PartialRead.{bytes_at, place_bytes, place_size}
 use Rattle.zarrs_bytes.proofs.BytesAt.{has_all, none_if}
 use Rattle.zarrs_bytes.proofs.Coding.{ok}
+use Rattle.zarrs_bytes.proofs.ConsecutiveRuns.{runs_within}
 use Rattle.zarrs_bytes.specs.PartialWrite.{bytes_left, bytes_replaced}
-use Rattle.zarrs_bytes.specs.ReadingCalls.{are_many_short, are_scattered, batch_count, calls_by_batches, calls_for_places, calls_for_runs, consecutive_runs, reading_calls}
+use Rattle.zarrs_bytes.specs.ReadingCalls.{are_many_short, are_scattered, batch_count, calls_by_batches, calls_for_places, calls_for_runs, consecutive_runs, following_count, reading_calls}
 
 -- a reading call is one, where it is accepted
 pub one_read : {T : Type 0} (r : Result T CodecError) (before after : Option Calls) → after ≡ after_reads (ok_count r) before → OnOk r (after ≡ after_reads 1 before)
@@ -99,8 +100,21 @@ some_by_batches (Some value) places rest before mid after there is one more =
     ∙ after_reads-more 1 (batch_count (length rest)) before
     ∙ ap (λ (n : ℕ). after_reads n before) all
 
+-- few places are not scattered
+few_not_scattered : (places : List ℕ) → length places ≤ 1024 → are_scattered places ≡ false
+few_not_scattered places few =
+    let no : nat_lt 1024 (length places) ≡ false = grind (arith, nat_tests) in
+    ap (λ (b : Bool). b && nat_lt (following_count places) (length places / 2)) no
+
+-- nor are places of which a test of both says so
+pub not_scattered : (places : List ℕ) → (nat_le (length places) 1024 || are_scattered places) ≡ false → are_scattered places ≡ false
+not_scattered places test = elim (cases_lt 1024 (length places)) [
+  | inl more ↦ (let no : nat_le (length places) 1024 ≡ false = grind (arith, nat_tests) in sym (ap (λ (b : Bool). b || are_scattered places) no) ∙ test)
+  | inr few ↦ few_not_scattered places few
+]
+
 -- scattered places are read in batches
-pub scattered_counted : (size : ℕ) (stored : Option (List ℕ)) (places : List ℕ) → are_scattered places ≡ true → calls_by_batches stored places ≡ calls_for_places size stored places
+scattered_counted : (size : ℕ) (stored : Option (List ℕ)) (places : List ℕ) → are_scattered places ≡ true → calls_by_batches stored places ≡ calls_for_places size stored places
 scattered_counted size None places test = refl
 scattered_counted size (Some value) places test =
     let both = and_parts (nat_lt 1024 (length places)) _ test in
@@ -109,7 +123,26 @@ scattered_counted size (Some value) places test =
     let all : suc (batch_count (length places - 1024)) ≡ batch_count (length places) = omega (arith, more) in
     rw test all
 
--- and others as their runs
+-- so are few, in one
+few_counted : (size : ℕ) (stored : Option (List ℕ)) (places : List ℕ) → length places ≤ 1024 → calls_by_batches stored places ≡ calls_for_places size stored places
+few_counted size None places few = refl
+few_counted size (Some value) places few =
+    let runs = consecutive_runs places in
+    let within = runs_within places in
+    let no_runs : nat_lt 1024 (length runs) ≡ false = grind (arith, nat_tests) in
+    let whole = few_not_scattered places few in
+    let long : are_many_short size runs ≡ false = ap (λ (b : Bool). b && nat_lt (length (joined_runs runs) * size) (length runs * 16)) no_runs in
+    let one : suc (batch_count (length places - 1024)) ≡ 1 = omega (arith, few) in
+    rw (whole, long) one
+
+-- and all that are read by batches
+pub batches_counted : (size : ℕ) (stored : Option (List ℕ)) (places : List ℕ) → (nat_le (length places) 1024 || are_scattered places) ≡ true → calls_by_batches stored places ≡ calls_for_places size stored places
+batches_counted size stored places test = elim (cases_lt 1024 (length places)) [
+  | inl more ↦ (let no : nat_le (length places) 1024 ≡ false = grind (arith, nat_tests) in scattered_counted size stored places (sym (ap (λ (b : Bool). b || are_scattered places) no) ∙ test))
+  | inr few ↦ few_counted size stored places few
+]
+
+-- others are read as their runs
 pub runs_counted : (size : ℕ) (stored : Option (List ℕ)) (places : List ℕ) (runs : List (ℕ × ℕ)) → are_scattered places ≡ false → runs ≡ consecutive_runs places → calls_for_runs size stored runs ≡ calls_for_places size stored places
 runs_counted size None places runs test is = refl
 runs_counted size (Some value) places runs test is = rw test (ap (reading_calls size) is)

@@ -1,5 +1,5 @@
 -- Runs that are filled and apart are the runs of their places, each as long as it can be.
-use Rattle.std.proofs.Common.{◌≡◌, ◌≢◌, ℕ, zero, suc, ◌+◌, ◌<◌, ◌==◌, true, false, if◌then◌else◌, List, [], ◌∷◌, ◌++◌, arith, refl, ap, sym, ◌∙◌}
+use Rattle.std.proofs.Common.{◌≡◌, ◌≢◌, ℕ, zero, suc, ◌+◌, ◌<◌, ◌≤◌, ◌==◌, Bool, true, false, if◌then◌else◌, List, [], ◌∷◌, ◌++◌, length, arith, refl, ap, sym, ◌∙◌}
 use Rattle.std.specs.List.{range_with_len}
 use Rattle.std.proofs.lemmas.Bool.Decides.{nat_tests}
 use Rattle.std.proofs.lemmas.List.Elements.{All-tail}
@@ -42,3 +42,20 @@ runs_are_consecutive (run ∷ runs) filled apart =
 -- so of runs of these places
 pub runs_of_places : (places : List ℕ) (runs : List (ℕ × ℕ)) → AreFilled runs → AreApart runs → joined_runs runs ≡ places → runs ≡ consecutive_runs places
 runs_of_places places runs filled apart joined = sym (runs_are_consecutive runs filled apart) ∙ ap consecutive_runs joined
+
+-- ---- no more runs than places
+
+short : (test : Bool) (xs ys : List (ℕ × ℕ)) (n : ℕ) → length xs ≤ n → length ys ≤ n → length (if test then xs else ys) ≤ n
+short true xs ys n a b = a
+short false xs ys n a b = b
+
+one_more : (place : ℕ) (runs : List (ℕ × ℕ)) → length (with_place_before place runs) ≤ suc (length runs)
+one_more place [] = omega arith
+one_more place (run ∷ runs) = short (run.0 == place + 1) ((place, suc run.1) ∷ runs) ((place, 1) ∷ run ∷ runs) (suc (suc (length runs))) (omega arith) (omega arith)
+
+pub runs_within : (places : List ℕ) → length (consecutive_runs places) ≤ length places
+runs_within [] = omega arith
+runs_within (place ∷ places) =
+    let rest = runs_within places in
+    let more = one_more place (consecutive_runs places) in
+    omega (arith, rest, more)

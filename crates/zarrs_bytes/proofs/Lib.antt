@@ -19,5 +19,6 @@ pub mod Spelled
 pub mod Taken
 pub mod Counted
 pub mod ConsecutiveRuns
+pub mod PlaceRanges
 pub mod Scattered
 pub mod CallCounts

@@ -54,20 +54,20 @@ module _ (size : ℕ) (stored : Option (List ℕ)) (first all : List ℕ) where
   abbrev pub left : List ℕ → List ℕ → Type 0
   left now rest = seen (grown now) (bytes_at size stored rest) ≡ seen (grown first) (bytes_at size stored all)
 
-  parts : (now rest xs ys joined : List ℕ) → rest ≡ xs ++ ys → joined ≡ xs → seen (grown now) (bytes_at size stored rest) ≡ seen (grown now) (bytes_at size stored (joined ++ ys))
-  parts now rest xs ys joined e is = ap (λ ps. seen (grown now) (bytes_at size stored ps)) (e ∙ ap (λ ps. ps ++ ys) (sym is))
+  parts : (now rest xs ys : List ℕ) → rest ≡ xs ++ ys → seen (grown now) (bytes_at size stored rest) ≡ seen (grown now) (bytes_at size stored (xs ++ ys))
+  parts now rest xs ys e = ap (λ ps. seen (grown now) (bytes_at size stored ps)) e
 
-  pub places_read : (here : Option (List ℕ)) (now next rest xs ys joined : List ℕ) → here ≡ stored → rest ≡ xs ++ ys → joined ≡ xs → left now rest → seen (grown now) (bytes_at size here joined) ≡ Ok (Some next) → left next ys
-  places_read here now next rest xs ys joined same e is before h =
-      read_on size stored now next joined ys (ap (λ (s : Option (List ℕ)). seen (grown now) (bytes_at size s joined)) (sym same) ∙ h)
-      ∙ sym (parts now rest xs ys joined e is)
+  pub places_read : (here : Option (List ℕ)) (now next rest xs ys : List ℕ) → here ≡ stored → rest ≡ xs ++ ys → left now rest → seen (grown now) (bytes_at size here xs) ≡ Ok (Some next) → left next ys
+  places_read here now next rest xs ys same e before h =
+      read_on size stored now next xs ys (ap (λ (s : Option (List ℕ)). seen (grown now) (bytes_at size s xs)) (sym same) ∙ h)
+      ∙ sym (parts now rest xs ys e)
       ∙ before
 
-  pub places_refused : (here : Option (List ℕ)) (now rest xs ys joined : List ℕ) (cause : CodecError) → here ≡ stored → rest ≡ xs ++ ys → joined ≡ xs → left now rest → seen (grown now) (bytes_at size here joined) ≡ Err cause → seen (grown first) (bytes_at size stored all) ≡ Err cause
-  places_refused here now rest xs ys joined cause same e is before h =
+  pub places_refused : (here : Option (List ℕ)) (now rest xs ys : List ℕ) (cause : CodecError) → here ≡ stored → rest ≡ xs ++ ys → left now rest → seen (grown now) (bytes_at size here xs) ≡ Err cause → seen (grown first) (bytes_at size stored all) ≡ Err cause
+  places_refused here now rest xs ys cause same e before h =
       sym before
-      ∙ parts now rest xs ys joined e is
-      ∙ read_off size stored now joined ys cause (ap (λ (s : Option (List ℕ)). seen (grown now) (bytes_at size s joined)) (sym same) ∙ h)
+      ∙ parts now rest xs ys e
+      ∙ read_off size stored now xs ys cause (ap (λ (s : Option (List ℕ)). seen (grown now) (bytes_at size s xs)) (sym same) ∙ h)
 
   pub places_end : (now rest : List ℕ) → is_some stored ≡ true → length rest ≡ 0 → left now rest → seen (grown first) (bytes_at size stored all) ≡ Ok (Some now)
   places_end now rest h empty before =
@@ -76,14 +76,14 @@ module _ (size : ℕ) (stored : Option (List ℕ)) (first all : List ℕ) where
       ∙ read_end size stored now h
 
 -- where the first batch fails, all fail so
-pub first_refused : (size : ℕ) (stored : Option (List ℕ)) (all xs ys joined : List ℕ) (cause : CodecError) → all ≡ xs ++ ys → joined ≡ xs → bytes_at size stored joined ≡ Err cause → bytes_at size stored all ≡ Err cause
-first_refused size stored all xs ys joined cause e is h =
-    ap (bytes_at size stored) (e ∙ ap (λ ps. ps ++ ys) (sym is)) ∙ read_refused size stored joined ys cause h
+pub first_refused : (size : ℕ) (stored : Option (List ℕ)) (all xs ys : List ℕ) (cause : CodecError) → all ≡ xs ++ ys → bytes_at size stored xs ≡ Err cause → bytes_at size stored all ≡ Err cause
+first_refused size stored all xs ys cause e h =
+    ap (bytes_at size stored) e ∙ read_refused size stored xs ys cause h
 
 -- behind what the first batch read, the others are read
-pub first_then_rest : (size : ℕ) (stored here : Option (List ℕ)) (now next all xs ys joined : List ℕ) → all ≡ xs ++ ys → joined ≡ xs → bytes_at size stored joined ≡ Ok (Some now) → next ≡ now → here ≡ stored → seen (grown next) (bytes_at size here ys) ≡ bytes_at size stored all
-first_then_rest size stored here now next all xs ys joined e is h same state =
+pub first_then_rest : (size : ℕ) (stored here : Option (List ℕ)) (now next all xs ys : List ℕ) → all ≡ xs ++ ys → bytes_at size stored xs ≡ Ok (Some now) → next ≡ now → here ≡ stored → seen (grown next) (bytes_at size here ys) ≡ bytes_at size stored all
+first_then_rest size stored here now next all xs ys e h same state =
     ap (λ l. seen (grown l) (bytes_at size here ys)) same
     ∙ ap (λ (s : Option (List ℕ)). seen (grown now) (bytes_at size s ys)) state
-    ∙ read_rest size stored now joined ys h
-    ∙ ap (bytes_at size stored) (sym (e ∙ ap (λ ps. ps ++ ys) (sym is)))
+    ∙ read_rest size stored now xs ys h
+    ∙ ap (bytes_at size stored) (sym e)

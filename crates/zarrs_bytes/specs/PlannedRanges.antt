@@ -1,6 +1,6 @@
 -- Ranges of bytes that a read asks for.
-use Rattle.std.specs.Prelude.{◌≡◌, ℕ, ◌+◌, ◌-◌, ◌*◌, ◌<◌, List, length, map, Vec, Result}
-use Rattle.std.specs.List.{All, sum_by}
+use Rattle.std.specs.Prelude.{◌≡◌, ℕ, ◌+◌, ◌-◌, ◌*◌, ◌<◌, List, ◌++◌, length, map, Vec, Result}
+use Rattle.std.specs.List.{All, range_with_len, sum_by}
 use Rattle.std.proofs.Common.{Global}
 use Rattle.zarrs_chunk.specs.Answer.{GivesBy}
 use Rattle.zarrs_chunk.specs.Runs.{joined_runs, AreApart, AreFilled}
@@ -12,6 +12,10 @@ use Rattle.zarrs_bytes.specs.PartialRead.{place_bytes}
 -- none of the ranges is empty
 abbrev pub NoneIsEmpty : List ByteSpan → Type 0
 NoneIsEmpty ranges = All (λ range. range.start < range.end) ranges
+
+-- the numbers of the ranges' bytes, and behind them those from one byte on, up to and without another
+abbrev pub indices_until : List ByteSpan → ℕ → ℕ → List ℕ
+indices_until ranges start end = range_indices ranges ++ range_with_len start (end - start)
 
 -- how many bytes the ranges have, all together
 abbrev pub ranges_len : List ByteSpan → ℕ

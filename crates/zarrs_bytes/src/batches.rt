@@ -62,7 +62,7 @@ fn first_batch(size: u64, runs: &[(u64, u64)]) -> usize
 
 /// The bytes of these runs of elements of `size` bytes, by one call of the handle, or `None` where
 /// nothing is stored.
-pub(crate) fn read_batch<H: BytesPartialDecoderTraits>(
+fn read_batch<H: BytesPartialDecoderTraits>(
     alloc: Global,
     handle: &mut H,
     size: u64,
@@ -82,7 +82,7 @@ pub(crate) fn read_batch<H: BytesPartialDecoderTraits>(
 }
 
 /// Appends the bytes of these runs, by one call of the handle.
-pub(crate) fn append_batch<H: BytesPartialDecoderTraits>(
+fn append_batch<H: BytesPartialDecoderTraits>(
     elements: &mut Vec<u8>,
     alloc: Global,
     handle: &mut H,

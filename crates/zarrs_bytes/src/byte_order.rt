@@ -114,6 +114,7 @@ fn reverse_groups(bytes: &mut [u8], size: usize)
 
 /// Turns each piece of `size` bytes round. What is left over stays. The usual sizes are constants
 /// here, so that each gets a loop of its own.
+#[inline(always)]
 fn reverse_each(bytes: &mut [u8], size: usize)
     requires sized { 0 < size }
     ensures written { bytes.new ≡ turned_bytes (Some size) bytes.old }

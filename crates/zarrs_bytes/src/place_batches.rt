@@ -2,19 +2,21 @@
 //!
 //! A run takes 16 bytes of memory, more than most elements have. So where many places follow no other
 //! one, their runs are made and read a batch at a time.
-ghost use Rattle.std.specs.Prelude.{◌≡◌, ◌<◌, ◌≤◌, true, Ok, Some, IfOk, is_some, length};
+ghost use Rattle.std.specs.Prelude.{◌≡◌, ◌<◌, ◌≤◌, ◌||◌, nat_le, true, Ok, Some, IfOk, OnOk, is_some, length};
 ghost use Rattle.zarrs_chunk.specs.Answer.{memory_or_fault, Answers, Gives};
 ghost use Rattle.zarrs_chunk.specs.Runs.{places_in, AreApart, AreFilled, EndsBelow};
 ghost use Rattle.zarrs_data_type.specs.ElementType.{fixed_size_of};
 ghost use Rattle.zarrs_data_type.specs.FillValue.{fill_fits};
 ghost use Rattle.zarrs_array_bytes.specs.Tight.{IsTight};
+ghost use Rattle.zarrs_codec.specs.ByteRanges.{range_indices};
 ghost use Rattle.zarrs_codec.specs.Calls.{MakesReads};
 ghost use Rattle.zarrs_codec.specs.StorageState.{after_reading};
 ghost use Rattle.zarrs_codec.specs.HandleCalls.{NeverFailsIf, ReadsBytes};
-ghost use Rattle.zarrs_bytes.specs.PartialRead.{bytes_at_places, place_size, places_are_sure, with_read, AreCounted, ReadsPlaces, ReadsPlacesSurely, RepeatsFill};
+ghost use Rattle.zarrs_bytes.specs.PartialRead.{bytes_at_places, place_bytes, place_size, places_are_sure, with_read, AreCounted, ReadsPlaces, ReadsPlacesSurely, RepeatsFill};
+ghost use Rattle.zarrs_bytes.specs.PlannedRanges.{NoneIsEmpty, indices_until};
 ghost use Rattle.zarrs_bytes.specs.ReadingCalls.{are_scattered, calls_for_places, follows_count, CountsBatches, MakesBatches};
 
-use crate::batches::{BATCH, append_batch, read_batch};
+use crate::batches::BATCH;
 use crate::byte_order::hold_turned;
 use crate::bytes_codec::BytesCodec;
 use crate::bytes_codec_partial::element_size;
@@ -22,7 +24,7 @@ use std::alloc::{AllocError, Global};
 use std::borrow::CowSlice;
 use zarrs_array_bytes::{ArrayBytes, append_copies};
 use zarrs_chunk::{CodecError, runs_of_places};
-use zarrs_codec::BytesPartialDecoderTraits;
+use zarrs_codec::{ByteRange, BytesPartialDecoderTraits};
 use zarrs_data_type::{DataType, FillValue};
 
 /// 1 where the second place follows the first, and else 0.
@@ -49,6 +51,119 @@ fn are_scattered(places: &[u64]) -> bool
     places.len() > BATCH && joined < places.len() / 2
 }
 
+/// Whether these places are read a batch at a time: they are no more than one, or else scattered.
+fn are_read_by_batches(places: &[u64]) -> bool
+    ensures value { result ≡ (nat_le (length places.now) 1024 || are_scattered places.now) }
+{
+    places.len() <= BATCH || are_scattered(places)
+}
+
+/// One range more, where it has any bytes.
+#[inline(always)]
+fn push_range(ranges: &mut Vec<ByteRange>, start: u64, end: u64) -> Result<(), AllocError>
+    requires ordered { start ≤ end }
+    ensures bytes { OnOk result
+        (range_indices ranges.new.items ≡ indices_until ranges.old.items start end) }
+    ensures filled { OnOk result (NoneIsEmpty ranges.old.items → NoneIsEmpty ranges.new.items) }
+{
+    if start < end {
+        match ByteRange::new(start..end) {
+            None => unreachable!(),
+            Some(range) => ranges.push(range)?,
+        }
+    }
+    Ok(())
+}
+
+/// Where the range begins that goes on with the byte of this number: at `start`, where the range from
+/// there ends here; and else here, and that range is one more.
+#[inline(always)]
+fn begin_range(
+    ranges: &mut Vec<ByteRange>,
+    start: u64,
+    end: u64,
+    here: u64,
+) -> Result<u64, AllocError>
+    requires ordered { start ≤ end }
+    ensures ordered { IfOk result (λ begin. begin ≤ here) }
+    ensures bytes { IfOk result (λ begin. indices_until ranges.new.items begin here
+        ≡ indices_until ranges.old.items start end) }
+    ensures filled { OnOk result (NoneIsEmpty ranges.old.items → NoneIsEmpty ranges.new.items) }
+{
+    if here == end {
+        return Ok(start);
+    }
+    push_range(ranges, start, end)?;
+    Ok(here)
+}
+
+/// The ranges of bytes of elements of `size` bytes at these places: neighbours that follow one another
+/// are in one range.
+fn place_ranges(alloc: Global, size: u64, places: &[u64]) -> Result<Vec<ByteRange>, AllocError>
+    requires ends { AreCounted size places.now }
+    requires sized { 0 < size }
+    ensures bytes { IfOk result
+        (λ ranges. range_indices ranges.items ≡ place_bytes size places.now) }
+    ensures filled { IfOk result (λ ranges. NoneIsEmpty ranges.items) }
+{
+    let mut ranges = Vec::with_capacity(alloc, places.len())?;
+    let mut start = 0;
+    let mut end = 0;
+    for place in places {
+        let here = *place * size;
+        let begin = begin_range(&mut ranges, start, end, here)?;
+        start = begin;
+        end = here + size;
+    }
+    push_range(&mut ranges, start, end)?;
+    Ok(ranges)
+}
+
+/// The bytes of elements of `size` bytes at these places, by one call of the handle, or `None` where
+/// nothing is stored.
+fn read_batch<H: BytesPartialDecoderTraits>(
+    alloc: Global,
+    handle: &mut H,
+    size: u64,
+    places: &[u64],
+) -> Result<Option<Vec<u8>>, CodecError>
+    requires ends { AreCounted size places.now }
+    requires sized { 0 < size }
+    ensures answer { ReadsBytes result (bytes_at_places size (H.state handle.old) places.now) }
+    ensures sure { NeverFailsIf (places_are_sure size (H.state handle.old) places.now) result }
+    ensures left { H.state handle.new ≡ after_reading result (H.state handle.old) }
+    ensures same_reference { H.lent handle.new ≡ H.lent handle.old }
+    ensures counted { MakesReads H.calls 1 handle.old handle.new result }
+{
+    let ranges = place_ranges(alloc, size, places)?;
+    handle.partial_decode_many(alloc, ranges.as_slice())
+}
+
+/// Appends the bytes at these places, by one call of the handle.
+fn append_batch<H: BytesPartialDecoderTraits>(
+    elements: &mut Vec<u8>,
+    alloc: Global,
+    handle: &mut H,
+    size: u64,
+    places: &[u64],
+) -> Result<(), CodecError>
+    requires ends { AreCounted size places.now }
+    requires sized { 0 < size }
+    requires stored { is_some (H.state handle.old).value ≡ true }
+    ensures answer { Answers memory_or_fault (λ _. Some elements.new.items) result
+        (with_read elements.old.items (bytes_at_places size (H.state handle.old) places.now)) }
+    ensures sure { NeverFailsIf (places_are_sure size (H.state handle.old) places.now) result }
+    ensures left { H.state handle.new ≡ after_reading result (H.state handle.old) }
+    ensures same_reference { H.lent handle.new ≡ H.lent handle.old }
+    ensures counted { MakesReads H.calls 1 handle.old handle.new result }
+{
+    match read_batch(alloc, handle, size, places)? {
+        None => unreachable!(),
+        Some(bytes) => elements.extend_from_slice(bytes.as_slice())?,
+    }
+    Ok(())
+}
+
 /// Appends the bytes of elements of `size` bytes at these places, a batch at a time.
 fn append_places<H: BytesPartialDecoderTraits>(
     elements: &mut Vec<u8>,
@@ -70,8 +185,7 @@ fn append_places<H: BytesPartialDecoderTraits>(
     let mut rest = places;
     while !rest.is_empty() {
         let (batch, more) = rest.split_at(BATCH.min(rest.len()));
-        let runs = runs_of_places(alloc, batch)?;
-        append_batch(elements, alloc, handle, size, runs.as_slice())?;
+        append_batch(elements, alloc, handle, size, batch)?;
         rest = more;
     }
     Ok(())
@@ -94,8 +208,7 @@ fn read_place_bytes<H: BytesPartialDecoderTraits>(
     ensures counted { CountsBatches H.state H.calls handle.old handle.new places.now result }
 {
     let (first, rest) = places.split_at(BATCH.min(places.len()));
-    let runs = runs_of_places(alloc, first)?;
-    match read_batch(alloc, handle, size, runs.as_slice())? {
+    match read_batch(alloc, handle, size, first)? {
         None => Ok(None),
         Some(mut bytes) => {
             bytes.reserve_exact((rest.len() as u64).saturating_mul(size) as usize)?;
@@ -125,7 +238,7 @@ fn fill_places(alloc: Global, fill: &[u8], places: &[u64]) -> Result<Vec<u8>, Al
 }
 
 impl BytesCodec {
-    /// The elements at many places.
+    /// The elements at places that are read a batch at a time.
     fn read_scattered<H: BytesPartialDecoderTraits>(
         &self,
         alloc: Global,
@@ -156,8 +269,8 @@ impl BytesCodec {
     }
 
     /// The elements at these places, in order, over a handle that keeps a chunk's value, as `read_runs`
-    /// gives them of the places' runs: where many places follow no other one, no list of their runs is
-    /// made, and else the places are let go before they are read. The type is fixed and the fill value
+    /// gives them of the places' runs: where the places are few, or many of them follow no other one, no
+    /// list of their runs is made, and else the places are let go before they are read. The type is fixed and the fill value
     /// one of its elements, and 64 bits count the bytes up to the end of each place. Errors: those of
     /// `read_runs`. Many places are asked for in more than one call of the handle.
     pub fn read_places<H: BytesPartialDecoderTraits>(
@@ -180,7 +293,7 @@ impl BytesCodec {
         ensures counted { MakesReads H.calls (calls_for_places (place_size data_type.now)
             (H.state handle.old).value places.items) handle.old handle.new result }
     {
-        if are_scattered(&places) {
+        if are_read_by_batches(&places) {
             return self.read_scattered(alloc, handle, data_type, fill_value, &places);
         }
         let runs = into_runs(alloc, places)?;

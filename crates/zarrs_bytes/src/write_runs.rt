@@ -163,6 +163,7 @@ impl BytesCodec {
     ///
     /// The handle is asked whether a value is stored, and then one writing call is made. Elements that
     /// own their bytes are turned round where they stand.
+    #[inline(always)]
     pub fn write_given_runs<H: BytesPartialEncoderTraits>(
         &self,
         alloc: Global,

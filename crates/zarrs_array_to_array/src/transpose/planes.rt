@@ -247,6 +247,7 @@ fn append_axes(
 }
 
 /// The elements of all tuples over the axes, the last axis fastest.
+#[inline(always)]
 pub(crate) fn gather_axes(
     alloc: Global,
     bytes: &[u8],

@@ -1,5 +1,5 @@
 //! The elements of a transposed chunk, where all have one size.
-ghost use Rattle.std.specs.Prelude.{◌≡◌, ◌≤◌, ◌<◌, ◌+◌, ◌*◌, ◌^◌, true, length, All, Ok};
+ghost use Rattle.std.specs.Prelude.{◌≡◌, ◌≤◌, ◌<◌, ◌+◌, ◌*◌, ◌^◌, ◌∷◌, [], true, length, All, Ok};
 ghost use Rattle.zarrs_array_bytes.specs.Pieces.{fixed_of};
 ghost use Rattle.zarrs_chunk.specs.ChunkShape.{product};
 ghost use Rattle.zarrs_metadata.specs.Orders.{is_order};
@@ -42,8 +42,48 @@ fn gather_in_order(
     gather_axes(alloc, bytes, size, &axes[..count])
 }
 
-/// The bytes of elements of one size, with the axes of their chunk in this order.
-fn transposed_pieces(
+/// Whether the order swaps two axes.
+#[inline(always)]
+fn swaps_two(order: &[usize]) -> bool
+    ensures value { result ≡ true → order.now ≡ 1 ∷ 0 ∷ [] }
+{
+    match order {
+        [first, second] => *first == 1 && *second == 0,
+        _ => false,
+    }
+}
+
+/// The bytes of elements of one size, with the two axes of their chunk swapped: each is an axis of
+/// its own, so nothing is made of them first.
+#[inline(always)]
+fn gather_swapped(
+    alloc: Global,
+    bytes: &[u8],
+    size: usize,
+    sizes: &[u64],
+) -> Result<Vec<u8>, AllocError>
+    requires axes { length sizes.now ≡ 2 }
+    requires positive { All (λ size. 0 < size) sizes.now }
+    requires fits { product sizes.now < 2 ^ 64 }
+    requires sized { 0 < size }
+    requires whole { length bytes.now ≡ product sizes.now * size }
+    ensures value { ItemsAre (transposed_bytes size (1 ∷ 0 ∷ []) sizes.now bytes.now) result }
+{
+    let count = sizes[1] as usize;
+    let rows = Axis {
+        size: count,
+        step: 1,
+    };
+    let columns = Axis {
+        size: sizes[0] as usize,
+        step: count,
+    };
+    gather_axes(alloc, bytes, size, &[rows, columns])
+}
+
+/// The bytes of elements of one size, with the axes of their chunk in this order, whatever they are.
+#[inline(never)]
+fn gather_ordered(
     alloc: Global,
     bytes: &[u8],
     size: usize,
@@ -85,7 +125,32 @@ fn transposed_pieces(
     )
 }
 
+/// The bytes of elements of one size, with the axes of their chunk in this order. A chunk of one row
+/// is no matter of two axes: it stays as it is.
+#[inline(always)]
+fn transposed_pieces(
+    alloc: Global,
+    bytes: &[u8],
+    size: usize,
+    order: &[usize],
+    sizes: &[u64],
+) -> Result<Vec<u8>, AllocError>
+    requires order { is_order order.now ≡ true }
+    requires axes { length order.now ≡ length sizes.now }
+    requires positive { All (λ size. 0 < size) sizes.now }
+    requires fits { product sizes.now < 2 ^ 64 }
+    requires sized { 0 < size }
+    requires whole { length bytes.now ≡ product sizes.now * size }
+    ensures value { ItemsAre (transposed_bytes size order.now sizes.now bytes.now) result }
+{
+    if swaps_two(order) && sizes[0] != 1 {
+        return gather_swapped(alloc, bytes, size, sizes);
+    }
+    gather_ordered(alloc, bytes, size, order, sizes)
+}
+
 /// The elements of one size of a chunk with its axes in this order.
+#[inline(always)]
 pub(crate) fn transpose_fixed<'b>(
     alloc: Global,
     bytes: &[u8],

@@ -1,14 +1,10 @@
 use Rattle.std.proofs.Common.{◌≡◌, ◌∙◌, ℕ, ◌<◌, ◌+◌, ◌*◌, ◌^◌, ◌-◌, min, Err, arith, refl, ap, length}
 use Rattle.std.proofs.lemmas.Bool.Decides.{nat_tests}
-use Rattle.std.specs.List.{All}
 use Rattle.std.proofs.lemmas.List.Elements.{All-take, All-drop}
 use Rattle.std.proofs.lemmas.Result.{err_from_is_err_and}
 use Rattle.zarrs_chunk.specs.Answer.{memory_or_fault}
-use Rattle.zarrs_chunk.specs.Runs.{joined_runs}
-use Rattle.zarrs_codec.specs.StorageState.{StorageState, after_reading, are_sure}
-use Rattle.zarrs_bytes.specs.PartialRead.{place_bytes}
-use Rattle.zarrs_bytes.proofs.Exact.{bytes_are}
-use Rattle.zarrs_bytes.proofs.PlaceBatches.{limit_of, runs_end, places_read, places_refused, places_end, sure_places}
+use Rattle.zarrs_codec.specs.StorageState.{StorageState, after_reading}
+use Rattle.zarrs_bytes.proofs.PlaceBatches.{places_read, places_refused, places_end, sure_places}
 use Rattle.zarrs_bytes.proofs.CallCounts.{batch_counted, batches_done}
 use Rattle.zarrs_bytes.proofs.Reading.{Excused-weaker}
 use Rattle.zarrs_bytes.proofs.place_batches.append_places.Goals as goal
@@ -25,36 +21,32 @@ loop-rest-init g c = record {
 
 pub append_batch-requires-clause-ends : goal.append_batch-requires-clause-ends
 append_batch-requires-clause-ends g c =
-    let ends : All (λ (place : ℕ). (place + 1) * c.args.size < 2 ^ 64) c.split_at.result.0.now = rw c.split_at.ensures.front (All-take (λ (place : ℕ). (place + 1) * c.args.size < 2 ^ 64) c.min.result c.loop-rest.rest.now c.loop-rest.invariant.ends) in
-    let limit = limit_of c.args.size c.split_at.result.0.now ends in
-    rw c.as_slice.ensures.value (runs_end c.args.size limit.limit c.in_ok-runs.runs.items limit.small (c.in_ok-runs.ensures.below limit.limit limit.above))
+    rw c.split_at.ensures.front (All-take (λ (place : ℕ). (place + 1) * c.args.size < 2 ^ 64) c.min.result c.loop-rest.rest.now c.loop-rest.invariant.ends)
 
 pub append_batch-requires-clause-stored : goal.append_batch-requires-clause-stored
 append_batch-requires-clause-stored g c = rw c.loop-rest.invariant.state c.requires.stored
 
 pub returns-in_err-append_batch-clause-answer : goal.returns-in_err-append_batch-clause-answer
 returns-in_err-append_batch-clause-answer g c =
-    let p = err_from_is_err_and c.from_residual-in_err-append_batch.result c.from_residual-in_err-append_batch.ensures.1 in
+    let p = err_from_is_err_and c.from_residual.result c.from_residual.ensures.1 in
     let e = c.in_err-append_batch.field-0.0 in
     let D = g.H.BytesPartialDecoderTraits in
     let inv = c.loop-rest.invariant in
-    let is = ap joined_runs c.as_slice.ensures.value ∙ bytes_are _ _ c.in_ok-runs.ensures.places.is in
     rw (p.1, p.2) (Excused-weaker (memory_or_fault e)
-    (places_refused c.args.size (D.state c.args.handle.now).value c.args.elements.now.items c.args.places.now (D.state c.loop-rest.handle).value c.loop-rest.elements.items c.loop-rest.rest.now c.split_at.result.0.now c.split_at.result.1.now (joined_runs c.as_slice.result.now) e (ap (λ (s : StorageState). s.value) inv.state) c.split_at.ensures.by_index.0 is inv.read)
+    (places_refused c.args.size (D.state c.args.handle.now).value c.args.elements.now.items c.args.places.now (D.state c.loop-rest.handle).value c.loop-rest.elements.items c.loop-rest.rest.now c.split_at.result.0.now c.split_at.result.1.now e (ap (λ (s : StorageState). s.value) inv.state) c.split_at.ensures.by_index.0 inv.read)
     c.in_err-append_batch.ensures.answer)
 
 pub returns-in_err-append_batch-clause-sure : goal.returns-in_err-append_batch-clause-sure
 returns-in_err-append_batch-clause-sure g c = λ h.
-    let p = err_from_is_err_and c.from_residual-in_err-append_batch.result c.from_residual-in_err-append_batch.ensures.1 in
+    let p = err_from_is_err_and c.from_residual.result c.from_residual.ensures.1 in
     let D = g.H.BytesPartialDecoderTraits in
     let inv = c.loop-rest.invariant in
-    let is = ap joined_runs c.as_slice.ensures.value ∙ bytes_are _ _ c.in_ok-runs.ensures.places.is in
     let here = (sure_places c.args.size (D.state c.args.handle.now).sure c.loop-rest.rest.now c.split_at.result.0.now c.split_at.result.1.now c.split_at.ensures.by_index.0 (inv.sure h)).0 in
-    rw (p.1, p.2) (c.in_err-append_batch.ensures.sure (rw inv.state (ap (λ ps. are_sure (D.state c.args.handle.now).sure (place_bytes c.args.size ps)) is ∙ here)))
+    rw (p.1, p.2) (c.in_err-append_batch.ensures.sure (rw inv.state here))
 
 pub returns-in_err-append_batch-clause-left : goal.returns-in_err-append_batch-clause-left
 returns-in_err-append_batch-clause-left g c =
-    let p = err_from_is_err_and c.from_residual-in_err-append_batch.result c.from_residual-in_err-append_batch.ensures.1 in
+    let p = err_from_is_err_and c.from_residual.result c.from_residual.ensures.1 in
     let e = c.in_err-append_batch.field-0.0 in
     rw (p.1, p.2) (c.in_err-append_batch.ensures.left ∙ ap (λ (s : StorageState). after_reading {T = Unit {0}} (Err e) s) c.loop-rest.invariant.state)
 
@@ -71,10 +63,9 @@ loop-rest-preserved g c =
     let D = g.H.BytesPartialDecoderTraits in
     let inv = c.loop-rest.invariant in
     let parts = c.split_at.ensures.by_index.0 in
-    let is = ap joined_runs c.as_slice.ensures.value ∙ bytes_are _ _ c.in_ok-runs.ensures.places.is in
     record {
       ends = rw c.split_at.ensures.back (All-drop (λ (place : ℕ). (place + 1) * c.args.size < 2 ^ 64) c.min.result c.loop-rest.rest.now inv.ends);
-      read = places_read c.args.size (D.state c.args.handle.now).value c.args.elements.now.items c.args.places.now (D.state c.loop-rest.handle).value c.loop-rest.elements.items c.append_batch.new.elements.items c.loop-rest.rest.now c.split_at.result.0.now c.split_at.result.1.now (joined_runs c.as_slice.result.now) (ap (λ (s : StorageState). s.value) inv.state) parts is inv.read c.in_ok-append_batch.ensures.answer;
+      read = places_read c.args.size (D.state c.args.handle.now).value c.args.elements.now.items c.args.places.now (D.state c.loop-rest.handle).value c.loop-rest.elements.items c.append_batch.new.elements.items c.loop-rest.rest.now c.split_at.result.0.now c.split_at.result.1.now (ap (λ (s : StorageState). s.value) inv.state) parts inv.read c.in_ok-append_batch.ensures.answer;
       sure = λ h. (sure_places c.args.size (D.state c.args.handle.now).sure c.loop-rest.rest.now c.split_at.result.0.now c.split_at.result.1.now parts (inv.sure h)).1;
       state = c.in_ok-append_batch.ensures.left ∙ inv.state;
       lent = c.in_ok-append_batch.ensures.same_reference ∙ inv.lent;

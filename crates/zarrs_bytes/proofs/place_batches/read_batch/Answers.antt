@@ -1,0 +1,24 @@
+use Rattle.std.proofs.Common.{◌∙◌, List, Option, Result, ℕ, ap, subst}
+use Rattle.zarrs_chunk.specs.declared.codec_error.CodecError.{CodecError}
+use Rattle.zarrs_codec.specs.ByteRanges.{range_indices, read_ranges}
+use Rattle.zarrs_codec.specs.HandleCalls.{ReadsBytes}
+use Rattle.zarrs_codec.specs.StorageState.{are_sure}
+use Rattle.zarrs_bytes.proofs.BytesAt.{ranges_read}
+use Rattle.zarrs_bytes.proofs.CallCounts.{one_read}
+use Rattle.zarrs_bytes.proofs.place_batches.read_batch.Goals as goal
+
+pub returns-clause-answer : goal.returns-clause-answer
+returns-clause-answer g c =
+    let stored = (g.H.BytesPartialDecoderTraits.state c.args.handle.now).value in
+    let is = ap (read_ranges stored) c.as_slice.ensures.value ∙ ranges_read c.args.size stored c.args.places.now c.in_ok-ranges.ranges.items c.requires.sized c.in_ok-ranges.ensures.bytes c.in_ok-ranges.ensures.filled in
+    subst (λ (expected : Result (Option (List ℕ)) CodecError). ReadsBytes c.partial_decode_many.result expected) is c.partial_decode_many.ensures.answer
+
+pub returns-clause-sure : goal.returns-clause-sure
+returns-clause-sure g c = λ h.
+    let sure = (g.H.BytesPartialDecoderTraits.state c.args.handle.now).sure in
+    c.partial_decode_many.ensures.sure (ap (are_sure sure) (ap range_indices c.as_slice.ensures.value ∙ c.in_ok-ranges.ensures.bytes) ∙ h)
+
+pub returns-clause-counted : goal.returns-clause-counted
+returns-clause-counted g c =
+    let D = g.H.BytesPartialDecoderTraits in
+    one_read c.partial_decode_many.result (D.calls c.args.handle.now) (D.calls c.partial_decode_many.new.self) c.partial_decode_many.ensures.counted
