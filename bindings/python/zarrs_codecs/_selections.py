@@ -121,7 +121,7 @@ class Box:
 
     def _rows(self) -> AnyArray:
         """The elements' indices."""
-        places = [np.arange(one.start, one.stop, one.step, np.uint64) for one in self.on_axes]
+        places = [np.arange(one.start, one.stop, one.step, dtype=np.uint64) for one in self.on_axes]
         grid = np.meshgrid(*places, indexing="ij")
         rows: AnyArray = np.stack(grid, axis=-1).reshape(-1, len(places))
         return rows

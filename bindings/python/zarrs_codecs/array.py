@@ -257,7 +257,7 @@ class Array:
             raise TypeError("iteration over an array without axes")
         return (self[place] for place in range(len(self)))
 
-    def __array__(self, dtype: DTypeLike = None, copy: bool | None = None) -> AnyArray:
+    def __array__(self, dtype: DTypeLike | None = None, copy: bool | None = None) -> AnyArray:
         """All elements, as numpy's functions ask for them, in a masked array where some may be absent; `np.asarray`,
         whose arrays have none, makes blanks of these. A read makes a new array, so `copy=False` raises
         `ValueError`."""
