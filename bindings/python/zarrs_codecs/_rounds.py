@@ -7,6 +7,8 @@ import numpy.typing as npt
 
 from ._buffers import counted
 from ._files import Source
+from ._header import copied, json_of
+from ._locating import name_of
 from ._types import AnyArray
 
 Ranges = npt.NDArray[np.uint64]
@@ -66,6 +68,18 @@ class Fetched:
         """What C is given of them."""
         ranges, fetched = self._pieces
         return self.length, *counted(ranges, ranges.size), *counted(fetched, fetched.size)
+
+
+def with_whole_inside(codecs: list[Any]) -> list[Any] | None:
+    """These codecs with a checksum behind those of a shard's inner chunks, by which a read of them lacks all of their
+    bytes; None where there is no shard, or one inside it."""
+    found = copied(json_of(codecs))
+    for codec in found:
+        if name_of(codec) == "sharding_indexed":
+            inner = codec["configuration"]["codecs"]
+            codec["configuration"]["codecs"] = [*inner, "crc32c"]
+            return None if any(name_of(one) == "sharding_indexed" for one in inner) else found
+    return None
 
 
 def _merged(*parts: Pieces) -> Pieces:
