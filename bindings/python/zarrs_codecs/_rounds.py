@@ -76,9 +76,13 @@ def with_whole_inside(codecs: list[Any]) -> list[Any] | None:
     found = copied(json_of(codecs))
     for codec in found:
         if name_of(codec) == "sharding_indexed":
-            inner = codec["configuration"]["codecs"]
-            codec["configuration"]["codecs"] = [*inner, "crc32c"]
-            return None if any(name_of(one) == "sharding_indexed" for one in inner) else found
+            said = codec.get("configuration") if isinstance(codec, dict) else None
+            inner = said.get("codecs") if isinstance(said, dict) else None
+            # one that is skipped may have none
+            if not isinstance(inner, list) or any(name_of(one) == "sharding_indexed" for one in inner):
+                return None
+            inner.append("crc32c")
+            return found
     return None
 
 
