@@ -235,6 +235,19 @@ def test_short_ranges_of_many_inner_chunks(monkeypatch):
     assert len(rounds) == 3 and rounds[0] == [[8192, 8256]] and len(rounds[1]) == 512
 
 
+def test_many_inner_chunks_of_a_few_bytes(monkeypatch):
+    """More than a thousand, of nine bytes each: one inner chunk, and then the rest."""
+    rounds = rounds_of(monkeypatch)
+    array = np.array([chr(97 + at % 26) for at in range(1100)], object)
+    chain = Chain([sharded(1, ["vlen-utf8"])], (1100,), "string", "")
+    same(chain.read_from(io.BytesIO(chain.encode(array)), np.s_[:]), array)
+    assert rounds == [[[9900, 27500]], [[0, 9]], [[9, 9900]]]
+    numbers = np.arange(1, 1101).astype("u1") | 1
+    chain = Chain([sharded(1, ["bytes", "crc32c"])], (1100,), "uint8", 0)
+    same(chain.read_from(io.BytesIO(chain.encode(numbers)), np.s_[:]), numbers)
+    assert len(rounds) == 3 + 4
+
+
 def test_texts_in_shards_answer_as_reads_do(rng):
     for more in ({}, {"index_location": "start"}):
         shard = {"chunk_shape": [2, 3], "codecs": [transpose([1, 0]), VLEN], "index_codecs": [LITTLE], **more}

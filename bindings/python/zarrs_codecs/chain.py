@@ -545,8 +545,8 @@ class Chain:
         each fetches what the one before it lacked: over texts of `zarrs.vlen` first how long the offsets
         are, then the offsets, then the texts that are selected; over `sharding_indexed` the index, then what
         is needed of all inner chunks at once, of texts those inner chunks whole; over other codecs the whole
-        value. That is three rounds at most, but over shards in shards, which go one after the other, and
-        behind eight rounds the rest at once. Of a slice with a step it leaves out what is between two places
+        value. That is three rounds at most (four of numbers in a thousand inner chunks of a few bytes each),
+        but over shards in shards, which go one after the other, and behind eight rounds the rest at once. Of a slice with a step it leaves out what is between two places
         where that's 16 KiB or more. Raises `EOFError` where the file is cut meanwhile.
 
         >>> import io
@@ -579,7 +579,7 @@ class Chain:
         while True:
             lacking = self._lacking_in_round(rounds, fetched.arguments(), numbers)
             if lacking.size:
-                if rounds == _MOST_ROUNDS:
+                if rounds == self._most_rounds:
                     lacking = fetched.missing()
                 fetched.fetch(lacking)
             call = partial(
@@ -601,6 +601,14 @@ class Chain:
         inside."""
         codecs = with_whole_inside(self._inner_list)
         return None if codecs is None else self._said.text(json_of(codecs))
+
+    @property
+    def _most_rounds(self) -> int:
+        """How many rounds fetch what they lack, before one that fetches all that isn't there. Over a thousand inner chunks
+        of a few bytes each lack one after the other, also where they are read whole."""
+        if self._whole_inside is None:
+            return _MOST_ROUNDS
+        return _FEW_ROUNDS + self._type.is_plain
 
     def _lacking_in_round(
         self, rounds: int, given_pieces: tuple[Any, ...], numbers: tuple[Any, ...]
