@@ -203,15 +203,61 @@ def test_rounds_of_shards(name, codec, selection, due, monkeypatch):
     assert file.seen == {byte for ranges in due for begin, end in ranges for byte in range(begin, end)}
 
 
-def test_rounds_of_texts_in_shards(monkeypatch):
-    """Of `zarrs.vlen`, whose offsets say which bytes the texts have, inner chunks are read one after the other."""
+# Of four texts an inner chunk of two is 32 bytes and their own by `zarrs.vlen`, a length and three offsets of eight
+# bytes, and 12 and their own by `vlen-utf8`. The index is 32 bytes.
+ROUNDS_OF_TEXTS_IN_SHARDS = [
+    ("one inner chunk", [VLEN], {}, np.s_[1:2], [[[71, 103]], [[0, 35]]]),
+    ("two", [VLEN], {}, np.s_[1:3], [[[71, 103]], [[0, 71]]]),
+    ("two, index in front", [VLEN], {"index_location": "start"}, np.s_[1:3], [[[0, 32]], [[32, 103]]]),
+    ("the first and the last", [VLEN], {}, [[0], [3]], [[[71, 103]], [[0, 71]]]),
+    ("read whole", ["vlen-utf8"], {}, np.s_[1:3], [[[31, 63]], [[0, 31]]]),
+]
+
+
+@pytest.mark.parametrize("name, inside, more, selection, due", ROUNDS_OF_TEXTS_IN_SHARDS)
+def test_rounds_of_texts_in_shards(name, inside, more, selection, due, monkeypatch):
+    """The index, and then all inner chunks that have the texts, whole."""
     rounds = rounds_of(monkeypatch)
     array = np.array(["a", "bc", "def", "g"], object)
-    for inside, due in ((["vlen-utf8"], 2), ([VLEN], 7)):
-        chain = Chain([sharded(2, inside)], (4,), "string", "")
-        same(chain.read_from(io.BytesIO(chain.encode(array)), np.s_[1:3]), array[1:3])
-        assert len(rounds) == due
-        rounds.clear()
+    chain = Chain([sharded(2, inside, **more)], (4,), "string", "")
+    found = chain.read_from(io.BytesIO(chain.encode(array)), selection)
+    same(found, array[selection] if isinstance(selection, slice) else array[[0, 3]])
+    assert rounds == due
+
+
+def test_short_ranges_of_many_inner_chunks(monkeypatch):
+    """Two of four bytes, 512 times of each inner chunk: what one inner chunk lacks, and then the others whole."""
+    rounds = rounds_of(monkeypatch)
+    shard = {"chunk_shape": [512, 4], "codecs": ["bytes"], "index_codecs": [LITTLE]}
+    numbers = np.arange(1, 2048 * 4 + 1).astype("u1").reshape(2048, 4)
+    chain = Chain([{"name": "sharding_indexed", "configuration": shard}], (2048, 4), "uint8", 0)
+    same(chain.read_from(io.BytesIO(chain.encode(numbers)), np.s_[:, 1:2]), numbers[:, 1:2])
+    assert len(rounds) == 3 and rounds[0] == [[8192, 8256]] and len(rounds[1]) == 512
+
+
+def test_many_inner_chunks_of_a_few_bytes(monkeypatch):
+    """More than a thousand, of nine bytes each: one inner chunk, and then the rest."""
+    rounds = rounds_of(monkeypatch)
+    array = np.array([chr(97 + at % 26) for at in range(1100)], object)
+    chain = Chain([sharded(1, ["vlen-utf8"])], (1100,), "string", "")
+    same(chain.read_from(io.BytesIO(chain.encode(array)), np.s_[:]), array)
+    assert rounds == [[[9900, 27500]], [[0, 9]], [[9, 9900]]]
+    numbers = np.arange(1, 1101).astype("u1") | 1
+    chain = Chain([sharded(1, ["bytes", "crc32c"])], (1100,), "uint8", 0)
+    same(chain.read_from(io.BytesIO(chain.encode(numbers)), np.s_[:]), numbers)
+    assert len(rounds) == 3 + 4
+
+
+def test_texts_in_shards_answer_as_reads_do(rng):
+    for more in ({}, {"index_location": "start"}):
+        shard = {"chunk_shape": [2, 3], "codecs": [transpose([1, 0]), VLEN], "index_codecs": [LITTLE], **more}
+        codecs = [transpose([1, 0]), {"name": "sharding_indexed", "configuration": shard}]
+        chain = Chain(codecs, (6, 4), "string", "")
+        for _ in range(20):
+            value = chain.encode(some_texts(rng, (6, 4)))
+            for selection in (some_region(rng, (6, 4)), some_rows(rng, (6, 4), 6)):
+                file = RecordingFile(value)
+                same(chain.read_from(file, selection), chain.read(value, selection))
 
 
 def test_texts_in_rounds_answer_as_reads_do(rng):

@@ -7,6 +7,8 @@ import numpy.typing as npt
 
 from ._buffers import counted
 from ._files import Source
+from ._header import copied, json_of
+from ._locating import name_of
 from ._types import AnyArray, listed
 
 Ranges = npt.NDArray[np.uint64]
@@ -66,6 +68,22 @@ class Fetched:
         """What C is given of them."""
         ranges, fetched = self._pieces
         return self.length, *counted(ranges, ranges.size), *counted(fetched, fetched.size)
+
+
+def with_whole_inside(codecs: list[Any]) -> list[Any] | None:
+    """These codecs with a checksum behind those of a shard's inner chunks, by which a read of them lacks all of their
+    bytes; None where there is no shard, or one inside it."""
+    found = copied(json_of(codecs))
+    for codec in found:
+        if name_of(codec) == "sharding_indexed":
+            said = codec.get("configuration") if isinstance(codec, dict) else None
+            inner = said.get("codecs") if isinstance(said, dict) else None
+            # one that is skipped may have none
+            if not isinstance(inner, list) or any(name_of(one) == "sharding_indexed" for one in inner):
+                return None
+            inner.append("crc32c")
+            return found
+    return None
 
 
 def _merged(*parts: Pieces) -> Pieces:

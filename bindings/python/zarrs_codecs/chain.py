@@ -23,7 +23,7 @@ from ._files import PART_BYTES, File, Held, Source
 from ._header import Header, copied, json_of
 from ._library import SHORT, EditSize, checked, library
 from ._locating import OF_CODECS, OF_VALUES, locate, locate_stored
-from ._rounds import Fetched
+from ._rounds import Fetched, with_whole_inside
 from ._selections import Selection, select
 from ._types import AnyArray, Bytes, Shape, sizes_of
 from .refusals import InvalidConfiguration, NotInPlace, Refused, Storage, Syntax, UnknownName
@@ -39,6 +39,8 @@ _PLAN_NUMBERS = 1 << 17
 # So many rounds fetch what they lack alone, and one more all that isn't there: each round reads again what those before
 # it have read.
 _MOST_ROUNDS = 8
+# Behind so many the inner chunks of a shard are fetched whole that are needed.
+_FEW_ROUNDS = 2
 # How many bytes a value has of which is asked what a read takes of it.
 _LONG = 1 << 40
 _REPRESENTATIONS = ("fixed", "bounded", "unbounded")
@@ -542,11 +544,11 @@ class Chain:
         It asks for no byte but those of `planned_ranges`, part by part, so that fewer bytes than the answer
         has are held beside it, and at most some 3 MiB. Where the plan is None it goes in rounds, of which
         each fetches what the one before it lacked: over texts of `zarrs.vlen` first how long the offsets
-        are, then the offsets, then the texts that are selected; over `sharding_indexed` the index, then all
-        inner chunks at once, or those that hold shards or texts of `zarrs.vlen` one after the other, and
-        behind eight rounds the rest at once; over other codecs the whole value. Of a slice with a step it
-        leaves out what is between two places where that's 16 KiB or more. Raises `EOFError` where the file
-        is cut meanwhile.
+        are, then the offsets, then the texts that are selected; over `sharding_indexed` the index, then what
+        is needed of all inner chunks at once, of texts those inner chunks whole; over other codecs the whole
+        value. That is three rounds at most (four of numbers in a thousand inner chunks of a few bytes each),
+        but over shards in shards, which go one after the other, and behind eight rounds the rest at once. Of a slice with a step it leaves out what is between two places
+        where that's 16 KiB or more. Raises `EOFError` where the file is cut meanwhile.
 
         >>> import io
         >>> Chain(["bytes"], (4,), "uint8").read_from(io.BytesIO(b"abcd"), slice(1, 3))
@@ -576,9 +578,9 @@ class Chain:
         numbers = chosen.arguments()
         rounds = 0
         while True:
-            lacking = self._lacking(fetched.arguments(), numbers)
+            lacking = self._lacking_in_round(rounds, fetched.arguments(), numbers)
             if lacking.size:
-                if rounds == _MOST_ROUNDS:
+                if rounds == self._most_rounds:
                     lacking = fetched.missing()
                 fetched.fetch(lacking)
             call = partial(
@@ -594,13 +596,41 @@ class Chain:
                 continue
             return put(elements if chosen.after is None else elements[chosen.after], out)
 
-    def _lacking(
-        self, given_pieces: tuple[Any, ...], numbers: tuple[Any, ...]
+    @cached_property
+    def _whole_inside(self) -> bytes | None:
+        """The header of such chunks whose inner chunks are read whole; None where they are no shards, or have shards
+        inside."""
+        codecs = with_whole_inside(self._inner_list)
+        return None if codecs is None else self._said.text(json_of(codecs))
+
+    @property
+    def _most_rounds(self) -> int:
+        """How many rounds fetch what they lack, before one that fetches all that isn't there. Over a thousand inner chunks
+        of a few bytes each lack one after the other, also where they are read whole."""
+        if self._whole_inside is None:
+            return _MOST_ROUNDS
+        return _FEW_ROUNDS + self._type.is_plain
+
+    def _lacking_in_round(
+        self, rounds: int, given_pieces: tuple[Any, ...], numbers: tuple[Any, ...]
     ) -> npt.NDArray[np.uint64]:
-        """The ranges that a read of these pieces lacks."""
-        call = partial(
-            library.zarrs_lacking, self._header, self._length, *given_pieces, *numbers
-        )
+        """What a round fetches, behind so many: what the read lacks. It lacks one inner chunk after the other where these
+        hold texts, or so many short ranges are needed of them: then what it lacks if they are read whole."""
+        is_whole = rounds >= _FEW_ROUNDS or not self._type.is_plain
+        if is_whole and self._whole_inside is not None:
+            # one that is refused so may be read by itself
+            with contextlib.suppress(Refused):
+                lacking = self._lacking(given_pieces, numbers, self._whole_inside)
+                if lacking.size:
+                    return lacking
+        return self._lacking(given_pieces, numbers)
+
+    def _lacking(
+        self, given_pieces: tuple[Any, ...], numbers: tuple[Any, ...], header: bytes | None = None
+    ) -> npt.NDArray[np.uint64]:
+        """The ranges that a read of these pieces lacks; of a chunk of another header, where one is given."""
+        header = self._header if header is None else header
+        call = partial(library.zarrs_lacking, header, len(header), *given_pieces, *numbers)
         return _told_ranges(call, 64)
 
     def _read_parts(self, source: Source, chosen: Selection, elements: AnyArray) -> None:
