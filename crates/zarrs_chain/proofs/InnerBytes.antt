@@ -22,13 +22,14 @@ use Rattle.zarrs_array_bytes.specs.Validity.{Holds, levels_fit, sizes_fit, valid
 use Rattle.zarrs_array_bytes.proofs.ValidLemmas.{both_ok}
 use Rattle.zarrs_bytes.proofs.Coding.{ok}
 use Rattle.zarrs_chain_meaning.specs.Meaning.{Decoder}
-use Rattle.zarrs_chain_meaning.specs.sharding.Sharding.{Span, inner_chunk_at, inner_chunks_at, is_stored, missing_chunk, spans_of}
+use Rattle.zarrs_chain_meaning.specs.sharding.Sharding.{Span, inner_chunk_at, inner_chunks_at, is_stored, spans_of}
 use Rattle.zarrs_chain_meaning.specs.vlen.VlenSteps.{lent_bytes}
 use Rattle.zarrs_chain_meaning.proofs.ArraySteps.{ok_is}
 use Rattle.zarrs_chain_meaning.proofs.VlenOffsets.{fixed_held}
 use Rattle.zarrs_chain.specs.sharding.ShardRows.{chunks_in}
 use Rattle.zarrs_chain.proofs.ShardDecode.{spans_behind}
 use Rattle.zarrs_chain.proofs.ShardReading.{filled_is}
+use Rattle.zarrs_bytes.specs.PartialWrite.{filled_chunk}
 
 -- ---- the bytes of a container
 
@@ -63,16 +64,16 @@ content_whole type count held (Ok raw) v h = subst (λ (x : Held). validity type
 content_whole type count held (Err cause) v h = tt
 
 -- the blank inner chunk
-pub blank_read : (decode : Decoder) (shape : List ℕ) (type : ElementType) (fill value items : List ℕ) (span : Span) (stored : Bool) → stored ≡ false → Holds type (flen (lent_bytes items)) (missing_chunk shape type fill)
+pub blank_read : (decode : Decoder) (shape : List ℕ) (type : ElementType) (fill value items : List ℕ) (span : Span) (stored : Bool) → stored ≡ false → Holds type (flen (lent_bytes items)) (filled_chunk shape type fill)
     → (inner_chunk_at stored decode shape type fill value span ≡ Ok (elements type (product shape) (flen (lent_bytes items)))) × (validity type (product shape) (flen (lent_bytes items)) ≡ Ok tt)
 blank_read decode shape type fill value items span stored e h =
-    let long : length (missing_chunk shape type fill) ≡ product shape = length-replicate (product shape) (fill_element type fill) in (
+    let long : length (filled_chunk shape type fill) ≡ product shape = length-replicate (product shape) (fill_element type fill) in (
       ap (λ b. inner_chunk_at b decode shape type fill value span) e ∙ ap ok (sym h.elements_are ∙ ap (λ n. elements type n (flen (lent_bytes items))) long),
       ap (λ n. validity type n (flen (lent_bytes items))) (sym long) ∙ h.valid,
     )
 
 pub blank_given : (type : ElementType) (shape fill : List ℕ) (count : ℕ) (result : Result Held CodecError) → count ≡ product shape → fill_fits type fill ≡ true → sizes_fit type (product shape) ≡ Ok tt → GivesBy (Holds type) result (fill_chunk type count fill)
-    → GivesBy (Holds type) result (Ok (missing_chunk shape type fill))
+    → GivesBy (Holds type) result (Ok (filled_chunk shape type fill))
 blank_given type shape fill count result same fits room h = subst (λ (r : Result Chunk CodecError). GivesBy (Holds type) result r) (filled_is type fill (product shape) count same fits room) h
 
 -- a container of elements of one size has their bytes

@@ -4,8 +4,8 @@ use Rattle.std.specs.Prelude.{is_some, option_map}
 use Rattle.zarrs_data_type.specs.declared.endianness.Endianness.{Endianness}
 use Rattle.zarrs_array_to_array.specs.Mapping.{mapping_of}
 use Rattle.zarrs_array_to_array.specs.declared.array_to_array_codec.ArrayToArrayCodec.{ArrayToArrayCodec}
-use Rattle.zarrs_chain_meaning.specs.Chain.{codec_reads}
-use Rattle.zarrs_chain_meaning.specs.CodecFacts.{if_alone, reads_all_if}
+use Rattle.zarrs_chain_meaning.specs.Chain.{codec_reads, reads_all_if}
+use Rattle.zarrs_chain_meaning.specs.CodecFacts.{if_alone}
 use Rattle.zarrs_chain_meaning.specs.vlen.PlainVlen.{plain_form, plain_form_of, is_plain}
 use Rattle.zarrs_chain_meaning.specs.declared.vlen.plain_vlen.PlainVlen.{PlainVlen}
 use Rattle.zarrs_chain.specs.ChainView.{plain_vlen, plain_vlen_at}

@@ -22,7 +22,7 @@ use Rattle.zarrs_data_type.specs.Element.{Chunk, Element, absent, fill_element}
 use Rattle.zarrs_data_type.specs.ElementType.{ElementType}
 use Rattle.zarrs_chain_meaning.specs.sharding.InnerChunks.{inner_chunk_count, inner_chunk_of, is_divided, joined_inner_chunks, place_inside, IsCut}
 use Rattle.zarrs_chain_meaning.specs.Meaning.{Decoder}
-use Rattle.zarrs_chain_meaning.specs.sharding.Sharding.{Span, inner_chunk_at, inner_chunks_at, is_stored, missing_chunk, spans_of}
+use Rattle.zarrs_chain_meaning.specs.sharding.Sharding.{Span, inner_chunk_at, inner_chunks_at, is_stored, spans_of}
 use Rattle.zarrs_bytes.proofs.Coding.{ok}
 use Rattle.zarrs_array_bytes.specs.Tight.{IsTight}
 use Rattle.zarrs_array_to_array.proofs.Refusals.{no_fault_from}
@@ -34,6 +34,7 @@ use Rattle.zarrs_chain.specs.sharding.ShardingCalls.{IsShardForm}
 use Rattle.zarrs_chain.specs.sharding.ShardBands.{AreJoinable, IsBandForm, IsElementPart, band_count, band_of, chunks_of, inner_element, part_elements, run_elements}
 use Rattle.zarrs_chain.proofs.InnerBytes.{ReadsTo, halved, reads_begin, reads_end}
 use Rattle.zarrs_chain.proofs.ShardRows.{axis_found, first_divides, more_rows, next_part, of_some, row_found, rows_from_first, same_along}
+use Rattle.zarrs_bytes.specs.PartialWrite.{filled_chunk}
 
 -- ---- elements behind others
 
@@ -447,11 +448,11 @@ pub record IsRead (decode : Decoder) (shape : List ℕ) (type : ElementType) (fi
   pub tight : IfOk result (IsTight type)
 
 -- the blank inner chunk, copied
-pub blank_cloned : (decode : Decoder) (shape : List ℕ) (type : ElementType) (fill value : List ℕ) (span : Span) (stored : Bool) (blank : Held) (result : Result Held CodecError) → stored ≡ false → Holds type blank (missing_chunk shape type fill) → IsTight type blank → Answers memory (λ (x : Held). x) result (Ok blank)
+pub blank_cloned : (decode : Decoder) (shape : List ℕ) (type : ElementType) (fill value : List ℕ) (span : Span) (stored : Bool) (blank : Held) (result : Result Held CodecError) → stored ≡ false → Holds type blank (filled_chunk shape type fill) → IsTight type blank → Answers memory (λ (x : Held). x) result (Ok blank)
     → IsRead decode shape type fill value span stored result
 blank_cloned decode shape type fill value span stored blank (Ok made) e h t given =
     let same : blank ≡ made = ok_is blank made given in
-    let long : length (missing_chunk shape type fill) ≡ product shape = length-replicate (product shape) (fill_element type fill) in
+    let long : length (filled_chunk shape type fill) ≡ product shape = length-replicate (product shape) (fill_element type fill) in
     record {
       answer = record {
         is = ap (λ b. inner_chunk_at b decode shape type fill value span) e ∙ ap ok (sym h.elements_are ∙ ap (λ n. elements type n blank) long ∙ ap (elements type (product shape)) same);

@@ -15,9 +15,10 @@ use Rattle.zarrs_array_bytes.proofs.WriteLemmas.{length-update}
 use Rattle.zarrs_bytes.proofs.Coding.{ok}
 use Rattle.zarrs_chain_meaning.specs.Meaning.{Decoder}
 use Rattle.zarrs_chain_meaning.specs.sharding.InnerChunks.{IsCut, inner_chunk_count, inner_chunk_of, inner_chunk_places, joined_inner_chunks, place_in_shard, place_inside}
-use Rattle.zarrs_chain_meaning.specs.sharding.Sharding.{Span, missing_chunk, inner_chunk_at, inner_chunks_at, is_stored, spans_of, spanned_bytes}
+use Rattle.zarrs_chain_meaning.specs.sharding.Sharding.{Span, inner_chunk_at, inner_chunks_at, is_stored, spans_of, spanned_bytes}
 use Rattle.zarrs_chain_meaning.proofs.InnerChunks.{joined_at, joined_long, places_long}
 use Rattle.zarrs_chain.specs.sharding.ShardWalk.{chunk_behind, chunk_with}
+use Rattle.zarrs_bytes.specs.PartialWrite.{filled_chunk}
 
 -- ---- one inner chunk of a chunk
 
@@ -81,10 +82,10 @@ module _ (shape sizes : List ℕ) (cut : IsCut shape sizes) (done rest : List Ch
       by_number (nat_eq (inner_chunk_of shape sizes place) number) place l refl ∙ sym (joined_there shape sizes (done ++ new ∷ rest) place l))
 
 -- a chunk of fill elements has inner chunks of them
-pub all_filled : (shape sizes : List ℕ) (type : ElementType) (fill : List ℕ) → IsCut shape sizes → joined_inner_chunks shape sizes (replicate (inner_chunk_count shape sizes) (missing_chunk shape type fill)) ≡ replicate (product sizes) (fill_element type fill)
+pub all_filled : (shape sizes : List ℕ) (type : ElementType) (fill : List ℕ) → IsCut shape sizes → joined_inner_chunks shape sizes (replicate (inner_chunk_count shape sizes) (filled_chunk shape type fill)) ≡ replicate (product sizes) (fill_element type fill)
 all_filled shape sizes type fill cut =
     let count = inner_chunk_count shape sizes in
-    let one = missing_chunk shape type fill in
+    let one = filled_chunk shape type fill in
     ext_get_or absent (joined_inner_chunks shape sizes (replicate count one)) (replicate (product sizes) (fill_element type fill)) (joined_long shape sizes (replicate count one) ∙ sym (length-replicate (product sizes) (fill_element type fill)))
     (λ place under.
     let l : place < product sizes = omega (arith, under, joined_long shape sizes (replicate count one)) in
@@ -100,14 +101,14 @@ abbrev pub AnswersLong : Decoder → List ℕ → ElementType → List ℕ → T
 AnswersLong decode shape type fill = (value : List ℕ) (chunk : Chunk) → decode shape type fill value ≡ Ok chunk → length chunk ≡ product shape
 
 behind : (decode : Decoder) (shape sizes : List ℕ) (type : ElementType) (fill value : List ℕ) → IsCut shape sizes → AnswersLong decode shape type fill → (number : ℕ) (spans : List Span) (done : List Chunk) → length done ≡ number → number + length spans ≡ inner_chunk_count shape sizes
-    → chunk_behind decode shape sizes type fill value number spans (joined_inner_chunks shape sizes (done ++ replicate (length spans) (missing_chunk shape type fill)))
+    → chunk_behind decode shape sizes type fill value number spans (joined_inner_chunks shape sizes (done ++ replicate (length spans) (filled_chunk shape type fill)))
     ≡ inner_chunks_at decode shape type fill value spans >>= (λ inner_chunks. ok (joined_inner_chunks shape sizes (done ++ inner_chunks)))
 behind decode shape sizes type fill value cut law number [] done e total = refl
 behind decode shape sizes type fill value cut law number (span ∷ spans) done e total =
     by_span (λ one. behind decode shape sizes type fill value cut law (suc number) spans (done ++ one ∷ []) (omega (arith, length-append done (one ∷ []), e)) (omega (arith, total))) (is_stored span)
   where
     rest : List Chunk
-    rest = replicate (length spans) (missing_chunk shape type fill)
+    rest = replicate (length spans) (filled_chunk shape type fill)
 
     Next : Type 0
     Next = (one : Chunk) → chunk_behind decode shape sizes type fill value (suc number) spans (joined_inner_chunks shape sizes ((done ++ one ∷ []) ++ rest))
@@ -126,10 +127,10 @@ behind decode shape sizes type fill value cut law number (span ∷ spans) done e
         ∙ moved one (inner_chunks_at decode shape type fill value spans)
 
     stored : Next → (r : Result Chunk CodecError) → ((chunk : Chunk) → r ≡ Ok chunk → length chunk ≡ product shape)
-        → r >>= (λ one. ok (update (joined_inner_chunks shape sizes (done ++ missing_chunk shape type fill ∷ rest)) (inner_chunk_places shape sizes number) one)) >>= (λ more. chunk_behind decode shape sizes type fill value (suc number) spans more)
+        → r >>= (λ one. ok (update (joined_inner_chunks shape sizes (done ++ filled_chunk shape type fill ∷ rest)) (inner_chunk_places shape sizes number) one)) >>= (λ more. chunk_behind decode shape sizes type fill value (suc number) spans more)
         ≡ r >>= (λ one. inner_chunks_at decode shape type fill value spans >>= (λ inner_chunks. ok (one ∷ inner_chunks))) >>= (λ inner_chunks. ok (joined_inner_chunks shape sizes (done ++ inner_chunks)))
     stored law (Ok one) long =
-        ap (chunk_behind decode shape sizes type fill value (suc number) spans) (replaced shape sizes cut done rest (missing_chunk shape type fill) one number e (omega (arith, total)) (long one refl))
+        ap (chunk_behind decode shape sizes type fill value (suc number) spans) (replaced shape sizes cut done rest (filled_chunk shape type fill) one number e (omega (arith, total)) (long one refl))
         ∙ next law one
     stored law (Err cause) long = refl
 
@@ -137,15 +138,15 @@ behind decode shape sizes type fill value cut law number (span ∷ spans) done e
     by_test true law chunk h = law (spanned_bytes value span) chunk h
     by_test false law chunk h = absurd cc
 
-    by_span : Next → (test : Bool) → chunk_with decode shape sizes type fill value number test span (joined_inner_chunks shape sizes (done ++ missing_chunk shape type fill ∷ rest)) >>= (λ more. chunk_behind decode shape sizes type fill value (suc number) spans more)
+    by_span : Next → (test : Bool) → chunk_with decode shape sizes type fill value number test span (joined_inner_chunks shape sizes (done ++ filled_chunk shape type fill ∷ rest)) >>= (λ more. chunk_behind decode shape sizes type fill value (suc number) spans more)
         ≡ inner_chunk_at test decode shape type fill value span >>= (λ one. inner_chunks_at decode shape type fill value spans >>= (λ inner_chunks. ok (one ∷ inner_chunks))) >>= (λ inner_chunks. ok (joined_inner_chunks shape sizes (done ++ inner_chunks)))
-    by_span go false = next go (missing_chunk shape type fill)
+    by_span go false = next go (filled_chunk shape type fill)
     by_span go true = stored go (inner_chunk_at true decode shape type fill value span) (by_test (nat_le (span.0 + span.1) (length value)) law)
 
 pub all_read : (decode : Decoder) (shape sizes : List ℕ) (type : ElementType) (fill value : List ℕ) (spans : List Span) → IsCut shape sizes → AnswersLong decode shape type fill → length spans ≡ inner_chunk_count shape sizes
     → chunk_behind decode shape sizes type fill value 0 spans (replicate (product sizes) (fill_element type fill)) ≡ inner_chunks_at decode shape type fill value spans >>= (λ inner_chunks. ok (joined_inner_chunks shape sizes inner_chunks))
 all_read decode shape sizes type fill value spans cut law long =
-    ap (chunk_behind decode shape sizes type fill value 0 spans) (sym (all_filled shape sizes type fill cut) ∙ ap (λ n. joined_inner_chunks shape sizes (replicate n (missing_chunk shape type fill))) (sym long))
+    ap (chunk_behind decode shape sizes type fill value 0 spans) (sym (all_filled shape sizes type fill cut) ∙ ap (λ n. joined_inner_chunks shape sizes (replicate n (filled_chunk shape type fill))) (sym long))
     ∙ behind decode shape sizes type fill value cut law 0 spans [] refl (omega (arith, long))
 
 -- ---- number by number

@@ -28,14 +28,15 @@ use Rattle.zarrs_chain_meaning.specs.ArrayStages.{arrays_map, IsMapWhere}
 use Rattle.zarrs_chain_meaning.specs.BytesStages.{outer_value, outer_bytes, outer_representation}
 use Rattle.zarrs_chain_meaning.specs.Chain.{taken_form, codec_held_value, held_value}
 use Rattle.zarrs_chain_meaning.specs.vlen.Vlen.{offset_bytes, offsets_in_chunk, slices, vlen_value_parts, vlen_chunk, offset_type}
-use Rattle.zarrs_chain_meaning.specs.Parts.{all_bytes, byte_type}
+use Rattle.zarrs_chain_meaning.specs.Parts.{all_bytes, byte_type, for_each}
 use Rattle.zarrs_chain_meaning.specs.CodecMeaning.{codec_value, codec_chunk, chain_chunk, chain_value, codec_representation, chain_representation}
 use Rattle.zarrs_chain_meaning.specs.Meaning.{Decoder, part_chunk, around_chunk, Measure}
-use Rattle.zarrs_chain_meaning.specs.optional.Optional.{optional_parts, flag_in, flags_in, count_set, under_flags, optional_chunk, flag_type, blank_fill}
+use Rattle.zarrs_chain_meaning.specs.optional.Optional.{optional_parts, flag_in, under_flags, optional_chunk, flag_type, blank_fill}
 use Rattle.zarrs_chain_meaning.proofs.NestedParts.{length_under}
 use Rattle.zarrs_bytes.proofs.Coding.{ok, bind_ok}
 use Rattle.zarrs_chain_meaning.proofs.ArraySteps.{err, at_ok, ok_is, counted_so, next_answer}
 use Rattle.std.specs.Prelude.{is_ok}
+use Rattle.zarrs_chain_meaning.proofs.OptionalFor.{count_set}
 
 -- ---- what a chain takes
 
@@ -213,11 +214,11 @@ unread f chain sizes type fill form value below error e opened h =
     chunk_through f chain sizes type fill form value e ∙ next_answer (outer_bytes f chain.bytes_to_bytes form.1 value) below (λ b. codec_chunk f chain.array_to_bytes form.0 type fill b >>= back) opened
     ∙ next_err (codec_chunk f chain.array_to_bytes form.0 type fill below) error back h
 
-flags_long : (chunk : Chunk) (flags : List Bool) → flags_in chunk ≡ ok flags → length flags ≡ length chunk
+flags_long : (chunk : Chunk) (flags : List Bool) → for_each flag_in chunk ≡ ok flags → length flags ≡ length chunk
 flags_long [] flags e = ap length (sym (ok_is [] flags e))
 flags_long (element ∷ chunk) flags e =
     let a = bind_ok (flag_in element) _ flags e in
-    let b = bind_ok (flags_in chunk) _ flags a.2 in
+    let b = bind_ok (for_each flag_in chunk) _ flags a.2 in
     ap length (sym (ok_is (a.0 ∷ b.0) flags b.2)) ∙ ap suc (flags_long chunk b.0 b.1)
 
 pub around_long : {B : Type 0} (f : BytesCodecs B) (arrays : List ArrayMapping) (measure : Measure) (content : Decoder) (outer : List B) (sizes : List ℕ) (type : ElementType) (fill value : List ℕ) (chunk : Chunk) → around_chunk f arrays measure content outer sizes type fill value ≡ Ok chunk → length chunk ≡ product sizes
@@ -243,7 +244,7 @@ pub optional_long : (mask content : Decoder) (sizes : List ℕ) (type : ElementT
 optional_long mask content sizes type value chunk long e =
     let parts = bind_ok (optional_parts value) _ chunk e in
     let flags = bind_ok (mask sizes flag_type (0 ∷ []) parts.0.0) _ chunk parts.2 in
-    let bits = bind_ok (flags_in flags.0) _ chunk flags.2 in
+    let bits = bind_ok (for_each flag_in flags.0) _ chunk flags.2 in
     let items = bind_ok (part_chunk content type (blank_fill type) (count_set bits.0) parts.0.1) _ chunk bits.2 in
     ap length (sym (ok_is (under_flags bits.0 items.0) chunk items.2)) ∙ length_under bits.0 items.0 ∙ flags_long flags.0 bits.0 bits.1 ∙ long parts.0.0 flags.0 flags.1
 

@@ -183,11 +183,12 @@ pub joined_long : (shape sizes : List ℕ) (inner_chunks : List Chunk) → lengt
 joined_long shape sizes inner_chunks = length-map-range_with_len (joined_at shape sizes inner_chunks) 0 (product sizes)
 
 -- inner chunks of a chunk of elements of the type are such
-pub inner_chunk_is : (shape sizes : List ℕ) (type : ElementType) (chunk : Chunk) (inner_chunk : ℕ) → IsCut shape sizes → IsChunk type (product sizes) chunk → inner_chunk < inner_chunk_count shape sizes → IsChunk type (product shape) (inner_chunk_in shape sizes chunk inner_chunk)
-inner_chunk_is shape sizes type chunk inner_chunk cut is b = record {
+pub inner_chunk_is : (shape sizes : List ℕ) (type : ElementType) (chunk : Chunk) (inner_chunk : ℕ) → is_divided shape sizes ≡ true → IsChunk type (product sizes) chunk → inner_chunk < inner_chunk_count shape sizes → IsChunk type (product shape) (inner_chunk_in shape sizes chunk inner_chunk)
+inner_chunk_is shape sizes type chunk inner_chunk divided is b = record {
   count_is = inner_chunk_long shape sizes chunk inner_chunk;
   each = λ k d l.
       let inside : k < product shape = omega (arith, l, inner_chunk_long shape sizes chunk inner_chunk) in
+      let cut = is_cut shape sizes (product_positive shape (omega (arith, inside))) divided in
       let place : place_in_shard shape sizes inner_chunk k < length chunk = let p = cut.place_below inner_chunk k b inside in omega (arith, p, is.count_is) in
       let here : k < length (inner_chunk_places shape sizes inner_chunk) = omega (arith, inside, places_long shape sizes inner_chunk) in
       let e = get_or-map (λ place. get_or chunk place absent) (inner_chunk_places shape sizes inner_chunk) k 0 d here ∙ ap (λ p. get_or chunk p absent) (get_or-map-range_with_len (place_in_shard shape sizes inner_chunk) 0 (product shape) k k 0 inside (omega arith)) in
@@ -200,8 +201,8 @@ all_inner_chunks shape sizes P chunk each = λ k d l.
     let b : k < inner_chunk_count shape sizes = omega (arith, l, inner_chunks_long shape sizes chunk) in
     subst P (sym (get_or-map-range_with_len (inner_chunk_in shape sizes chunk) 0 (inner_chunk_count shape sizes) k k d b (omega arith))) (each k b)
 
-pub inner_chunks_are : (shape sizes : List ℕ) (type : ElementType) (chunk : Chunk) → IsCut shape sizes → IsChunk type (product sizes) chunk → All (IsChunk type (product shape)) (inner_chunks_of shape sizes chunk)
-inner_chunks_are shape sizes type chunk cut is = all_inner_chunks shape sizes (IsChunk type (product shape)) chunk (λ inner_chunk b. inner_chunk_is shape sizes type chunk inner_chunk cut is b)
+pub inner_chunks_are : (shape sizes : List ℕ) (type : ElementType) (chunk : Chunk) → is_divided shape sizes ≡ true → IsChunk type (product sizes) chunk → All (IsChunk type (product shape)) (inner_chunks_of shape sizes chunk)
+inner_chunks_are shape sizes type chunk divided is = all_inner_chunks shape sizes (IsChunk type (product shape)) chunk (λ inner_chunk b. inner_chunk_is shape sizes type chunk inner_chunk divided is b)
 
 pub inner_chunks_have : (shape sizes : List ℕ) (chunk : Chunk) → All HasBytes chunk → All (All HasBytes) (inner_chunks_of shape sizes chunk)
 inner_chunks_have shape sizes chunk h = all_inner_chunks shape sizes (All HasBytes) chunk (λ inner_chunk b. all_selected chunk (inner_chunk_places shape sizes inner_chunk) h)

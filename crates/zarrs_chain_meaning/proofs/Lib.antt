@@ -7,6 +7,7 @@ pub mod VlenOffsets
 pub mod PackedElements
 pub mod NestedNormal
 pub mod NestedStages
+pub mod OptionalFor
 pub mod NestedStands
 pub mod NestedWritten
 pub mod NestedForNormal

@@ -13,11 +13,12 @@ use Rattle.zarrs_array_to_array.specs.ArrayToArrayCodec.{ArrayMapping, IsMapping
 use Rattle.zarrs_array_to_array.proofs.CoordinateMaps.{moved_back}
 use Rattle.zarrs_chunk.proofs.Inside.{lt_test}
 use Rattle.zarrs_chain_meaning.specs.Meaning.{Decoder, part_chunk, around_chunk, Measure, Standing, PartStands, StandsThrough}
-use Rattle.zarrs_chain_meaning.specs.Parts.{length_of, all_bytes, byte_type}
+use Rattle.zarrs_chain_meaning.specs.Parts.{length_of, all_bytes, byte_type, for_each}
 use Rattle.zarrs_chain_meaning.specs.vlen.Vlen.{offsets_in_chunk, slices, vlen_value_parts, vlen_chunk, offset_bytes, offset_type, arranged, VlenStands}
-use Rattle.zarrs_chain_meaning.specs.optional.Optional.{optional_parts, flags_in, count_set, under_flags, optional_chunk, flag_of, present_of, flag_type, blank_fill, OptionalStandsFor}
+use Rattle.zarrs_chain_meaning.specs.optional.Optional.{optional_parts, under_flags, optional_chunk, flag_of, present_of, flag_type, blank_fill, flag_in}
 use Rattle.zarrs_bytes.proofs.Coding.{ok}
 use Rattle.zarrs_chain_meaning.proofs.NestedStages.{arrays_are_map, row_positive}
+use Rattle.zarrs_chain_meaning.proofs.OptionalFor.{OptionalStandsFor, count_set}
 
 -- where a value stands for a chunk, it is the chunk that is answered
 abbrev pub Decodes : Standing → Decoder → Type 0
@@ -99,7 +100,7 @@ bits_of (plain items ∷ chunk) = false ∷ bits_of chunk
 bits_of (absent ∷ chunk) = false ∷ bits_of chunk
 bits_of (present element ∷ chunk) = true ∷ bits_of chunk
 
-flags_again : (chunk : Chunk) → flags_in (map flag_of chunk) ≡ Ok (bits_of chunk)
+flags_again : (chunk : Chunk) → for_each flag_in (map flag_of chunk) ≡ Ok (bits_of chunk)
 flags_again [] = refl
 flags_again (plain items ∷ chunk) = rw (flags_again chunk) refl
 flags_again (absent ∷ chunk) = rw (flags_again chunk) refl
@@ -117,7 +118,7 @@ under_again type (plain items ∷ chunk) h = absurd (All-head (IsElement (option
 under_again type (absent ∷ chunk) h = ap (λ (c : Chunk). absent ∷ c) (under_again type chunk (All-tail (IsElement (optional type)) absent chunk h))
 under_again type (present element ∷ chunk) h = ap (λ (c : Chunk). present element ∷ c) (under_again type chunk (All-tail (IsElement (optional type)) (present element) chunk h))
 
-optional_steps : (mask content : Decoder) (sizes : List ℕ) (type : ElementType) (value m d : List ℕ) (flags items : Chunk) (bits : List Bool) → optional_parts value ≡ Ok (m, d) → mask sizes flag_type (0 ∷ []) m ≡ Ok flags → flags_in flags ≡ Ok bits
+optional_steps : (mask content : Decoder) (sizes : List ℕ) (type : ElementType) (value m d : List ℕ) (flags items : Chunk) (bits : List Bool) → optional_parts value ≡ Ok (m, d) → mask sizes flag_type (0 ∷ []) m ≡ Ok flags → for_each flag_in flags ≡ Ok bits
     → part_chunk content type (blank_fill type) (count_set bits) d ≡ Ok items → optional_chunk mask content sizes (optional type) value ≡ Ok (under_flags bits items)
 optional_steps mask content sizes type value m d flags items bits a b c e = rw (a, b, c, e) refl
 

@@ -7,13 +7,14 @@ use Rattle.zarrs_codec.specs.BytesToBytesCodec.{BytesCodecs}
 use Rattle.zarrs_codec.specs.CoordinateMap.{moved_chunk}
 use Rattle.zarrs_array_to_array.specs.ArrayToArrayCodec.{ArrayMapping}
 use Rattle.zarrs_bytes.specs.ByteOrder.{bytes_of}
-use Rattle.zarrs_chain_meaning.specs.BytesStages.{in_memory, outer_value, OuterWritten}
+use Rattle.zarrs_chain_meaning.specs.BytesStages.{in_memory}
 use Rattle.zarrs_chain_meaning.specs.Meaning.{Encoder, part_value, around_value, Measure, Standing, PartWritten, WrittenThrough, Keeping}
 use Rattle.zarrs_chain_meaning.specs.vlen.Vlen.{chunk_offsets, offset_bytes, offset_elements, offset_fits, is_same_bytes, vlen_value, offset_type, VlenWritten, arranged}
 use Rattle.zarrs_chain_meaning.specs.Parts.{byte_elements, all_bytes, byte_type, part_length_bytes}
-use Rattle.zarrs_chain_meaning.specs.optional.Optional.{flag_of, present_of, optional_layout, optional_value, flag_type, blank_fill, OptionalWrittenFor}
+use Rattle.zarrs_chain_meaning.specs.optional.Optional.{flag_of, present_of, optional_layout, optional_value, flag_type, blank_fill}
 use Rattle.zarrs_bytes.proofs.Coding.{ok}
 use Rattle.zarrs_array_bytes.specs.SameBytesLaws.{numbers_same}
+use Rattle.zarrs_chain_meaning.proofs.OptionalFor.{OptionalWrittenFor}
 
 -- what is written is answered
 abbrev pub Encodes : Standing → Encoder → Type 0
@@ -28,10 +29,6 @@ small_test n l = grind (arith, nat_tests)
 
 pub memory_so : (xs : List ℕ) → length xs < 2 ^ 64 → in_memory xs ≡ Ok xs
 memory_so xs l = rw (small_test (length xs) l) refl
-
-outer_only : {B : Type 0} (f : BytesCodecs B) (codecs : List B) (below value : List ℕ) → OuterWritten f codecs below value → outer_value f codecs below ≡ Ok value
-outer_only f [] below value h = memory_so below h.0 ∙ ap ok (sym h.1)
-outer_only f (codec ∷ codecs) below value h = rw (memory_so below h.0) (outer_only f codecs (f.encoded_bytes codec below) value h.1)
 
 pub same_bytes : (chunk : Chunk) → is_same_bytes chunk chunk ≡ true
 same_bytes [] = refl
@@ -77,4 +74,4 @@ optional_only mw cw me ce m d sizes (optional type) value chunk w =
 
 pub through_only : {B : Type 0} (f : BytesCodecs B) (arrays : List ArrayMapping) (measure : Measure) (write : Standing) (encode : Encoder) (outer : List B) → Encodes write encode → Encodes (WrittenThrough f arrays measure write outer) (around_value f arrays measure encode outer)
 through_only f arrays measure write encode outer law sizes type fill value chunk w =
-    rw (w.mapped, w.measured, w.countable, law w.map_is.encoded type fill w.below (moved_chunk w.map_is chunk) w.written) (outer_only f outer w.below value w.around)
+    rw (w.mapped, w.measured, w.countable, law w.map_is.encoded type fill w.below (moved_chunk w.map_is chunk) w.written) w.around

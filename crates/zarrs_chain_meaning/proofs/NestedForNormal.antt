@@ -21,10 +21,11 @@ use Rattle.zarrs_packbits.specs.PaddingByte.{value_with}
 use Rattle.zarrs_packbits.proofs.CodecLaws as packbits
 use Rattle.zarrs_chain_meaning.specs.vlen.Vlen.{chunk_offsets, offset_bytes, offset_elements, offset_fits, vlen_normal, offset_type, VlenWritten}
 use Rattle.zarrs_chain_meaning.specs.Parts.{byte_elements, all_bytes, byte_type}
-use Rattle.zarrs_chain_meaning.specs.optional.Optional.{flag_of, present_of, optional_normal, flag_type, blank_fill, OptionalWrittenFor}
+use Rattle.zarrs_chain_meaning.specs.optional.Optional.{flag_of, present_of, optional_normal, flag_type, blank_fill}
 use Rattle.zarrs_chain_meaning.specs.Meaning.{Measure, Standing, PartWritten, WrittenThrough, Keeping}
 use Rattle.zarrs_chain_meaning.proofs.ArraySteps.{ok_is}
 use Rattle.zarrs_chain_meaning.proofs.NestedNormal.{KeepsTypes, kept_byte, kept_as_byte, KeepsAbsent, kept_elements, kept_selected}
+use Rattle.zarrs_chain_meaning.proofs.OptionalFor.{OptionalWrittenFor}
 
 -- what is written for a chunk is written for what is kept of it
 abbrev pub WrittenKept : Standing → Keeping → Type 0

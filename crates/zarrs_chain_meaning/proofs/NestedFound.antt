@@ -7,7 +7,7 @@ use Rattle.std.proofs.lemmas.List.{length-map}
 use Rattle.std.proofs.lemmas.List.Elements.{All-nil, All-cons}
 use Rattle.zarrs_chunk.specs.Answer.{demand}
 use Rattle.zarrs_chunk.specs.ChunkShape.{product}
-use Rattle.zarrs_chunk.specs.declared.codec_error.CodecError.TheVariants.{OutOfMemory, OffsetTooLarge, OffsetNotKept}
+use Rattle.zarrs_chunk.specs.declared.codec_error.CodecError.TheVariants.{OffsetTooLarge, OffsetNotKept}
 use Rattle.zarrs_data_type.specs.ElementType.{ElementType, fixed, optional}
 use Rattle.zarrs_data_type.specs.Element.{Element, plain, absent, present, Chunk, IsElement, AreElements}
 use Rattle.zarrs_array_bytes.specs.Validity.{sizes_fit}
@@ -20,15 +20,15 @@ use Rattle.zarrs_bytes.specs.BytesCodec.{IsChunk}
 use Rattle.zarrs_bytes.proofs.Coding.{demand_ok, ok, bind_ok}
 use Rattle.zarrs_codec.proofs.Fences.{second_true, first_true}
 use Rattle.zarrs_chain_meaning.specs.ArrayStages.{arrays_map}
-use Rattle.zarrs_chain_meaning.specs.BytesStages.{in_memory, outer_value, OuterWritten}
+use Rattle.zarrs_chain_meaning.specs.BytesStages.{in_memory, outer_value}
 use Rattle.zarrs_chain_meaning.specs.Meaning.{Encoder, part_value, around_value, Measure, around_representation, Standing, PartWritten, WrittenThrough, Keeping}
 use Rattle.zarrs_chain_meaning.specs.vlen.Vlen.{chunk_offsets, offset_bytes, offset_elements, offset_fits, is_same_bytes, vlen_value, offset_type, VlenWritten, arranged}
 use Rattle.zarrs_chain_meaning.specs.Parts.{byte_elements, all_bytes, byte_type, part_length_bytes}
 use Rattle.zarrs_chain_meaning.specs.optional.Optional.{flag_of, present_of, optional_layout, optional_value, flag_type, blank_fill, OptionalWritten}
-use Rattle.zarrs_chain_meaning.proofs.ArraySteps.{err, ok_is}
+use Rattle.zarrs_chain_meaning.proofs.ArraySteps.{ok_is}
 use Rattle.zarrs_chain_meaning.proofs.NestedForNormal.{items_are, present_are, row_is}
 use Rattle.zarrs_chain_meaning.proofs.NestedNormal.{KeepsTypes}
-use Rattle.zarrs_chain_meaning.proofs.NestedStages.{arrays_are_map, row_positive}
+use Rattle.zarrs_chain_meaning.proofs.NestedStages.{in_memory_so, arrays_are_map, row_positive}
 use Rattle.zarrs_chain_meaning.proofs.NestedWrittenStands.{moved_is}
 use Rattle.zarrs_array_bytes.specs.SameBytesLaws.{same_numbers}
 
@@ -45,22 +45,6 @@ FoundsTaken write encode measure =
     → All (λ size. 0 < size) sizes → IsChunk type (product sizes) chunk → measure sizes type fill ≡ Ok r → encode sizes type fill chunk ≡ Ok value → write sizes type fill value chunk
 
 -- ---- steps
-
-memory_test : (test : Bool) (xs ys : List ℕ) → (if test then ok xs else err OutOfMemory) ≡ ok ys → (test ≡ true) × (ys ≡ xs)
-memory_test true xs ys e = (refl, sym (ok_is xs ys e))
-memory_test false xs ys e = absurd cc
-
-pub in_memory_so : (xs ys : List ℕ) → in_memory xs ≡ Ok ys → (length xs < 2 ^ 64) × (ys ≡ xs)
-in_memory_so xs ys e =
-    let t = memory_test (nat_lt (length xs) (2 ^ 64)) xs ys e in
-    (grind (arith, nat_tests, t.0), t.1)
-
-outer_written : {B : Type 0} (f : BytesCodecs B) (codecs : List B) (below value : List ℕ) → outer_value f codecs below ≡ Ok value → OuterWritten f codecs below value
-outer_written f [] below value e = in_memory_so below value e
-outer_written f (codec ∷ codecs) below value e =
-    let a = bind_ok (in_memory below) _ value e in
-    let b = in_memory_so below a.0 a.1 in
-    (b.0, outer_written f codecs (f.encoded_bytes codec below) value (subst (λ u. outer_value f codecs (f.encoded_bytes codec u) ≡ Ok value) b.1 a.2))
 
 part_found : (write : Standing) (encode : Encoder) → Founds write encode → (type : ElementType) (fill part : List ℕ) (chunk : Chunk) → AreElements type chunk → part_value encode type fill chunk ≡ Ok part → PartWritten write type fill part chunk
 part_found write encode law type fill part [] each e = sym (ok_is [] part e)
@@ -173,5 +157,5 @@ through_found f arrays measure write encode outer mappings law sizes type fill v
       countable = d.1;
       elements = is;
       written = law m.0.encoded type fill below.0 (moved_chunk m.0 chunk) r.0 (h.positive positive) (moved_is sizes type m.0 chunk h is) measured below.1;
-      around = outer_written f outer below.0 value below.2;
+      around = below.2;
     }

@@ -16,15 +16,16 @@ use Rattle.zarrs_array_to_array.specs.ArrayToArrayCodec.{ArrayMapping, IsMapping
 use Rattle.zarrs_array_to_array.proofs.CoordinateMaps.{length-moved}
 use Rattle.zarrs_bytes.specs.ByteOrder.{bytes_of}
 use Rattle.zarrs_packbits.specs.Laws.{HasBytes}
-use Rattle.zarrs_chain_meaning.specs.BytesStages.{outer_representation, OuterWritten}
+use Rattle.zarrs_chain_meaning.specs.BytesStages.{outer_representation}
 use Rattle.zarrs_chain_meaning.specs.vlen.Vlen.{chunk_offsets, offset_bytes, offset_elements, offset_type, VlenWritten, arranged}
 use Rattle.zarrs_chain_meaning.specs.Parts.{part_length_bytes, byte_elements, all_bytes, byte_type}
-use Rattle.zarrs_chain_meaning.specs.optional.Optional.{flag_of, present_of, optional_layout, flag_type, blank_fill, bounded, both_representations, optional_representation, OptionalWrittenFor}
+use Rattle.zarrs_chain_meaning.specs.optional.Optional.{flag_of, present_of, optional_layout, flag_type, blank_fill, bounded, both_representations, optional_representation}
 use Rattle.zarrs_chain_meaning.specs.Meaning.{Measure, around_representation, Standing, PartWritten, WrittenThrough, Keeping}
 use Rattle.zarrs_chain_meaning.proofs.ArraySteps.{ok_is}
 use Rattle.zarrs_chain_meaning.proofs.NestedGrowth.{Grows, is_both}
-use Rattle.zarrs_chain_meaning.proofs.NestedStages.{all_selected, element_bytes, outer_opened, arrays_are_map, row_positive, is_byte}
+use Rattle.zarrs_chain_meaning.proofs.NestedStages.{all_selected, element_bytes, OuterWritten, outer_written, outer_opened, arrays_are_map, row_positive, is_byte}
 use Rattle.zarrs_codec.specs.SampleLaws.{low_first_are_bytes}
+use Rattle.zarrs_chain_meaning.proofs.OptionalFor.{OptionalWrittenFor}
 
 -- bytes, as many as was declared
 pub record AreKept (r : BytesRepresentation) (value : List ℕ) : Type 0 where
@@ -216,7 +217,7 @@ through_measured f lawful arrays measure content outer mappings law sizes type f
       size = outer_representation f outer w.size;
       measured = rw (w.mapped, w.measured) refl;
       kept = record {
-        each = outer_are f lawful outer w.below value kept.each w.around;
+        each = outer_are f lawful outer w.below value kept.each (outer_written f outer w.below value w.around);
         keeps = (outer_opened f outer w.size w.below value lawful kept.each kept.keeps w.around).1;
       };
     }

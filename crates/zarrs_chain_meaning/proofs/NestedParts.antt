@@ -9,10 +9,11 @@ use Rattle.zarrs_data_type.specs.ElementType.{ElementType, optional}
 use Rattle.zarrs_data_type.specs.Element.{Element, plain, absent, present, Chunk, IsElement, AreElements}
 use Rattle.zarrs_bytes.proofs.Coding.{demand_ok, ok, bind_ok}
 use Rattle.zarrs_chunk.proofs.Inside.{from_lt_test, from_le_test}
-use Rattle.zarrs_chain_meaning.specs.Parts.{length_of}
+use Rattle.zarrs_chain_meaning.specs.Parts.{length_of, for_each}
 use Rattle.zarrs_chain_meaning.specs.vlen.Vlen.{vlen_value_parts, arranged}
-use Rattle.zarrs_chain_meaning.specs.optional.Optional.{optional_parts, flag_in, flags_in, count_set, under_flags, flag_of, present_of}
+use Rattle.zarrs_chain_meaning.specs.optional.Optional.{optional_parts, flag_in, under_flags, flag_of, present_of}
 use Rattle.zarrs_chain_meaning.proofs.ArraySteps.{ok_is}
+use Rattle.zarrs_chain_meaning.proofs.OptionalFor.{count_set}
 
 -- ---- parts of lists
 
@@ -155,11 +156,11 @@ flag_found (plain (suc (suc byte) ∷ more ∷ items)) flag e = absurd cc
 flag_found absent flag e = absurd cc
 flag_found (present element) flag e = absurd cc
 
-pub flags_found : (mask : Chunk) (flags : List Bool) → flags_in mask ≡ Ok flags → mask ≡ map flag_element flags
+pub flags_found : (mask : Chunk) (flags : List Bool) → for_each flag_in mask ≡ Ok flags → mask ≡ map flag_element flags
 flags_found [] flags e = ap (map flag_element) (ok_is [] flags e)
 flags_found (element ∷ mask) flags e =
     let a = bind_ok (flag_in element) _ flags e in
-    let b = bind_ok (flags_in mask) _ flags a.2 in
+    let b = bind_ok (for_each flag_in mask) _ flags a.2 in
     let first = flag_found element a.0 a.1 in
     let rest = flags_found mask b.0 b.1 in
     (λ i. first i ∷ rest i) ∙ ap (map flag_element) (ok_is (a.0 ∷ b.0) flags b.2)

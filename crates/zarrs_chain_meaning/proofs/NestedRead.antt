@@ -22,13 +22,14 @@ use Rattle.zarrs_chain_meaning.specs.ArrayStages.{arrays_map}
 use Rattle.zarrs_chain_meaning.specs.BytesStages.{outer_bytes}
 use Rattle.zarrs_chain_meaning.specs.Meaning.{Decoder, part_chunk, around_chunk, Measure, Standing, PartStands, StandsThrough}
 use Rattle.zarrs_chain_meaning.specs.vlen.Vlen.{offsets_in_chunk, slices, vlen_value_parts, vlen_chunk, offset_bytes, offset_type, VlenStands}
-use Rattle.zarrs_chain_meaning.specs.optional.Optional.{optional_parts, flags_in, count_set, under_flags, optional_chunk, flag_of, present_of, flag_type, blank_fill, OptionalStands}
-use Rattle.zarrs_chain_meaning.specs.Parts.{all_bytes, byte_type}
+use Rattle.zarrs_chain_meaning.specs.optional.Optional.{optional_parts, under_flags, optional_chunk, flag_of, present_of, flag_type, blank_fill, OptionalStands, flag_in}
+use Rattle.zarrs_chain_meaning.specs.Parts.{all_bytes, byte_type, for_each}
 use Rattle.zarrs_vlen_v2.proofs.Rows.{string_is}
 use Rattle.zarrs_chain_meaning.proofs.ArraySteps.{ok_is}
 use Rattle.zarrs_chain_meaning.proofs.NestedParts.{vlen_cut, optional_cut_found, flag_element, flags_found, flags_under, present_under, length_under, elements_under}
 use Rattle.zarrs_chain_meaning.proofs.NestedStages.{arrays_are_map, row_positive}
 use Rattle.zarrs_chain_meaning.proofs.NestedWrittenStands.{moved_is}
+use Rattle.zarrs_chain_meaning.proofs.OptionalFor.{count_set}
 
 -- what a chain answers of a value stands, and its elements are of the type
 abbrev pub Reads : Standing → Decoder → Type 0
@@ -108,7 +109,7 @@ optional_read ms cs me ce mlaw claw sizes type value chunk positive e =
     let a = bind_ok (optional_parts value) _ chunk e in
     let found = optional_cut_found value a.0 a.1 in
     let m = bind_ok (me sizes flag_type (0 ∷ []) a.0.0) _ chunk a.2 in
-    let b = bind_ok (flags_in m.0) _ chunk m.2 in
+    let b = bind_ok (for_each flag_in m.0) _ chunk m.2 in
     let d = bind_ok (part_chunk ce type (blank_fill type) (count_set b.0) a.0.1) _ chunk b.2 in
     let whole : under_flags b.0 d.0 ≡ chunk = ok_is (under_flags b.0 d.0) chunk d.2 in
     let mask = mlaw sizes flag_type (0 ∷ []) a.0.0 m.0 positive m.1 in

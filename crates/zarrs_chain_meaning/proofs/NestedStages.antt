@@ -1,8 +1,10 @@
 -- What the stages of a chain round its array-to-bytes codec do, and the bytes of elements.
-use Rattle.std.proofs.Common.{◌≡◌, ℕ, zero, suc, ◌+◌, ◌*◌, ◌-◌, ◌<◌, ◌^◌, Option, Some, None, List, [], ◌∷◌, length, take, drop, get_or, reverse, map, Ok, ap, sym, subst, ◌∙◌}
+use Rattle.std.proofs.Common.{◌≡◌, ℕ, zero, suc, ◌+◌, ◌*◌, ◌-◌, ◌<◌, ◌^◌, nat_lt, if◌then◌else◌, Bool, true, false, Option, Some, None, List, [], ◌∷◌, length, take, drop, get_or, reverse, map, Ok, arith, refl, ap, sym, subst, ◌∙◌}
 use Rattle.std.specs.List.{All, concat, range_with_len}
 use Rattle.std.proofs.lemmas.List.Elements.{All-append, All-nil, All-cons, All-head, All-tail}
+use Rattle.std.proofs.lemmas.Bool.Decides.{nat_tests}
 use Rattle.zarrs_chunk.specs.Answer.{◌>>=◌}
+use Rattle.zarrs_chunk.specs.declared.codec_error.CodecError.TheVariants.{OutOfMemory}
 use Rattle.zarrs_data_type.specs.ElementType.{ElementType, fixed, text, bytes, optional, component_bytes}
 use Rattle.zarrs_data_type.specs.Element.{Element, plain, absent, present, Chunk}
 use Rattle.zarrs_data_type.specs.declared.endianness.Endianness.{Endianness}
@@ -17,9 +19,9 @@ use Rattle.zarrs_bytes.specs.ByteOrder.{bytes_of, bytes_in_order, spelled_chunk}
 use Rattle.zarrs_bytes.specs.BytesCodec.{spelling}
 use Rattle.zarrs_packbits.specs.Laws.{HasBytes}
 use Rattle.zarrs_chain_meaning.specs.ArrayStages.{arrays_map}
-use Rattle.zarrs_chain_meaning.specs.BytesStages.{outer_bytes, outer_representation, OuterWritten}
-use Rattle.zarrs_bytes.proofs.Coding.{ok}
-use Rattle.zarrs_chain_meaning.proofs.ArraySteps.{map_parts, next_answer}
+use Rattle.zarrs_chain_meaning.specs.BytesStages.{in_memory, outer_value, outer_bytes, outer_representation}
+use Rattle.zarrs_bytes.proofs.Coding.{ok, bind_ok}
+use Rattle.zarrs_chain_meaning.proofs.ArraySteps.{map_parts, next_answer, err, ok_is}
 use Rattle.zarrs_codec.specs.SampleLaws.{reversed_are_bytes}
 
 -- ---- bytes
@@ -75,24 +77,46 @@ all_selected chunk (place ∷ places) h = All-cons HasBytes (get_or chunk place 
 
 -- ---- bytes-to-bytes codecs
 
-pub outer_small : {B : Type 0} (f : BytesCodecs B) (codecs : List B) (below value : List ℕ) → OuterWritten f codecs below value → length below < 2 ^ 64
+memory_test : (test : Bool) (xs ys : List ℕ) → (if test then ok xs else err OutOfMemory) ≡ ok ys → (test ≡ true) × (ys ≡ xs)
+memory_test true xs ys e = (refl, sym (ok_is xs ys e))
+memory_test false xs ys e = absurd cc
+
+pub in_memory_so : (xs ys : List ℕ) → in_memory xs ≡ Ok ys → (length xs < 2 ^ 64) × (ys ≡ xs)
+in_memory_so xs ys e =
+    let t = memory_test (nat_lt (length xs) (2 ^ 64)) xs ys e in
+    (grind (arith, nat_tests, t.0), t.1)
+
+-- each codec's bytes are made of those below, and 64 bits count all of them
+abbrev pub OuterWritten : {B : Type 0} → BytesCodecs B → List B → List ℕ → List ℕ → Type 0
+OuterWritten f [] below value = (length below < 2 ^ 64) × (value ≡ below)
+OuterWritten f (codec ∷ codecs) below value =
+    (length below < 2 ^ 64) × OuterWritten f codecs (f.encoded_bytes codec below) value
+
+pub outer_written : {B : Type 0} (f : BytesCodecs B) (codecs : List B) (below value : List ℕ) → outer_value f codecs below ≡ Ok value → OuterWritten f codecs below value
+outer_written f [] below value e = in_memory_so below value e
+outer_written f (codec ∷ codecs) below value e =
+    let a = bind_ok (in_memory below) _ value e in
+    let b = in_memory_so below a.0 a.1 in
+    (b.0, outer_written f codecs (f.encoded_bytes codec below) value (subst (λ u. outer_value f codecs (f.encoded_bytes codec u) ≡ Ok value) b.1 a.2))
+
+outer_small : {B : Type 0} (f : BytesCodecs B) (codecs : List B) (below value : List ℕ) → OuterWritten f codecs below value → length below < 2 ^ 64
 outer_small f [] below value h = h.0
 outer_small f (codec ∷ codecs) below value h = h.0
 
--- what was written is opened again, and is as many bytes as was declared
-pub outer_opened : {B : Type 0} (f : BytesCodecs B) (codecs : List B) (r : BytesRepresentation) (below value : List ℕ) → IsLawful f → AreBytes below → KeepsTo r below → OuterWritten f codecs below value
+opened : {B : Type 0} (f : BytesCodecs B) (codecs : List B) (r : BytesRepresentation) (below value : List ℕ) → IsLawful f → AreBytes below → KeepsTo r below → OuterWritten f codecs below value
     → (outer_bytes f codecs r value ≡ Ok below) × KeepsTo (outer_representation f codecs r) value
-outer_opened f [] r below value lawful each keeps h = (ap ok h.1, subst (KeepsTo r) (sym h.1) keeps)
-outer_opened f (codec ∷ codecs) r below value lawful each keeps h =
+opened f [] r below value lawful each keeps h = (ap ok h.1, subst (KeepsTo r) (sym h.1) keeps)
+opened f (codec ∷ codecs) r below value lawful each keeps h =
     let above = f.encoded_bytes codec below in
     let is_value : IsValue below = record { each = each; small = h.0 } in
     let small = outer_small f codecs above value h.1 in
-    let rest = outer_opened f codecs (f.representation codec r) above value lawful (lawful.are_bytes codec below is_value) (lawful.kept codec r below is_value keeps small) h.1 in
+    let rest = opened f codecs (f.representation codec r) above value lawful (lawful.are_bytes codec below is_value) (lawful.kept codec r below is_value keeps small) h.1 in
     (next_answer (outer_bytes f codecs (f.representation codec r) value) above (f.decoded_bytes codec r) rest.0 ∙ lawful.decode_undoes codec r below is_value keeps small, rest.1)
 
-pub outer_once : {B : Type 0} (f : BytesCodecs B) (codecs : List B) (below value other : List ℕ) → OuterWritten f codecs below value → OuterWritten f codecs below other → value ≡ other
-outer_once f [] below value other h g = h.1 ∙ sym g.1
-outer_once f (codec ∷ codecs) below value other h g = outer_once f codecs (f.encoded_bytes codec below) value other h.1 g.1
+-- what was written is opened again, and is as many bytes as was declared
+pub outer_opened : {B : Type 0} (f : BytesCodecs B) (codecs : List B) (r : BytesRepresentation) (below value : List ℕ) → IsLawful f → AreBytes below → KeepsTo r below → outer_value f codecs below ≡ Ok value
+    → (outer_bytes f codecs r value ≡ Ok below) × KeepsTo (outer_representation f codecs r) value
+outer_opened f codecs r below value lawful each keeps e = opened f codecs r below value lawful each keeps (outer_written f codecs below value e)
 
 -- ---- array-to-array codecs
 

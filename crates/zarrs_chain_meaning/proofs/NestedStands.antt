@@ -13,11 +13,12 @@ use Rattle.zarrs_array_to_array.proofs.CoordinateMaps.{moved_back}
 use Rattle.zarrs_chain_meaning.specs.BytesStages.{outer_bytes}
 use Rattle.zarrs_chain_meaning.specs.vlen.Vlen.{offset_bytes, offsets_in_chunk, slices, offset_type, arranged, VlenStands}
 use Rattle.zarrs_chain_meaning.specs.Parts.{all_bytes, length_of, byte_type}
-use Rattle.zarrs_chain_meaning.specs.optional.Optional.{flag_of, present_of, flag_type, blank_fill, OptionalStands, OptionalStandsFor}
+use Rattle.zarrs_chain_meaning.specs.optional.Optional.{flag_of, present_of, flag_type, blank_fill, OptionalStands}
 use Rattle.zarrs_chain_meaning.specs.Meaning.{Measure, Standing, PartStands, StandsThrough}
 use Rattle.zarrs_vlen_v2.proofs.Rows.{front_same}
 use Rattle.zarrs_chain_meaning.proofs.ArraySteps.{ok_is}
 use Rattle.zarrs_chain_meaning.proofs.NestedStages.{arrays_are_map, row_positive}
+use Rattle.zarrs_chain_meaning.proofs.OptionalFor.{OptionalStandsFor}
 
 -- a value stands for at most one chunk
 abbrev pub StandsOnce : Standing → Type 0

@@ -10,13 +10,13 @@ use Rattle.zarrs_packbits.specs.BitStream.{chunk_stream}
 use Rattle.zarrs_packbits.specs.PackBitsCodec.{PackBitsWritten}
 use Rattle.zarrs_packbits.specs.PackBitsSettings.{PackBitsSettings}
 use Rattle.zarrs_packbits.specs.PaddingByte.{value_with}
-use Rattle.zarrs_chain_meaning.specs.BytesStages.{OuterWritten}
+use Rattle.zarrs_chain_meaning.specs.BytesStages.{outer_value}
 use Rattle.zarrs_chain_meaning.specs.vlen.Vlen.{chunk_offsets, offset_bytes, offset_elements, offset_type, VlenWritten, arranged}
 use Rattle.zarrs_chain_meaning.specs.Parts.{byte_elements, all_bytes, byte_type, part_length_bytes}
-use Rattle.zarrs_chain_meaning.specs.optional.Optional.{flag_of, present_of, optional_layout, flag_type, blank_fill, OptionalWritten, OptionalWrittenFor}
+use Rattle.zarrs_chain_meaning.specs.optional.Optional.{flag_of, present_of, optional_layout, flag_type, blank_fill, OptionalWritten}
 use Rattle.zarrs_chain_meaning.specs.Meaning.{Measure, Standing, PartWritten, WrittenThrough, Keeping}
 use Rattle.zarrs_chain_meaning.proofs.ArraySteps.{ok_is}
-use Rattle.zarrs_chain_meaning.proofs.NestedStages.{outer_once}
+use Rattle.zarrs_chain_meaning.proofs.OptionalFor.{OptionalWrittenFor}
 
 -- for a chunk at most one value is written
 abbrev pub WritesOnce : Standing → Type 0
@@ -61,4 +61,4 @@ through_once f arrays measure content outer one sizes type fill value other chun
     let second : content a.map_is.encoded type fill b.below (moved_chunk a.map_is chunk)
     = subst (λ (x : CoordinateMap). content x.encoded type fill b.below (moved_chunk x chunk)) (sym m) b.written in
     let below : a.below ≡ b.below = one a.map_is.encoded type fill a.below b.below (moved_chunk a.map_is chunk) a.written second in
-    outer_once f outer a.below value other a.around (subst (λ u. OuterWritten f outer u other) (sym below) b.around)
+    ok_is value other (sym a.around ∙ ap (outer_value f outer) below ∙ b.around)

@@ -20,7 +20,7 @@ use Rattle.zarrs_packbits.specs.Laws.{HasBytes}
 use Rattle.zarrs_chunk.proofs.Inside.{from_lt_test}
 use Rattle.zarrs_chain_meaning.specs.vlen.Vlen.{offsets_in_chunk, slices, chunk_offsets, offset_bytes, offset_elements, vlen_normal, offset_type, vlen_representation, VlenStands, VlenWritten}
 use Rattle.zarrs_chain_meaning.specs.Parts.{part_length_bytes, byte_elements, all_bytes, byte_type}
-use Rattle.zarrs_chain_meaning.specs.optional.Optional.{flag_of, present_of, optional_layout, optional_normal, flag_type, blank_fill, OptionalStandsFor, OptionalWrittenFor}
+use Rattle.zarrs_chain_meaning.specs.optional.Optional.{flag_of, present_of, optional_layout, optional_normal, flag_type, blank_fill}
 use Rattle.zarrs_chain_meaning.specs.Meaning.{Measure, Standing, PartStands, StandsThrough, PartWritten, WrittenThrough, Keeping}
 use Rattle.zarrs_chain_meaning.proofs.NestedFlags.{KeepsFlags, flags_stay}
 use Rattle.zarrs_chain_meaning.proofs.NestedForNormal.{IsStringKept, text_kept, bytes_kept, offsets_kept, all_kept, items_kept, flags_kept, present_kept}
@@ -28,6 +28,7 @@ use Rattle.zarrs_chain_meaning.proofs.NestedKept.{KeepsSize, offsets_have, items
 use Rattle.zarrs_chain_meaning.proofs.NestedNormal.{KeepsTypes, KeepsAbsent, kept_byte, all_kept_are, kept_elements, kept_selected}
 use Rattle.zarrs_chain_meaning.proofs.NestedRows.{length_again, index_small, offsets_again, offsets_rise, offsets_last, offsets_long, slices_again, items_again, items_long}
 use Rattle.zarrs_chain_meaning.proofs.NestedStages.{all_selected, outer_opened, arrays_are_map, row_positive}
+use Rattle.zarrs_chain_meaning.proofs.OptionalFor.{OptionalStandsFor, OptionalWrittenFor}
 
 -- what a chain writes stands for what is kept
 abbrev pub StandsKept : Standing → Standing → Keeping → Type 0

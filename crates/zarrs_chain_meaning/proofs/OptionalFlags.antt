@@ -20,9 +20,10 @@ use Rattle.zarrs_array_bytes.proofs.PresentLemmas.{marked, present_places-marked
 use Rattle.zarrs_array_bytes.proofs.ValidLemmas.{both_ok, then_ok}
 use Rattle.zarrs_bytes.proofs.Coding.{demand_ok, ok}
 use Rattle.zarrs_chunk.proofs.Inside.{lt_test}
-use Rattle.zarrs_chain_meaning.specs.optional.Optional.{flags_in, count_set, under_flags, flag_of, present_of, flag_type}
-use Rattle.zarrs_chain_meaning.specs.Parts.{byte_elements}
+use Rattle.zarrs_chain_meaning.specs.optional.Optional.{under_flags, flag_of, present_of, flag_type, flag_in}
+use Rattle.zarrs_chain_meaning.specs.Parts.{byte_elements, for_each}
 use Rattle.zarrs_chain_meaning.proofs.ArraySteps.{err}
+use Rattle.zarrs_chain_meaning.proofs.OptionalFor.{count_set}
 
 -- ---- flags of mask bytes
 
@@ -54,10 +55,10 @@ after_flag : (flag : Bool) (r s : Result (List Bool) CodecError) → r ≡ s →
 after_flag flag r s e = ap (λ (x : Result (List Bool) CodecError). x >>= (λ flags. ok (flag ∷ flags))) e
 
 -- the flags of mask bytes
-pub flags_read : (mask : List ℕ) → flags_in (byte_elements mask) ≡ flags_or_refusal (list_all (λ byte. nat_lt byte 2) mask) (set_in mask)
+pub flags_read : (mask : List ℕ) → for_each flag_in (byte_elements mask) ≡ flags_or_refusal (list_all (λ byte. nat_lt byte 2) mask) (set_in mask)
 flags_read [] = refl
-flags_read (zero ∷ mask) = after_flag false (flags_in (byte_elements mask)) (flags_or_refusal (list_all is_flag mask) (set_in mask)) (flags_read mask) ∙ one_more (list_all is_flag mask) false (set_in mask)
-flags_read (suc zero ∷ mask) = after_flag true (flags_in (byte_elements mask)) (flags_or_refusal (list_all is_flag mask) (set_in mask)) (flags_read mask) ∙ one_more (list_all is_flag mask) true (set_in mask)
+flags_read (zero ∷ mask) = after_flag false (for_each flag_in (byte_elements mask)) (flags_or_refusal (list_all is_flag mask) (set_in mask)) (flags_read mask) ∙ one_more (list_all is_flag mask) false (set_in mask)
+flags_read (suc zero ∷ mask) = after_flag true (for_each flag_in (byte_elements mask)) (flags_or_refusal (list_all is_flag mask) (set_in mask)) (flags_read mask) ∙ one_more (list_all is_flag mask) true (set_in mask)
 flags_read (suc (suc byte) ∷ mask) = sym (not_passed (is_flag (suc (suc byte))) (list_all is_flag mask) (set_in (suc (suc byte) ∷ mask)) (no_flag byte))
 
 count_marked : (mask : List ℕ) → count_set (set_in mask) ≡ length (marked mask)

@@ -7,7 +7,7 @@ use Rattle.zarrs_data_type.specs.Element.{Chunk}
 use Rattle.zarrs_codec.specs.declared.bytes_representation.BytesRepresentation.{BytesRepresentation}
 use Rattle.zarrs_bytes.specs.BytesCodec.{IsChunk}
 use Rattle.zarrs_chain_meaning.specs.Meaning.{Measure, Standing, Encoder, Decoder, Meaning}
-use Rattle.zarrs_chain_meaning.specs.optional.Optional.{optional_meaning, optional_representation, optional_value, optional_chunk, OptionalWrittenFor, OptionalStandsFor, flag_type}
+use Rattle.zarrs_chain_meaning.specs.optional.Optional.{optional_meaning, optional_representation, optional_value, optional_chunk, flag_type}
 use Rattle.zarrs_chain_meaning.proofs.NestedNormal.{optional_is, optional_twice, optional_absent}
 use Rattle.zarrs_chain_meaning.proofs.NestedStands as standing
 use Rattle.zarrs_chain_meaning.proofs.NestedWritten as writing
@@ -29,6 +29,7 @@ use Rattle.zarrs_chain_meaning.proofs.ArraySteps.{counted_so}
 use Rattle.zarrs_data_type.specs.FillValue.{fill_fits}
 use Rattle.zarrs_chain_meaning.proofs.ChainSteps.{optional_long}
 use Rattle.zarrs_chain_meaning.proofs.NestedRoom.{optional_fits, optional_room}
+use Rattle.zarrs_chain_meaning.proofs.OptionalFor.{OptionalStandsFor, OptionalWrittenFor}
 
 found_for : (mw cw : Standing) (me ce : Encoder) → Founds mw me → Founds cw ce → (sizes : List ℕ) (type : ElementType) (value : List ℕ) (chunk : Chunk) (mm cm : Measure) (fill : List ℕ) (r : BytesRepresentation) → All (λ size. 0 < size) sizes → IsChunk type (product sizes) chunk
     → optional_representation mm cm sizes type fill ≡ Ok r → optional_value me ce sizes type chunk ≡ Ok value → OptionalWrittenFor mw cw sizes type value chunk

@@ -27,7 +27,7 @@ use Rattle.zarrs_chain_meaning.specs.ArrayStages.{arrays_map}
 use Rattle.zarrs_chain_meaning.specs.BytesStages.{in_memory, outer_bytes}
 use Rattle.zarrs_chain_meaning.specs.Chain.{held_value, held_part}
 use Rattle.zarrs_chain_meaning.specs.Meaning.{Decoder, part_chunk, Encoder, part_value}
-use Rattle.zarrs_chain_meaning.specs.optional.Optional.{optional_parts, count_set, under_flags, flag_of, present_of, optional_layout, optional_value, flag_type, blank_fill, both_representations}
+use Rattle.zarrs_chain_meaning.specs.optional.Optional.{optional_parts, under_flags, flag_of, present_of, optional_layout, optional_value, flag_type, blank_fill, both_representations}
 use Rattle.zarrs_chain_meaning.specs.CodecMeaning.{chain_chunk, codec_chunk, chain_value, codec_value, chain_representation, codec_representation, meaning}
 use Rattle.zarrs_chain_meaning.specs.Parts.{byte_elements}
 use Rattle.zarrs_chain_meaning.specs.optional.OptionalParts.{optional_inner, elements_under, present_part}
@@ -36,6 +36,7 @@ use Rattle.zarrs_chain_meaning.proofs.ArraySteps.{ok_is, ok_no_err}
 use Rattle.zarrs_chain_meaning.proofs.ChainRelations.{held_value_is}
 use Rattle.zarrs_chain_meaning.proofs.ChainSteps.{held_chunk}
 use Rattle.zarrs_chain_meaning.proofs.OptionalFlags.{set_in, flags_or_refusal, flags_read, count_present, expansion_under, present_same, flag_elements, flags_valid, flags_bytes}
+use Rattle.zarrs_chain_meaning.proofs.OptionalFor.{count_set}
 
 -- ---- fill values
 

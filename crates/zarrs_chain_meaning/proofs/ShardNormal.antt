@@ -10,10 +10,10 @@ use Rattle.zarrs_bytes.proofs.Coding.{demand_ok, bind_ok}
 use Rattle.zarrs_bytes.specs.BytesCodec.{IsChunk}
 use Rattle.zarrs_chain_meaning.proofs.ArraySteps.{ok_is, counted_so}
 use Rattle.zarrs_chain_meaning.proofs.InnerChunks.{is_cut, inner_chunks_long, index_positive, inner_chunks_are, inner_chunks_kept}
-use Rattle.zarrs_chain_meaning.proofs.NestedFound.{Founds, in_memory_so, offsets_are, offsets_same}
+use Rattle.zarrs_chain_meaning.proofs.NestedFound.{Founds, offsets_are, offsets_same}
 use Rattle.zarrs_chain_meaning.proofs.NestedForNormal.{WrittenKept, KeptWritten}
 use Rattle.zarrs_chain_meaning.proofs.NestedNormal.{KeepsTypes, KeepsTwice, KeepsAbsent, kept_elements}
-use Rattle.zarrs_chain_meaning.proofs.NestedStages.{is_positive}
+use Rattle.zarrs_chain_meaning.proofs.NestedStages.{in_memory_so, is_positive}
 use Rattle.zarrs_chain_meaning.specs.Meaning.{Measure, Encoder, Standing, Keeping}
 use Rattle.zarrs_chain_meaning.specs.sharding.InnerChunks.{is_divided, grid, inner_chunk_count, inner_chunks_of}
 use Rattle.zarrs_chain_meaning.specs.sharding.Sharding.{index_shape, index_size, shard_bound, shard_representation, is_same_element, is_kept_as_fill, is_left_out, inner_value, inner_values, joined_values, index_numbers, first_offset, shard_layout, shard_value, InnerChunkWritten, InnerChunksWritten, ShardWritten}
@@ -110,7 +110,7 @@ kept_each inner keep t law shape type fill (inner_chunk ∷ inner_chunks) (part 
 shard_with : (shape : List ℕ) (at_end : Bool) (keep index_keep : Keeping) (measure : Measure) (inner index : Standing) (sizes : List ℕ) (type : ElementType) (fill value : List ℕ) (chunk other : Chunk) → (w : ShardWritten shape at_end keep index_keep measure inner index sizes type fill value chunk)
     → IsChunk type (product sizes) other → InnerChunksWritten keep inner shape type fill (inner_chunks_of shape sizes other) w.values → ShardWritten shape at_end keep index_keep measure inner index sizes type fill value other
 shard_with shape at_end keep index_keep measure inner index sizes type fill value chunk other w is inner_chunks = record {
-  cut = w.cut;
+  divided = w.divided;
   size = w.size;
   values = w.values;
   index_part = w.index_part;
@@ -129,7 +129,7 @@ pub shard_kept : (shape : List ℕ) (at_end : Bool) (keep index_keep : Keeping) 
 shard_kept shape at_end keep index_keep measure inner index types twice absents law sizes type fill value chunk w =
     shard_with shape at_end keep index_keep measure inner index sizes type fill value chunk (map (keep type) chunk) w (kept_elements keep types type (product sizes) chunk w.elements)
     (subst (λ (b : List Chunk). InnerChunksWritten keep inner shape type fill b w.values) (inner_chunks_kept shape sizes keep absents type chunk)
-    (each_kept inner keep twice law shape type fill (inner_chunks_of shape sizes chunk) w.values (inner_chunks_are shape sizes type chunk w.cut w.elements) w.inner_chunks))
+    (each_kept inner keep twice law shape type fill (inner_chunks_of shape sizes chunk) w.values (inner_chunks_are shape sizes type chunk w.divided w.elements) w.inner_chunks))
 
 -- a selected element is of the type where it is kept as one
 at_place : (keep : Keeping) → KeepsAbsent keep → (type : ElementType) (chunk : Chunk) (place : ℕ) → AreElements type chunk → IsElement type (keep type (get_or chunk place absent)) → IsElement type (get_or chunk place absent)
@@ -151,7 +151,7 @@ kept_shard shape at_end keep index_keep measure inner index twice absents law si
     let other = select chunk places in
     let is : IsChunk type (product sizes) other = record { count_is = sym (length-map other (keep type)) ∙ w.elements.count_is; each = selected_elements keep absents type chunk places each w.elements.each } in
     shard_with shape at_end keep index_keep measure inner index sizes type fill value (map (keep type) other) other w is
-    (kept_each inner keep twice law shape type fill (inner_chunks_of shape sizes other) w.values (inner_chunks_are shape sizes type other w.cut is)
+    (kept_each inner keep twice law shape type fill (inner_chunks_of shape sizes other) w.values (inner_chunks_are shape sizes type other w.divided is)
     (subst (λ (b : List Chunk). InnerChunksWritten keep inner shape type fill b w.values) (sym (inner_chunks_kept shape sizes keep absents type other)) w.inner_chunks))
 
 -- ---- what is answered is written
@@ -201,10 +201,10 @@ shard_founds shape at_end keep index_keep im measure inner index encode index_en
     let same = is_same_bytes (map (index_keep (offset_type true)) rows) rows in
     let k = bind_ok (demand same OffsetNotKept) _ value g.2 in
     let whole = in_memory_so (shard_layout at_end g.0 (joined_values b.0)) value k.2 in
-    let found = chunks_by keep inner encode i shape type fill (inner_chunks_of shape sizes chunk) b.0 p (inner_chunks_are shape sizes type chunk cut is) b.1 in
+    let found = chunks_by keep inner encode i shape type fill (inner_chunks_of shape sizes chunk) b.0 p (inner_chunks_are shape sizes type chunk taken.divided is) b.1 in
     let long : length rows ≡ product (index_shape shape sizes) = elements_long numbers ∙ numbers_long at b.0 ∙ ap (λ (n : ℕ). n * 2) (found.1 ∙ inner_chunks_long shape sizes chunk) ∙ sym (product_two (grid shape sizes)) in
     record {
-      cut = cut;
+      divided = taken.divided;
       size = a.0;
       values = b.0;
       index_part = g.0;

@@ -13,7 +13,7 @@ use Rattle.zarrs_chain_meaning.proofs.NestedRoom.{HasFill}
 use Rattle.zarrs_chain_meaning.proofs.NestedStages.{is_positive}
 use Rattle.zarrs_chain_meaning.specs.Meaning.{Measure, Decoder, Standing, Keeping}
 use Rattle.zarrs_chain_meaning.specs.sharding.InnerChunks.{grid, inner_chunk_count, inner_chunk_of, place_inside, inner_chunks_of, joined_inner_chunks, IsCut}
-use Rattle.zarrs_chain_meaning.specs.sharding.Sharding.{index_shape, index_size, Span, is_stored, spans_of, shard_representation, missing_chunk, shard_layout, index_part_of, spanned_bytes, inner_chunk_at, inner_chunks_at, shard_chunk, InnerChunkStands, InnerChunksStand, ShardStands}
+use Rattle.zarrs_chain_meaning.specs.sharding.Sharding.{index_shape, index_size, Span, is_stored, spans_of, shard_representation, shard_layout, index_part_of, spanned_bytes, inner_chunk_at, inner_chunks_at, shard_chunk, InnerChunkStands, InnerChunksStand, ShardStands}
 use Rattle.zarrs_chain_meaning.specs.vlen.Vlen.{offset_type, offset_bytes, offsets_in_chunk}
 use Rattle.zarrs_chunk.proofs.Inside.{from_le_test}
 use Rattle.zarrs_chunk.specs.Answer.{demand}
@@ -25,6 +25,7 @@ use Rattle.zarrs_data_type.specs.Element.{absent, Chunk, IsElement, AreElements,
 use Rattle.zarrs_data_type.specs.ElementType.{ElementType}
 use Rattle.zarrs_data_type.specs.FillValue.{fill_fits}
 use Rattle.zarrs_chain_meaning.proofs.ShardNormal.{shard_taken, product_two}
+use Rattle.zarrs_bytes.specs.PartialWrite.{filled_chunk}
 
 -- ---- what is answered stands
 
@@ -39,7 +40,7 @@ InnerChunkReads stored inner shape type fill value span inner_chunk = InnerChunk
 chunk_read : (inner : Standing) (decode : Decoder) → Reads inner decode → (stored : Bool) (shape : List ℕ) (type : ElementType) (fill value : List ℕ) (span : Span) (inner_chunk : Chunk) → All is_positive shape → fill_fits type fill ≡ true
     → inner_chunk_at stored decode shape type fill value span ≡ Ok inner_chunk → InnerChunkReads stored inner shape type fill value span inner_chunk
 chunk_read inner decode law false shape type fill value span inner_chunk p h e =
-    subst (InnerChunkReads false inner shape type fill value span) (ok_is (missing_chunk shape type fill) inner_chunk e)
+    subst (InnerChunkReads false inner shape type fill value span) (ok_is (filled_chunk shape type fill) inner_chunk e)
     (refl, record { count_is = length-replicate (product shape) (fill_element type fill); each = fill_chunk_is type fill (product shape) h })
 chunk_read inner decode law true shape type fill value span inner_chunk p h e =
     let a = bind_ok (demand (nat_le (span.0 + span.1) (length value)) InvalidByteRange) _ inner_chunk e in
@@ -109,7 +110,7 @@ shard_reads shape at_end keep im measure inner index decode index_decode p fills
     let is : IsChunk type (product sizes) chunk = subst (IsChunk type (product sizes)) joined (joined_are shape sizes type g.0 cut count read.are) in
     let again : inner_chunks_of shape sizes chunk ≡ g.0 = ap (inner_chunks_of shape sizes) (sym joined) ∙ inner_chunks_again shape sizes g.0 cut count (λ k l. (read.are k [] l).count_is) in (
       record {
-        cut = cut;
+        divided = taken.divided;
         size = a.0;
         index_part = part;
         others = split.0;

@@ -15,7 +15,7 @@ use Rattle.zarrs_chain_meaning.proofs.NestedRoom.{HasRoom, HasFill}
 use Rattle.zarrs_chain_meaning.proofs.NestedStages.{is_byte, is_positive}
 use Rattle.zarrs_chain_meaning.specs.Meaning.{Measure, Decoder, Standing, Keeping}
 use Rattle.zarrs_chain_meaning.specs.sharding.InnerChunks.{is_divided, grid, inner_chunk_count, inner_chunks_of, joined_inner_chunks}
-use Rattle.zarrs_chain_meaning.specs.sharding.Sharding.{index_shape, index_measured, fixed_size, index_size, spans_of, shard_bound, shard_representation, is_left_out, joined_values, index_numbers, first_offset, shard_layout, index_part_of, inner_chunks_at, shard_chunk, InnerChunkWritten, InnerChunksWritten, ShardWritten}
+use Rattle.zarrs_chain_meaning.specs.sharding.Sharding.{index_shape, fixed_size, index_size, spans_of, shard_bound, shard_representation, is_left_out, joined_values, index_numbers, first_offset, shard_layout, index_part_of, inner_chunks_at, shard_chunk, InnerChunkWritten, InnerChunksWritten, ShardWritten}
 use Rattle.zarrs_chain_meaning.specs.vlen.Vlen.{offset_type, offset_bytes, offset_elements, offsets_in_chunk}
 use Rattle.zarrs_chunk.specs.Answer.{demand, checked_u64}
 use Rattle.zarrs_chunk.specs.ChunkShape.{product}
@@ -101,8 +101,8 @@ pub shard_sized : (shape : List ℕ) (at_end : Bool) (keep index_keep : Keeping)
 shard_sized shape at_end keep index_keep im measure inner index p i d sizes type fill value chunk r positive each w e =
     let taken = shard_taken shape keep im measure sizes type fill r e in
     let numbers = index_numbers (first_offset at_end w.size) w.values in
-    let a = bind_ok (index_measured measure shape sizes) fixed_size taken.size taken.sized in
-    let m = d (index_shape shape sizes) (offset_type true) (offset_bytes true 0) w.index_part (offset_elements true numbers) (index_positive shape sizes positive w.cut) (offsets_have true numbers) w.index_written in
+    let a = bind_ok (measure (index_shape shape sizes) (offset_type true) (offset_bytes true 0)) fixed_size taken.size taken.sized in
+    let m = d (index_shape shape sizes) (offset_type true) (offset_bytes true 0) w.index_part (offset_elements true numbers) (index_positive shape sizes positive (is_cut shape sizes p w.divided)) (offsets_have true numbers) w.index_written in
     let long : length w.index_part ≡ taken.size = subst (λ (x : BytesRepresentation). KeepsTo x w.index_part) (ok_is m.size a.0 (sym m.measured ∙ a.1) ∙ fixed_is a.0 taken.size a.2) m.kept.keeps in
     let all = chunks_measured keep inner im i shape type fill taken.inner_size (inner_chunks_of shape sizes chunk) w.values p taken.inner_is (inner_chunks_have shape sizes chunk each) w.inner_chunks in
     let within : AreWithin taken.inner_size (inner_chunk_count shape sizes) (length (joined_values w.values)) = subst (λ (n : ℕ). AreWithin taken.inner_size n (length (joined_values w.values))) (inner_chunks_long shape sizes chunk) all.within in
@@ -140,8 +140,8 @@ shard_grows shape keep im measure p grows sizes others type fill r s positive al
     let two = shard_taken shape keep im measure others type fill s b in
     let inner : one.inner_size ≡ two.inner_size = ok_is one.inner_size two.inner_size (sym one.inner_is ∙ two.inner_is) in
     let count = count_grows shape sizes others p one.divided two.divided h in
-    let i = bind_ok (index_measured measure shape sizes) fixed_size one.size one.sized in
-    let j = bind_ok (index_measured measure shape others) fixed_size two.size two.sized in
+    let i = bind_ok (measure (index_shape shape sizes) (offset_type true) (offset_bytes true 0)) fixed_size one.size one.sized in
+    let j = bind_ok (measure (index_shape shape others) (offset_type true) (offset_bytes true 0)) fixed_size two.size two.sized in
     let more : product (index_shape shape sizes) ≤ product (index_shape shape others) =
     let x = product_two (grid shape sizes) in
     let y = product_two (grid shape others) in
@@ -169,8 +169,8 @@ shard_by_count shape keep im measure p by_count sizes others type fill r s posit
     let two = shard_taken shape keep im measure others type fill s b in
     let inner : one.inner_size ≡ two.inner_size = ok_is one.inner_size two.inner_size (sym one.inner_is ∙ two.inner_is) in
     let count = count_same shape sizes others p one.divided two.divided h in
-    let i = bind_ok (index_measured measure shape sizes) fixed_size one.size one.sized in
-    let j = bind_ok (index_measured measure shape others) fixed_size two.size two.sized in
+    let i = bind_ok (measure (index_shape shape sizes) (offset_type true) (offset_bytes true 0)) fixed_size one.size one.sized in
+    let j = bind_ok (measure (index_shape shape others) (offset_type true) (offset_bytes true 0)) fixed_size two.size two.sized in
     let as_many : product (index_shape shape sizes) ≡ product (index_shape shape others) =
     product_two (grid shape sizes) ∙ ap (λ (n : ℕ). n * 2) count ∙ sym (product_two (grid shape others)) in
     let index = by_count (index_shape shape sizes) (index_shape shape others) (offset_type true) (offset_bytes true 0) i.0 j.0 (index_positive shape sizes positive (is_cut shape sizes p one.divided)) (index_positive shape others also (is_cut shape others p two.divided)) as_many i.1 j.1 in

@@ -8,7 +8,7 @@ use Rattle.zarrs_array_bytes.specs.SameBytesLaws.{same_numbers}
 use Rattle.zarrs_bytes.proofs.Coding.{bind_ok, ok}
 use Rattle.zarrs_bytes.specs.BytesCodec.{IsChunk}
 use Rattle.zarrs_chain_meaning.proofs.ArraySteps.{ok_is}
-use Rattle.zarrs_chain_meaning.proofs.InnerChunks.{joined_again, index_positive, inner_chunks_are, inner_chunks_have, inner_chunks_kept}
+use Rattle.zarrs_chain_meaning.proofs.InnerChunks.{is_cut, joined_again, index_positive, inner_chunks_are, inner_chunks_have, inner_chunks_kept}
 use Rattle.zarrs_chain_meaning.proofs.NestedDecode.{Decodes}
 use Rattle.zarrs_chain_meaning.proofs.NestedEncode.{Encodes, memory_so, same_bytes}
 use Rattle.zarrs_chain_meaning.proofs.NestedKept.{WritesMeasured, offsets_have}
@@ -22,7 +22,7 @@ use Rattle.zarrs_chain_meaning.specs.BytesStages.{in_memory}
 use Rattle.zarrs_chain_meaning.proofs.NestedStages.{is_positive}
 use Rattle.zarrs_chain_meaning.specs.Meaning.{Measure, Encoder, Decoder, Standing, Keeping}
 use Rattle.zarrs_chain_meaning.specs.sharding.InnerChunks.{inner_chunks_of, joined_inner_chunks}
-use Rattle.zarrs_chain_meaning.specs.sharding.Sharding.{index_shape, index_measured, fixed_size, index_size, missing, Span, is_stored, spans_of, is_same_element, is_kept_as_fill, is_left_out, missing_chunk, inner_value, inner_values, joined_values, index_numbers, first_offset, shard_layout, shard_value, index_part_of, spanned_bytes, inner_chunk_at, inner_chunks_at, shard_chunk, InnerChunkStands, InnerChunksStand, ShardStands, InnerChunkWritten, InnerChunksWritten, ShardWritten}
+use Rattle.zarrs_chain_meaning.specs.sharding.Sharding.{index_shape, fixed_size, index_size, missing, Span, is_stored, spans_of, is_same_element, is_kept_as_fill, is_left_out, inner_value, inner_values, joined_values, index_numbers, first_offset, shard_layout, shard_value, index_part_of, spanned_bytes, inner_chunk_at, inner_chunks_at, shard_chunk, InnerChunkStands, InnerChunksStand, ShardStands, InnerChunkWritten, InnerChunksWritten, ShardWritten}
 use Rattle.zarrs_chain_meaning.specs.vlen.Vlen.{offset_type, offset_bytes, offset_of, offset_elements, offsets_in_chunk, is_same_bytes}
 use Rattle.zarrs_chunk.proofs.Inside.{le_test, lt_test}
 use Rattle.zarrs_chunk.specs.ChunkShape.{product}
@@ -33,6 +33,7 @@ use Rattle.zarrs_codec.specs.declared.bytes_representation.BytesRepresentation.T
 use Rattle.zarrs_data_type.specs.Element.{Element, plain, absent, present, Chunk, fill_element}
 use Rattle.zarrs_data_type.specs.ElementType.{ElementType}
 use Rattle.zarrs_packbits.specs.Laws.{HasBytes}
+use Rattle.zarrs_bytes.specs.PartialWrite.{filled_chunk}
 
 -- ---- a value stands for one chunk
 
@@ -62,12 +63,12 @@ shard_once shape at_end measure inner index p i d sizes type fill value chunk ot
     let size : a.size ≡ b.size = ok_is a.size b.size (sym a.sized ∙ b.sized) in
     let part : a.index_part ≡ b.index_part = layout_once at_end a.index_part a.others b.index_part b.others (a.index_long ∙ size ∙ sym b.index_long) (sym a.parts ∙ b.parts) in
     let rows : a.rows ≡ b.rows =
-    d (index_shape shape sizes) (offset_type true) (offset_bytes true 0) a.index_part a.rows b.rows (index_positive shape sizes positive a.cut) a.index_stands
+    d (index_shape shape sizes) (offset_type true) (offset_bytes true 0) a.index_part a.rows b.rows (index_positive shape sizes positive (is_cut shape sizes p a.divided)) a.index_stands
     (subst (λ (x : List ℕ). index (index_shape shape sizes) (offset_type true) (offset_bytes true 0) x b.rows) (sym part) b.index_stands) in
     let inner_chunks : inner_chunks_of shape sizes chunk ≡ inner_chunks_of shape sizes other =
     chunks_once inner i shape type fill value (spans_of (offsets_in_chunk true a.rows)) (inner_chunks_of shape sizes chunk) (inner_chunks_of shape sizes other) p a.inner_chunks
     (subst (λ (x : Chunk). InnerChunksStand inner shape type fill value (spans_of (offsets_in_chunk true x)) (inner_chunks_of shape sizes other)) (sym rows) b.inner_chunks) in
-    sym (joined_again shape sizes chunk a.cut a.elements.count_is) ∙ ap (joined_inner_chunks shape sizes) inner_chunks ∙ joined_again shape sizes other b.cut b.elements.count_is
+    sym (joined_again shape sizes chunk (is_cut shape sizes p a.divided) a.elements.count_is) ∙ ap (joined_inner_chunks shape sizes) inner_chunks ∙ joined_again shape sizes other (is_cut shape sizes p b.divided) b.elements.count_is
 
 -- ---- for a chunk one value is written
 
@@ -175,9 +176,9 @@ shard_decodes shape at_end measure inner index decode index_decode p i d sizes t
     chunk_steps shape at_end measure decode index_decode sizes type fill value s.size s.index_part s.rows (inner_chunks_of shape sizes chunk) s.sized
     (le_test s.size (length value) enough)
     (ap (index_part_of at_end s.size) s.parts ∙ found.1)
-    (d (index_shape shape sizes) (offset_type true) (offset_bytes true 0) s.index_part s.rows (index_positive shape sizes positive s.cut) s.index_stands)
+    (d (index_shape shape sizes) (offset_type true) (offset_bytes true 0) s.index_part s.rows (index_positive shape sizes positive (is_cut shape sizes p s.divided)) s.index_stands)
     (chunks_found inner decode i shape type fill value (spans_of (offsets_in_chunk true s.rows)) (inner_chunks_of shape sizes chunk) p s.inner_chunks)
-    ∙ ap (λ (c : Chunk). ok c) (joined_again shape sizes chunk s.cut s.elements.count_is)
+    ∙ ap (λ (c : Chunk). ok c) (joined_again shape sizes chunk (is_cut shape sizes p s.divided) s.elements.count_is)
 
 -- ---- what is written stands for the normal form
 
@@ -255,7 +256,7 @@ chunks_stand keep write stand law shape type fill value front tail at (inner_chu
       chunks_stand keep write stand law shape type fill value front tail at inner_chunks parts p (All-tail (IsChunk type (product shape)) inner_chunk inner_chunks are) (All-tail (All HasBytes) inner_chunk inner_chunks have) f v l w.1,
     )
   where
-    left : (left_out : Bool) → is_left_out keep type fill inner_chunk ≡ left_out → IsChunk type (product shape) inner_chunk → InnerChunkWritten left_out write shape type fill inner_chunk None → map (keep type) inner_chunk ≡ missing_chunk shape type fill
+    left : (left_out : Bool) → is_left_out keep type fill inner_chunk ≡ left_out → IsChunk type (product shape) inner_chunk → InnerChunkWritten left_out write shape type fill inner_chunk None → map (keep type) inner_chunk ≡ filled_chunk shape type fill
     left true e is w = left_out_kept keep type fill inner_chunk e ∙ ap (λ (n : ℕ). replicate n (fill_element type fill)) is.count_is
     left false e is w = absurd w
 chunks_stand keep write stand law shape type fill value front tail at (inner_chunk ∷ inner_chunks) (Some part ∷ parts) p are have f v l w =
@@ -287,7 +288,7 @@ fixed_so UnboundedSize size part e k = absurd cc
 pub index_is_long : (measure : Measure) (index : Standing) → WritesMeasured index measure → (shape sizes : List ℕ) (size : ℕ) (part : List ℕ) (numbers : List ℕ) → All is_positive (index_shape shape sizes) → index_size measure shape sizes ≡ Ok size
     → index (index_shape shape sizes) (offset_type true) (offset_bytes true 0) part (offset_elements true numbers) → length part ≡ size
 index_is_long measure index law shape sizes size part numbers p e w =
-    let r = bind_ok (index_measured measure shape sizes) fixed_size size e in
+    let r = bind_ok (measure (index_shape shape sizes) (offset_type true) (offset_bytes true 0)) fixed_size size e in
     let m = law (index_shape shape sizes) (offset_type true) (offset_bytes true 0) part (offset_elements true numbers) p (offsets_have true numbers) w in
     fixed_so r.0 size part r.2 (subst (λ (x : BytesRepresentation). KeepsTo x part) (ok_is m.size r.0 (sym m.measured ∙ r.1)) m.kept.keeps)
 
@@ -312,16 +313,16 @@ pub shard_stands : (shape : List ℕ) (at_end : Bool) (keep index_keep : Keeping
 shard_stands shape at_end keep index_keep measure iw is dw ds p types absents i d measured sizes type fill value chunk positive each w =
     let numbers = index_numbers (first_offset at_end w.size) w.values in
     let rows = offset_elements true numbers in
-    let inside = index_positive shape sizes positive w.cut in
+    let inside = index_positive shape sizes positive (is_cut shape sizes p w.divided) in
     let long : length w.index_part ≡ w.size = index_is_long measure dw measured shape sizes w.size w.index_part numbers inside w.sized w.index_written in
     let at = laid at_end w.size w.index_part (joined_values w.values) value long w.parts in
     let found : ds (index_shape shape sizes) (offset_type true) (offset_bytes true 0) w.index_part rows =
     subst (ds (index_shape shape sizes) (offset_type true) (offset_bytes true 0) w.index_part) w.kept
     (d (index_shape shape sizes) (offset_type true) (offset_bytes true 0) w.index_part rows inside (offsets_have true numbers) w.index_written) in
     let stand : InnerChunksStand is shape type fill value (spans_of numbers) (map (map (keep type)) (inner_chunks_of shape sizes chunk)) =
-    chunks_stand keep iw is i shape type fill value at.front at.tail (first_offset at_end w.size) (inner_chunks_of shape sizes chunk) w.values p (inner_chunks_are shape sizes type chunk w.cut w.elements) (inner_chunks_have shape sizes chunk each) at.long at.is w.counted w.inner_chunks in
+    chunks_stand keep iw is i shape type fill value at.front at.tail (first_offset at_end w.size) (inner_chunks_of shape sizes chunk) w.values p (inner_chunks_are shape sizes type chunk w.divided w.elements) (inner_chunks_have shape sizes chunk each) at.long at.is w.counted w.inner_chunks in
     record {
-      cut = w.cut;
+      divided = w.divided;
       size = w.size;
       index_part = w.index_part;
       others = joined_values w.values;

@@ -28,9 +28,3 @@ outer_bytes f (codec ∷ codecs) r value = do
 abbrev pub outer_representation : {B : Type 0} → BytesCodecs B → List B → BytesRepresentation → BytesRepresentation
 outer_representation f [] r = r
 outer_representation f (codec ∷ codecs) r = outer_representation f codecs (f.representation codec r)
-
--- each codec's bytes are made of those below, and 64 bits count all of them
-abbrev pub OuterWritten : {B : Type 0} → BytesCodecs B → List B → List ℕ → List ℕ → Type 0
-OuterWritten f [] below value = (length below < 2 ^ 64) × (value ≡ below)
-OuterWritten f (codec ∷ codecs) below value =
-    (length below < 2 ^ 64) × OuterWritten f codecs (f.encoded_bytes codec below) value

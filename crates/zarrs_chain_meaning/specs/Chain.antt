@@ -1,6 +1,6 @@
 -- What a chain's calls answer.
 -- Source: zarrs, `PartialDecoderCapability`.
-use Rattle.std.specs.Prelude.{ℕ, zero, suc, ◌&&◌, List, [], ◌∷◌, Option, None, Some, Result, Ok}
+use Rattle.std.specs.Prelude.{ℕ, zero, suc, ◌&&◌, Bool, List, [], ◌∷◌, Option, None, Some, is_some, Result, Ok}
 use Rattle.std.specs.List.{list_all}
 use Rattle.zarrs_chunk.specs.Answer.{◌>>=◌, seen}
 use Rattle.zarrs_chunk.specs.ChunkShape.{product}
@@ -17,13 +17,13 @@ use Rattle.zarrs_chain_meaning.specs.CodecFacts.{facts}
 use Rattle.zarrs_chain_meaning.specs.PlainChain.{PlainCodec, PlainChain}
 use Rattle.zarrs_chain_meaning.specs.ArrayStages.{arrays_map}
 use Rattle.zarrs_chain_meaning.specs.Meaning.{Decoder}
-use Rattle.zarrs_chain_meaning.specs.CodecMeaning.{codec_chunk, codec_value, chain_value, codec_representation, chain_representation}
+use Rattle.zarrs_chain_meaning.specs.CodecMeaning.{meaning, chain_meaning, codec_chunk, codec_value, chain_value, codec_representation}
 
 -- the sizes of the chunk that a chain's array-to-bytes codec gets, and how many bytes it makes of it; or the first error
 abbrev pub taken_form : {B : Type 0} → BytesCodecs B → PlainChain B → List ℕ → ElementType → List ℕ → Result (List ℕ × BytesRepresentation) CodecError
 taken_form f chain sizes type fill = do
   encoded ← seen (λ m. m.encoded) (arrays_map type chain.array_to_array sizes)
-  r ← codec_representation f chain.array_to_bytes encoded type fill
+  r ← (meaning chain.array_to_bytes).representation f encoded type fill
   Ok (encoded, r)
 
 -- the value that an array-to-bytes codec writes of the chunk that a container holds, or the first error: its representation, the container, the content
@@ -42,7 +42,7 @@ taken_chunk f codec sizes type fill value = do
 -- the value of the chunk that a container holds, or the first error: the chain's representation, the container, the content
 abbrev pub held_value : {B : Type 0} → BytesCodecs B → PlainChain B → List ℕ → ElementType → List ℕ → Held → Result (List ℕ) CodecError
 held_value f chain sizes type fill held = do
-  _ ← chain_representation f chain sizes type fill
+  _ ← (chain_meaning chain).representation f sizes type fill
   _ ← validity type (product sizes) held
   chain_value f chain sizes type fill (elements type (product sizes) held)
 
@@ -56,13 +56,17 @@ abbrev pub held_part : {B : Type 0} → BytesCodecs B → PlainChain B → ℕ �
 held_part f chain zero type fill held = Ok []
 held_part f chain (suc count) type fill held = held_value f chain (suc count ∷ []) type fill held
 
+-- all that can be read in part, or nothing of it
+abbrev pub reads_all_if : Bool → PartialDecoderCapability
+reads_all_if test = record { partial_read = test; partial_decode = test }
+
 -- what an array-to-bytes codec reads in part: `bytes`, `packbits`, a plain `vlen` and `sharding_indexed` all, any other nothing
 abbrev pub codec_reads : {B : Type 0} → PlainCodec B → PartialDecoderCapability
-codec_reads codec = (facts codec).reads
+codec_reads codec = reads_all_if (facts codec).reads
 
 -- what it writes in part: `bytes` alone does
 abbrev pub codec_writes : {B : Type 0} → PlainCodec B → PartialEncoderCapability
-codec_writes codec = (facts codec).writes
+codec_writes codec = record { partial_encode = is_some (facts codec).order }
 
 -- what all bytes-to-bytes codecs read in part
 abbrev pub outer_reads : {B : Type 0} → (B → PartialDecoderCapability) → List B → PartialDecoderCapability

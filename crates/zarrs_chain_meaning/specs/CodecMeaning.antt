@@ -1,7 +1,7 @@
 -- What each array-to-bytes codec means, by one recursion, and what that says of a codec and of a chain.
 use Rattle.std.specs.Prelude.{Ok, map, Option}
 use Rattle.zarrs_bytes.specs.BytesCodec.{bytes_length, BytesStands, BytesWritten, spelling, bytes_chunk}
-use Rattle.zarrs_chain_meaning.specs.Meaning.{Measure, Encoder, Decoder, Standing, Keeping, Meaning, through}
+use Rattle.zarrs_chain_meaning.specs.Meaning.{Measure, Encoder, Decoder, Standing, Keeping, Meaning, leaf_meaning, through}
 use Rattle.zarrs_chain_meaning.specs.PlainChain.{PlainCodec, bytes_codec, packbits_codec, vlen_v2_codec, vlen_codec, optional_codec, sharding_codec, PlainChain}
 use Rattle.zarrs_chain_meaning.specs.optional.Optional.{optional_meaning}
 use Rattle.zarrs_chain_meaning.specs.sharding.Sharding.{shard_meaning}
@@ -12,37 +12,25 @@ use Rattle.zarrs_codec.specs.BytesToBytesCodec.{BytesCodecs}
 use Rattle.zarrs_codec.specs.declared.bytes_representation.BytesRepresentation.TheVariants.{FixedSize}
 use Rattle.zarrs_data_type.specs.Element.{Chunk}
 use Rattle.zarrs_data_type.specs.ElementType.{ElementType}
-use Rattle.zarrs_data_type.specs.Form.{form_of}
 use Rattle.zarrs_data_type.specs.declared.endianness.Endianness.{Endianness}
 use Rattle.zarrs_packbits.specs.BitStream.{chunk_stream}
 use Rattle.zarrs_packbits.specs.NormalForm as packbits
 use Rattle.zarrs_packbits.specs.PackBitsCodec.{PackBitsStands, PackBitsWritten, packbits_chunk}
-use Rattle.zarrs_packbits.specs.PackBitsSettings.{packbits_length, PackBitsSettings, packed_layout}
-use Rattle.zarrs_packbits.specs.PaddingByte.{value_with}
+use Rattle.zarrs_packbits.specs.PackBitsSettings.{PackBitsSettings, packed_layout}
+use Rattle.zarrs_packbits.specs.PaddingByte.{value_len, value_with}
 
 -- what `bytes` means
 abbrev pub bytes_meaning : {B : Type 0} → Option Endianness → Meaning B
-bytes_meaning order = record {
-  Mapped = Unit {0};
-  normal = λ type element. element;
-  representation = λ f sizes type fill. seen FixedSize (bytes_length order (form_of sizes type fill));
-  value = λ f sizes type fill chunk. Ok (spelling order type chunk);
-  chunk = λ f sizes type fill value. bytes_chunk order (form_of sizes type fill) value;
-  Stands = λ f sizes type fill value chunk. BytesStands order (form_of sizes type fill) value chunk;
-  Written = λ f sizes type fill value chunk. BytesWritten order (form_of sizes type fill) value chunk;
-}
+bytes_meaning order =
+    leaf_meaning (λ type element. element) (λ form. seen FixedSize (bytes_length order form)) (λ form chunk. Ok (spelling order form.type chunk))
+    (bytes_chunk order) (BytesStands order) (BytesWritten order)
 
 -- what `packbits` means
 abbrev pub packbits_meaning : {B : Type 0} → PackBitsSettings → Meaning B
-packbits_meaning settings = record {
-  Mapped = Unit {0};
-  normal = packbits.normal_element settings;
-  representation = λ f sizes type fill. seen FixedSize (packbits_length settings (form_of sizes type fill));
-  value = λ f sizes type fill chunk. packed_layout settings (form_of sizes type fill) >>= λ l. Ok (value_with l (chunk_stream l chunk));
-  chunk = λ f sizes type fill value. packbits_chunk settings (form_of sizes type fill) value;
-  Stands = λ f sizes type fill value chunk. PackBitsStands settings (form_of sizes type fill) value chunk;
-  Written = λ f sizes type fill value chunk. PackBitsWritten settings (form_of sizes type fill) value chunk;
-}
+packbits_meaning settings =
+    leaf_meaning (packbits.normal_element settings) (λ form. seen FixedSize (seen value_len (packed_layout settings form)))
+    (λ form chunk. packed_layout settings form >>= λ l. Ok (value_with l (chunk_stream l chunk)))
+    (packbits_chunk settings) (PackBitsStands settings) (PackBitsWritten settings)
 
 -- what an array-to-bytes codec means: the one definition that goes by all of them
 unfoldable pub meaning : {B : Type 0} → PlainCodec B → Meaning B
@@ -69,7 +57,7 @@ codec_normal_element codec = (meaning codec).normal
 
 -- The normal form of a chunk: each element as the codec keeps it.
 abbrev pub normal_form : {B : Type 0} → PlainCodec B → ElementType → Chunk → Chunk
-normal_form codec type chunk = map (codec_normal_element codec type) chunk
+normal_form codec type chunk = map ((meaning codec).normal type) chunk
 
 -- how many bytes an array-to-bytes codec makes of a chunk of these sizes, this type and this fill value, or the first error
 abbrev pub codec_representation : {B : Type 0} → BytesCodecs B → PlainCodec B → Measure

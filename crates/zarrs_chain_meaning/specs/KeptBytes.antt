@@ -1,9 +1,9 @@
 -- Codecs that hand on what they are given, as it is: no byte is changed, moved or copied.
-use Rattle.std.specs.Prelude.{◌≡◌, Bool, true, false, List, [], Option, Some, None, Result, IfOk, is_none, map}
+use Rattle.std.specs.Prelude.{◌≡◌, Bool, true, false, List, [], Result, IfOk, is_none, map}
 use Rattle.std.specs.List.{list_all}
+use Rattle.std.specs.Option.{option_map_or}
 use Rattle.zarrs_chunk.specs.declared.codec_error.CodecError.{CodecError}
 use Rattle.zarrs_data_type.specs.ElementType.{ElementType}
-use Rattle.zarrs_data_type.specs.declared.endianness.Endianness.{Endianness}
 use Rattle.zarrs_array_bytes.specs.Held.{Held}
 use Rattle.zarrs_array_to_array.specs.ArrayToArrayCodec.{ArrayMapping, transpose}
 use Rattle.zarrs_array_to_array.specs.Mapping.{mapping_of}
@@ -21,14 +21,9 @@ hands_on codec = true
 abbrev pub HandsOn : List ArrayToArrayCodec → Held → Result Held CodecError → Type 0
 HandsOn codecs held result = list_all hands_on (map mapping_of codecs) ≡ true → IfOk result (λ moved. moved ≡ held)
 
--- `bytes` in this order leaves all bytes of elements of this type in their places; no order is that of another codec
-abbrev pub order_keeps_bytes : Option (Option Endianness) → ElementType → Bool
-order_keeps_bytes (Some order) type = is_none (turn_size order type)
-order_keeps_bytes None type = false
-
 -- the codec is `bytes`, and leaves all bytes of elements of this type in their places
 abbrev pub codec_keeps_bytes : {B : Type 0} → PlainCodec B → ElementType → Bool
-codec_keeps_bytes codec type = order_keeps_bytes (facts codec).order type
+codec_keeps_bytes codec type = option_map_or (λ order. is_none (turn_size order type)) (facts codec).order false
 
 -- a chain changes no byte of a chunk and moves none: its array-to-array codecs hand on what they are given, its codec is `bytes` that leaves all bytes in their places, and it has no bytes-to-bytes codecs
 pub record KeepsBytes {B : Type 0} (chain : PlainChain B) (type : ElementType) : Type 0 where

@@ -10,12 +10,12 @@ use Rattle.zarrs_array_to_array.specs.ArrayToArrayCodec.{IsMapping}
 use Rattle.zarrs_bytes.specs.BytesCodec.{IsChunk}
 use Rattle.zarrs_packbits.specs.Laws.{HasBytes}
 use Rattle.zarrs_chain_meaning.specs.PlainChain.{PlainCodec, PlainChain}
-use Rattle.zarrs_chain_meaning.specs.CodecMeaning.{HasMappings, chain_chunk, chain_value, normal_form, chain_representation, ChainStands, ChainWritten}
+use Rattle.zarrs_chain_meaning.specs.CodecMeaning.{meaning, chain_chunk, chain_value, normal_form, chain_representation, ChainStands, ChainWritten}
 
 -- a chain whose array-to-array codecs, and those of all chains inside, are what their types hold to
 pub record IsChainOfMappings {B : Type 0} (chain : PlainChain B) : Type 0 where
   pub mappings : All IsMapping chain.array_to_array
-  pub inner_mappings : HasMappings chain.array_to_bytes
+  pub inner_mappings : (meaning chain.array_to_bytes).Mapped
 
 -- What is written for a chunk stands for its normal form.
 abbrev pub ChainWrittenStands : {B : Type 0} → BytesCodecs B → Type 0

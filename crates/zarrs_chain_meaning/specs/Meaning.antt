@@ -4,7 +4,7 @@ use Rattle.zarrs_array_bytes.specs.Validity.{sizes_fit}
 use Rattle.zarrs_array_to_array.specs.ArrayToArrayCodec.{ArrayMapping, IsMapping}
 use Rattle.zarrs_bytes.specs.BytesCodec.{IsChunk}
 use Rattle.zarrs_chain_meaning.specs.ArrayStages.{arrays_map}
-use Rattle.zarrs_chain_meaning.specs.BytesStages.{outer_representation, outer_bytes, OuterWritten, outer_value}
+use Rattle.zarrs_chain_meaning.specs.BytesStages.{outer_representation, outer_bytes, outer_value}
 use Rattle.zarrs_chunk.specs.Answer.{◌>>=◌}
 use Rattle.zarrs_chunk.specs.ChunkShape.{product}
 use Rattle.zarrs_chunk.specs.declared.codec_error.CodecError.{CodecError}
@@ -13,6 +13,7 @@ use Rattle.zarrs_codec.specs.CoordinateMap.{CoordinateMap, moved_chunk, inverse_
 use Rattle.zarrs_codec.specs.declared.bytes_representation.BytesRepresentation.{BytesRepresentation}
 use Rattle.zarrs_data_type.specs.Element.{Element, Chunk}
 use Rattle.zarrs_data_type.specs.ElementType.{ElementType}
+use Rattle.zarrs_data_type.specs.Form.{Form, form_of}
 
 -- what says how many bytes a chunk of these sizes, this type and this fill value has, or the first cause of an error
 abbrev pub Measure : Type 0
@@ -45,6 +46,18 @@ pub record Meaning (B : Type 0) : Type 1 where
   pub Written : BytesCodecs B → Standing
 
 -- ---- rows
+
+-- what a codec means that has no chain inside, by its words on chunks of a form: what it keeps of an element, its size, its value, the chunk of a value, what stands and what is written
+abbrev pub leaf_meaning : {B : Type 0} → Keeping → (Form → Result BytesRepresentation CodecError) → (Form → Chunk → Result (List ℕ) CodecError) → (Form → List ℕ → Result Chunk CodecError) → (stand write : Form → List ℕ → Chunk → Type 0) → Meaning B
+leaf_meaning keep measure encode decode stand write = record {
+  Mapped = Unit {0};
+  normal = keep;
+  representation = λ f sizes type fill. measure (form_of sizes type fill);
+  value = λ f sizes type fill. encode (form_of sizes type fill);
+  chunk = λ f sizes type fill. decode (form_of sizes type fill);
+  Stands = λ f sizes type fill. stand (form_of sizes type fill);
+  Written = λ f sizes type fill. write (form_of sizes type fill);
+}
 
 -- nothing is written of no elements
 abbrev pub part_value : Encoder → ElementType → List ℕ → Chunk → Result (List ℕ) CodecError
@@ -114,7 +127,7 @@ pub record WrittenThrough {B : Type 0} (f : BytesCodecs B) (arrays : List ArrayM
   pub countable : sizes_fit type (product sizes) ≡ Ok tt
   pub elements : IsChunk type (product sizes) chunk
   pub written : content map_is.encoded type fill below (moved_chunk map_is chunk)
-  pub around : OuterWritten f outer below value
+  pub around : outer_value f outer below ≡ Ok value
 
 -- what a chain means, whose array-to-bytes codec means this
 abbrev pub through : {B : Type 0} → List ArrayMapping → Meaning B → List B → Meaning B

@@ -1,10 +1,20 @@
 -- Lengths, bytes and the elements that are bytes, as codecs with chains inside share them.
 use Rattle.std.specs.Int.{w64, to_le_bytes, from_le_bytes}
 use Rattle.std.specs.List.{flat_map}
-use Rattle.std.specs.Prelude.{ℕ, false, List, [], ◌∷◌, map, length}
+use Rattle.std.specs.Prelude.{ℕ, false, List, [], ◌∷◌, map, length, Result, Ok}
 use Rattle.zarrs_bytes.specs.ByteOrder.{bytes_of}
+use Rattle.zarrs_chunk.specs.Answer.{◌>>=◌}
+use Rattle.zarrs_chunk.specs.declared.codec_error.CodecError.{CodecError}
 use Rattle.zarrs_data_type.specs.Element.{Element, plain, Chunk}
 use Rattle.zarrs_data_type.specs.ElementType.{ElementType, fixed}
+
+-- what each item gives, in order, or the first error
+abbrev pub for_each : {A T : Type 0} → (A → Result T CodecError) → List A → Result (List T) CodecError
+for_each give [] = Ok []
+for_each give (item ∷ items) = do
+  given ← give item
+  rest ← for_each give items
+  Ok (given ∷ rest)
 
 -- single bytes
 abbrev pub byte_type : ElementType

@@ -9,13 +9,11 @@ use Rattle.zarrs_array_bytes.specs.Validity.{validity}
 use Rattle.zarrs_codec.specs.declared.capabilities.PartialDecoderCapability.{PartialDecoderCapability}
 use Rattle.zarrs_array_to_array.specs.ArrayToArrayCodec.{ArrayMapping}
 use Rattle.zarrs_codec_chain.specs.CachePlace.{array_reads, codecs_read, last_without, greater, cache_place}
-use Rattle.zarrs_chain_meaning.specs.Chain.{codec_reads}
-use Rattle.zarrs_chain_meaning.specs.CodecFacts.{reads_all_if}
+use Rattle.zarrs_chain_meaning.specs.Chain.{codec_reads, reads_all_if}
 use Rattle.zarrs_codec_chain.specs.ChunkRead.{asks_in_part}
 use Rattle.zarrs_codec_chain.specs.CacheTight.{CacheIsTight}
 use Rattle.zarrs_codec_chain.specs.ChunkSource.{IsSizeOf, undecoded_codecs, bytes_stage, cache_fits, cache_stage, held_by, is_cache, source_of, stage_at, stage_by, stage_fits}
 use Rattle.zarrs_chain_meaning.specs.PlainChain.{PlainCodec, PlainChain}
-use Rattle.zarrs_codec_chain.proofs.LawfulPart.{part_laws}
 use Rattle.zarrs_codec_chain.specs.declared.partial_decoder.cache.Cache.{Cache}
 use Rattle.zarrs_codec_chain.specs.declared.partial_decoder.cache.Cache.TheVariants as kept
 use Rattle.zarrs_codec_chain.specs.declared.partial_decoder.cache.CacheStage.{CacheStage}
@@ -172,7 +170,7 @@ pub no_stage : {B : Type 0} (reads_of : B → PartialDecoderCapability) (chain :
 no_stage reads_of chain e = ap (stage_at (length chain.bytes_to_bytes)) e
 
 no_place_of : {B : Type 0} (reads_of : B → PartialDecoderCapability) (outer : List B) (codec : PlainCodec B) → asks_in_part outer codec ≡ true → cache_place (codec_reads codec ∷ map reads_of outer) ≡ None
-no_place_of reads_of [] codec e = ap (λ (reads : PartialDecoderCapability). cache_place (reads ∷ [])) ((part_laws codec).reads_all ∙ ap reads_all_if e)
+no_place_of reads_of [] codec e = ap (λ (reads : PartialDecoderCapability). cache_place (reads ∷ [])) (ap reads_all_if e)
 no_place_of reads_of (first ∷ rest) codec e = absurd cc
 
 -- where a read asks for a part of the value alone, there is none

@@ -1,5 +1,6 @@
 -- How often a handle is asked, and which bytes are replaced.
 use Rattle.std.proofs.Common.{◌≡◌, ℕ, true, false, List, [], ◌∷◌, Option, Some, None, Result, Ok, Err, OnErr, OnOk, IfOk, refl, sym, ap, ◌∙◌}
+use Rattle.std.specs.Prelude.{MatchOption}
 use Rattle.zarrs_chunk.specs.Answer.{Answers, memory_or_fault}
 use Rattle.zarrs_chunk.specs.declared.codec_error.CodecError.{CodecError}
 use Rattle.zarrs_chunk.specs.Region.{Region}
@@ -10,13 +11,13 @@ use Rattle.zarrs_array_bytes.specs.Held.{Held}
 use Rattle.zarrs_array_regions.specs.KeptRegions.{kept_region}
 use Rattle.zarrs_bytes.specs.PartialRead.{place_bytes, place_size}
 use Rattle.zarrs_bytes.specs.PartialWrite.{bytes_left, bytes_replaced}
-use Rattle.zarrs_codec_chain.specs.ChunkCalls.{replaced_in_place}
-use Rattle.zarrs_codec_chain.specs.ChunkRead.{asks_in_part, form_in_place, planned_region}
+use Rattle.zarrs_codec_chain.specs.ChunkCalls.{ReplacesPlaces, replaced_in_place}
+use Rattle.zarrs_codec_chain.specs.ChunkRead.{asks_in_part, form_in_place, planned_order, planned_region}
 use Rattle.zarrs_chain_meaning.specs.ChunkForm.{ChunkForm}
 use Rattle.zarrs_codec_chain.specs.CodecPart.{order_in_place, Part}
 use Rattle.zarrs_chain_meaning.specs.PlainChain.{PlainCodec}
-use Rattle.zarrs_codec.specs.Calls.{Calls, after_reads, after_replacing, after_write}
-use Rattle.zarrs_codec.specs.StorageState.{value_indices}
+use Rattle.zarrs_codec.specs.Calls.{Calls, MakesWrite, after_reads, after_replacing, after_write}
+use Rattle.zarrs_codec.specs.StorageState.{StorageState, value_indices}
 use Rattle.zarrs_codec_chain.proofs.LawfulPart.{part_laws}
 
 -- what holds anyway holds of an answer
@@ -58,9 +59,19 @@ replaced_so r order form stored after places there new mid now answer same count
     replaced_by r order form stored after places there new mid now (left_so r after (Some (bytes_left order form stored places new)) answer) same counted
 
 -- a call that answers nothing has counted nothing
-pub refused_counts : {A E : Type 0} (r : Result A E) → IfOk r (λ _. Unit {0})
+refused_counts : {A E : Type 0} (r : Result A E) → IfOk r (λ _. Unit {0})
 refused_counts (Ok x) = tt
 refused_counts (Err e) = tt
+
+pub refused_edit : {A E O : Type 0} (order : Option O) (r : Result A E) → MatchOption order (Unit {0}) (λ _. IfOk r (λ _. Unit {0}))
+refused_edit None r = tt
+refused_edit (Some order) r = refused_counts r
+
+-- what an accepted edit asks the handle, by the byte order in which it writes in place
+abbrev pub CountsByOrder : {H E T B : Type 0} → (H → Option Calls) → (H → StorageState) → ChunkForm B → Option (Option Endianness) → Selection → (before after : H) → Result T E → Type 0
+CountsByOrder calls state form order selection before after result =
+    MatchOption order (MakesWrite calls 1 (value_indices (state after).value) before after result)
+    (λ _. IfOk (planned_order form selection) (λ places. ReplacesPlaces calls state form.type places before after result))
 
 -- where the places are these, what holds of them holds of the answer
 pub counted_at : {A E : Type 0} (r : Result A E) (x : A) (P : A → Type 0) → r ≡ Ok x → P x → IfOk r P

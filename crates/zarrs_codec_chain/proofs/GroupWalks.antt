@@ -23,7 +23,8 @@ use Rattle.zarrs_codec_chain.specs.ShardRead.{groups_read, span_read}
 use Rattle.zarrs_data_type.specs.Element.{Chunk}
 use Rattle.zarrs_data_type.specs.ElementType.{ElementType}
 use Rattle.zarrs_shard_runs.specs.GroupedRuns.{group}
-use Rattle.zarrs_shard_runs.specs.PlacesInside.{groups_among, groups_of, if_any, if_inside, places_of_inner}
+use Rattle.zarrs_shard_runs.specs.PlacesInside.{groups_among, groups_of, if_any, places_of_inner}
+use Rattle.zarrs_shard_runs.proofs.Grouping.{if_inside, inner_step}
 use Rattle.zarrs_shard_runs.specs.declared.grouped_runs.InnerRuns.{InnerRuns}
 use Rattle.zarrs_codec_chain.proofs.EditLaws.{found}
 use Rattle.zarrs_packbits.specs.Bits.{bit_of}
@@ -55,7 +56,7 @@ one_among : (shape sizes : List ℕ) (place : ℕ) (places numbers : List ℕ)
 one_among shape sizes place places [] = refl
 one_among shape sizes place places (number ∷ numbers) =
     let here = any_count number (places_of_inner shape sizes number (place ∷ places)) (groups_among shape sizes (place ∷ places) numbers) in
-    let first = inside_count (nat_eq (inner_chunk_of shape sizes place) number) (place_inside shape sizes place) (places_of_inner shape sizes number places) in
+    let first = ap length (inner_step shape sizes number place places) ∙ inside_count (nat_eq (inner_chunk_of shape sizes place) number) (place_inside shape sizes place) (places_of_inner shape sizes number places) in
     let rest = one_among shape sizes place places numbers in
     let without = any_count number (places_of_inner shape sizes number places) (groups_among shape sizes places numbers) in
     omega (arith, here, first, rest, without)

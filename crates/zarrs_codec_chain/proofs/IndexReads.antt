@@ -1,7 +1,7 @@
 -- Reads by the index of a shard that is kept, or that is read first.
 use Rattle.std.proofs.Common.{◌≡◌, ℕ, ◌<◌, ◌^◌, ◌&&◌, Bool, true, false, if◌then◌else◌, Option, Some, None, List, [], ◌∷◌, length, map, Result, Ok, Err, refl, ap, sym, subst, ◌∙◌}
 use Rattle.std.specs.Prelude.{IfErr, IfOk, IfSome, is_some}
-use Rattle.std.specs.Option.{option_map}
+use Rattle.std.specs.Option.{option_map, option_map_or}
 use Rattle.zarrs_array_bytes.specs.Held.{Held}
 use Rattle.zarrs_array_bytes.specs.Validity.{Holds}
 use Rattle.zarrs_bytes.proofs.Coding.{ok, bind_ok}
@@ -24,8 +24,8 @@ use Rattle.zarrs_codec.specs.declared.bytes_representation.BytesRepresentation.{
 use Rattle.zarrs_codec_chain.proofs.LawfulPart.{part_laws, same_sure}
 use Rattle.zarrs_codec_chain.proofs.PartialReads.{IsReadable, is_readable, stored_selects, unstored_read}
 use Rattle.zarrs_codec_chain.proofs.SureReads.{where_sure}
-use Rattle.zarrs_codec_chain.specs.ChunkRead.{ReadsStoredChunk, WhereSure, are_given_sure, asks_in_part, encoded_places, outer_stored, stored_read, WhereSureBy}
-use Rattle.zarrs_codec_chain.specs.CodecPart.{IndexPart, codec_read, codec_rests_on, part_of, rests_behind, rests_where, rests_with}
+use Rattle.zarrs_codec_chain.specs.ChunkRead.{ReadsStoredChunk, are_given_sure, asks_in_part, encoded_places, outer_stored, stored_read, WhereSureBy}
+use Rattle.zarrs_codec_chain.specs.CodecPart.{IndexPart, codec_read, codec_rests_on, part_of, rests_behind, rests_where}
 use Rattle.zarrs_codec_chain.specs.KeptIndex.{IsIndexOf, asks_index, bytes_with, codec_index, codec_spans, index_rests_on, index_seen, keeps_nothing, knows_index, spans_with}
 use Rattle.zarrs_codec_chain.specs.PlaceLaws.{Resting, RestsEach, SameMembers}
 use Rattle.zarrs_codec_chain.specs.PartRead.{PlaceReader}
@@ -109,6 +109,9 @@ none_asked None (Ok numbers) e = absurd cc
 none_asked None (Err x) e = absurd cc
 none_asked (Some test) r e = refl
 
+abbrev rests_with : {B : Type 0} → Option (IndexPart B) → BytesCodecs B → Resting → Resting
+rests_with index f rests sizes type fill stored places = option_map_or (λ index. index.rests_behind f sizes type fill stored places) index (rests sizes type fill stored places)
+
 module _ {B : Type 0} (f : BytesCodecs B) (read : PlaceReader) (rests : Resting) (sizes : List ℕ) (type : ElementType) (fill : List ℕ) where
   with_behind : (index : Option (IndexPart B)) → IndexLaws f read rests index → (stored : Option (List ℕ)) (places : List ℕ) (sure : Option (ℕ → Bool)) → are_given_sure sure (rests sizes type fill stored places) ≡ true
       → are_given_sure sure (rests_with index f rests sizes type fill stored places) ≡ true
@@ -156,7 +159,7 @@ module _ {B : Type 0} (f : BytesCodecs B) where
       same_sure sure P (rests_where known f codec sizes type fill stored ps) (rests_where known f codec sizes type fill stored qs) (where_each known codec sizes type fill stored ps qs same) h
 
   -- what holds where the bytes behind the index are sure holds where all are
-  pub sure_by_all : (known : Bool) (form : ChunkForm B) (before : StorageState) (selection : Selection) (P : Type 0) → WhereSureBy known f form before selection P → WhereSure f form before selection P
+  pub sure_by_all : (known : Bool) (form : ChunkForm B) (before : StorageState) (selection : Selection) (P : Type 0) → WhereSureBy known f form before selection P → WhereSureBy false f form before selection P
   sure_by_all false form before selection P h = h
   sure_by_all true form before selection P h = steps (encoded_places form.type form.chain.array_to_array form.sizes selection) (taken_form f form.chain form.sizes form.type form.fill) h
     where
@@ -191,7 +194,7 @@ shard_refused f codec sizes type fill (Some value) places error asks e =
 module _ {B : Type 0} (f : BytesCodecs B) (form : ChunkForm B) (encoded : List ℕ) (r : BytesRepresentation) (mappings : IsChainOfMappings form.chain) (positive : All (λ size. 0 < size) form.sizes) (taken : taken_form f form.chain form.sizes form.type form.fill ≡ Ok (encoded, r)) (before : StorageState) (selection : Selection) where
   -- what a read answers of what is stored, by the one exact answer
   pub reads_stored : (result : Result Held CodecError) → AnswersBy memory_or_fault (Holds form.type) result (stored_read f form before.value selection) → IfErr (bounds_of selection form.sizes) (λ cause. AnswersBy memory (Holds form.type) result (Err cause))
-      → WhereSure f form before selection (is_fault result ≡ false) → ReadsStoredChunk f form before selection result
+      → WhereSureBy false f form before selection (is_fault result ≡ false) → ReadsStoredChunk f form before selection result
   reads_stored result exact first sure = record {
     selected = λ value chunk here stands.
         subst (λ e. AnswersBy memory_or_fault (Holds form.type) result e)

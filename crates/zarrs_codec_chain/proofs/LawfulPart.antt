@@ -17,7 +17,6 @@ use Rattle.zarrs_codec.specs.BytesToBytesCodec.{BytesCodecs}
 use Rattle.zarrs_codec.specs.CoordinateMap.{CoordinateMap, IsCoordinateMap, inverse_map, moved_chunk}
 use Rattle.zarrs_codec.specs.StorageState.{are_sure, value_indices}
 use Rattle.zarrs_codec.specs.declared.bytes_representation.BytesRepresentation.{BytesRepresentation}
-use Rattle.zarrs_codec.specs.declared.capabilities.PartialDecoderCapability.{PartialDecoderCapability}
 use Rattle.zarrs_array_regions.specs.PlaceReaders.{ReadsInAnyOrder, brought_back}
 use Rattle.zarrs_array_regions.proofs.PlaceReads.{mapped_read, tested_read}
 use Rattle.zarrs_bytes.proofs.Alike as bytes_reads
@@ -28,14 +27,12 @@ use Rattle.zarrs_packbits.specs.PackBitsSettings.{PackBitsSettings, packed_layou
 use Rattle.zarrs_packbits.specs.PartialRead.{packed_places_bytes, read_packed_places}
 use Rattle.zarrs_packbits.specs.ReadPlan.{IsPackBitsPlan, SameNumbers}
 use Rattle.zarrs_chain_meaning.proofs.ArraySteps.{ok_is}
-use Rattle.zarrs_chain_meaning.specs.Chain.{codec_reads}
-use Rattle.zarrs_chain_meaning.specs.CodecFacts.{facts, Facts, bytes_facts, packbits_facts, reads_all_if, shard_facts, whole_facts}
+use Rattle.zarrs_chain_meaning.specs.CodecFacts.{facts, Facts, whole_facts}
 use Rattle.zarrs_chain_meaning.specs.CodecMeaning.{codec_chunk, codec_representation, HasMappings, meaning, bytes_meaning, packbits_meaning}
 use Rattle.zarrs_chain_meaning.specs.Meaning.{Meaning, through}
 use Rattle.zarrs_chain_meaning.specs.PlainChain.{PlainCodec, bytes_codec, packbits_codec, vlen_v2_codec, vlen_codec, optional_codec, sharding_codec}
 use Rattle.zarrs_chain_meaning.specs.sharding.Sharding.{shard_meaning}
 use Rattle.zarrs_chain_meaning.specs.vlen.PlainForm.{PlainForm}
-use Rattle.zarrs_chain_meaning.specs.vlen.PlainVlen.{plain_form_of}
 use Rattle.zarrs_plain_vlen.specs.PlainRead.{plain_read}
 use Rattle.zarrs_plain_vlen.specs.VlenRead.{stored_rests_on}
 use Rattle.zarrs_codec_chain.proofs.IndexLaws.{IndexLaws, shard_index}
@@ -73,35 +70,30 @@ pub record IsLawfulPart {B : Type 0} (m : Meaning B) (x : Facts) (p : Part B) : 
   pub rests_alike : (f : BytesCodecs B) (sizes : List ℕ) (type : ElementType) (fill : List ℕ) (stored : Option (List ℕ)) (places : List ℕ) → p.plans ≡ true → p.rests_on f sizes type fill None places ≡ p.rests_on f sizes type fill stored places
   pub alike : (f : BytesCodecs B) (value other : List ℕ) → ReadsAlike p f value other (All (SameByte value other))
   pub planned_bytes : (f : BytesCodecs B) (sizes : List ℕ) (type : ElementType) (fill places : List ℕ) (ranges : List ByteSpan) → p.IsPlanned sizes type fill places ranges → HaveBytes ranges (p.rests_on f sizes type fill None places)
-  pub plans_ask : p.plans ≡ true → x.reads.partial_decode ≡ true
-  pub reads_all : x.reads ≡ reads_all_if x.reads.partial_decode
-  pub wholly : (f : BytesCodecs B) (sizes : List ℕ) (type : ElementType) (fill : List ℕ) (stored : Option (List ℕ)) (places : List ℕ) → x.reads.partial_decode ≡ false → p.read f sizes type fill stored places ≡ whole_read (m.chunk f) sizes type fill stored places
-  pub rests_wholly : (f : BytesCodecs B) (sizes : List ℕ) (type : ElementType) (fill : List ℕ) (stored : Option (List ℕ)) (places : List ℕ) → x.reads.partial_decode ≡ false → p.rests_on f sizes type fill stored places ≡ Ok (value_indices stored)
+  pub plans_ask : p.plans ≡ true → x.reads ≡ true
+  pub wholly : (f : BytesCodecs B) (sizes : List ℕ) (type : ElementType) (fill : List ℕ) (stored : Option (List ℕ)) (places : List ℕ) → x.reads ≡ false → p.read f sizes type fill stored places ≡ whole_read (m.chunk f) sizes type fill stored places
+  pub rests_wholly : (f : BytesCodecs B) (sizes : List ℕ) (type : ElementType) (fill : List ℕ) (stored : Option (List ℕ)) (places : List ℕ) → x.reads ≡ false → p.rests_on f sizes type fill stored places ≡ Ok (value_indices stored)
   pub plainly : (f : BytesCodecs B) (form : PlainForm) (sizes : List ℕ) (type : ElementType) (fill : List ℕ) (stored : Option (List ℕ)) (places : List ℕ) → x.plain ≡ Some form → p.read f sizes type fill stored places ≡ plain_read form (product sizes) type fill stored places
   pub rests_plainly : (f : BytesCodecs B) (form : PlainForm) (sizes : List ℕ) (type : ElementType) (fill : List ℕ) (stored : Option (List ℕ)) (places : List ℕ) → x.plain ≡ Some form → p.rests_on f sizes type fill stored places ≡ Ok (stored_rests_on form (product sizes) stored places)
-  pub in_place : (order : Option Endianness) → p.in_place ≡ Some order → IsBytes m p order
+  pub in_place : (order : Option Endianness) → x.order ≡ Some order → IsBytes m p order
   pub indexed : (f : BytesCodecs B) → IndexLaws f (p.read f) (p.rests_on f) p.indexed
-  pub index_asks : is_some p.indexed ≡ true → x.reads.partial_decode ≡ true
+  pub index_asks : is_some p.indexed ≡ true → x.reads ≡ true
 
 -- ---- read whole
 
-reads_if : (reads : PartialDecoderCapability) (test : Bool) → reads ≡ reads_all_if test → reads ≡ reads_all_if reads.partial_decode
-reads_if reads test e = e ∙ ap (λ (r : PartialDecoderCapability). reads_all_if r.partial_decode) (sym e)
-
 -- a codec that is read whole keeps them, whatever it means
-pub whole_part_laws : {B : Type 0} (m : Meaning B) (x : Facts) → x.reads ≡ reads_all_if false → x.plain ≡ None → IsLawfulPart m x (whole_part m)
-whole_part_laws m x reads none = record {
+pub whole_part_laws : {B : Type 0} (m : Meaning B) (x : Facts) → x.reads ≡ false → x.plain ≡ None → x.order ≡ None → IsLawfulPart m x (whole_part m)
+whole_part_laws m x reads none orderless = record {
   places = λ f. whole_places f m;
   rests_alike = λ f sizes type fill stored places plans. absurd cc;
   alike = λ f value other sizes type fill places numbers plans. absurd cc;
   planned_bytes = λ f sizes type fill places ranges plan. absurd plan;
   plans_ask = λ plans. absurd cc;
-  reads_all = reads_if x.reads false reads;
   wholly = λ f sizes type fill stored places e. refl;
   rests_wholly = λ f sizes type fill stored places e. refl;
   plainly = λ f form sizes type fill stored places e. absurd (let none = none in cc);
   rests_plainly = λ f form sizes type fill stored places e. absurd (let none = none in cc);
-  in_place = λ order e. absurd cc;
+  in_place = λ order e. absurd (let none = orderless in cc);
   indexed = λ f. tt;
   index_asks = λ e. absurd cc;
 }
@@ -116,14 +108,13 @@ bytes_alike : {B : Type 0} (order : Option Endianness) (f : BytesCodecs B) (valu
 bytes_alike order f value other Agreeing alike sizes type fill places numbers plans is agree =
     alike type fill places (subst Agreeing (sym (ok_is (place_bytes (place_size type) places) numbers is)) agree)
 
-bytes_part_laws : {B : Type 0} (order : Option Endianness) → IsLawfulPart {B = B} (bytes_meaning order) (bytes_facts order) (bytes_part order)
+bytes_part_laws : {B : Type 0} (order : Option Endianness) → IsLawfulPart {B = B} (bytes_meaning order) (facts {B = B} (bytes_codec order)) (bytes_part order)
 bytes_part_laws order = record {
   places = λ f. bytes_places f order;
   rests_alike = λ f sizes type fill stored places e. refl;
   alike = λ f value other. bytes_alike order f value other (All (SameByte value other)) (λ type fill places. bytes_reads.reads_alike order type fill value other places);
   planned_bytes = λ f sizes type fill places ranges plan. (place_bytes (place_size type) places, refl, λ test. ap (list_all test) plan.bytes);
   plans_ask = λ plans. refl;
-  reads_all = refl;
   wholly = λ f sizes type fill stored places e. absurd cc;
   rests_wholly = λ f sizes type fill stored places e. absurd cc;
   plainly = λ f form sizes type fill stored places e. absurd cc;
@@ -146,14 +137,13 @@ packed_bytes : {L : Type 0} (ranges : List ByteSpan) (bytes_of : L → List ℕ)
 packed_bytes ranges bytes_of Plan same (Ok l) plan = (bytes_of l, refl, same l plan)
 packed_bytes ranges bytes_of Plan same (Err e) plan = absurd plan
 
-packbits_part_laws : {B : Type 0} (settings : PackBitsSettings) → IsLawfulPart {B = B} (packbits_meaning settings) (packbits_facts settings) (packbits_part settings)
+packbits_part_laws : {B : Type 0} (settings : PackBitsSettings) → IsLawfulPart {B = B} (packbits_meaning settings) (facts {B = B} (packbits_codec settings)) (packbits_part settings)
 packbits_part_laws settings = record {
   places = λ f. packbits_places f settings;
   rests_alike = λ f sizes type fill stored places e. refl;
   alike = λ f value other. packed_alike settings f value other (All (SameByte value other)) (λ sizes type fill l places. packbits_laws.reads_alike settings sizes type fill l value other places);
   planned_bytes = λ f sizes type fill places ranges plan. packed_bytes ranges (λ l. packed_places_bytes l places) (λ l. IsPackBitsPlan l places ranges) (λ l p. p.bytes) (packed_layout settings (form_of sizes type fill)) plan;
   plans_ask = λ plans. refl;
-  reads_all = refl;
   wholly = λ f sizes type fill stored places e. absurd cc;
   rests_wholly = λ f sizes type fill stored places e. absurd cc;
   plainly = λ f form sizes type fill stored places e. absurd cc;
@@ -169,20 +159,19 @@ some_is : (x y : PlainForm) → Some x ≡ Some y → x ≡ y
 some_is x y e = cc
 
 -- where it reads in part exactly if it is plain, whatever is in it
-vlen_part_laws : {B : Type 0} (codec : PlainCodec B) (form : Option PlainForm) → plain_form_of codec ≡ form → codec_reads codec ≡ reads_all_if (is_some form) → IsLawfulPart (meaning codec) (facts codec) (vlen_part form (meaning codec))
-vlen_part_laws codec None p reads = whole_part_laws (meaning codec) (facts codec) reads p
-vlen_part_laws codec (Some form) p reads = record {
+vlen_part_laws : {B : Type 0} (codec : PlainCodec B) (form : Option PlainForm) → (facts codec).plain ≡ form → (facts codec).reads ≡ is_some form → (facts codec).order ≡ None → IsLawfulPart (meaning codec) (facts codec) (vlen_part form (meaning codec))
+vlen_part_laws codec None p reads orderless = whole_part_laws (meaning codec) (facts codec) reads p orderless
+vlen_part_laws codec (Some form) p reads orderless = record {
   places = λ f. vlen_places f codec (Some form) p;
   rests_alike = λ f sizes type fill stored places plans. absurd cc;
   alike = λ f value other sizes type fill places numbers plans. absurd cc;
   planned_bytes = λ f sizes type fill places ranges plan. absurd plan;
   plans_ask = λ plans. absurd cc;
-  reads_all = reads_if (codec_reads codec) true reads;
   wholly = λ f sizes type fill stored places e. absurd cc;
   rests_wholly = λ f sizes type fill stored places e. absurd cc;
   plainly = λ f other sizes type fill stored places e. ap (λ (x : PlainForm). plain_read x (product sizes) type fill stored places) (some_is form other (sym p ∙ e));
   rests_plainly = λ f other sizes type fill stored places e. ap (λ (x : PlainForm). ok (stored_rests_on x (product sizes) stored places)) (some_is form other (sym p ∙ e));
-  in_place = λ order e. absurd cc;
+  in_place = λ order e. absurd (let none = orderless in cc);
   indexed = λ f. tt;
   index_asks = λ e. absurd cc;
 }
@@ -191,14 +180,13 @@ vlen_part_laws codec (Some form) p reads = record {
 
 -- where the array-to-bytes codec of the inner chain keeps them
 shard_part_laws : {B : Type 0} (arrays : List _) (m : Meaning B) (p : Part B) (outer : List B) (index : Meaning B) (shape : List ℕ) (at_end : Bool) → ((f : BytesCodecs B) → IsLawfulReader f m (p.read f) (p.rests_on f))
-    → IsLawfulPart (shard_meaning shape at_end (through arrays m outer) index) shard_facts (shard_part arrays m p outer index shape at_end)
+    → IsLawfulPart (shard_meaning shape at_end (through arrays m outer) index) (record whole_facts { reads = true }) (shard_part arrays m p outer index shape at_end)
 shard_part_laws arrays m p outer index shape at_end laws = record {
   places = λ f. shard_places f shape at_end (through arrays m outer) index _ _ (through_places f arrays m (p.read f) (p.rests_on f) outer (laws f));
   rests_alike = λ f sizes type fill stored places plans. absurd cc;
   alike = λ f value other sizes type fill places numbers plans. absurd cc;
   planned_bytes = λ f sizes type fill places ranges plan. absurd plan;
   plans_ask = λ plans. absurd cc;
-  reads_all = refl;
   wholly = λ f sizes type fill stored places e. absurd cc;
   rests_wholly = λ f sizes type fill stored places e. absurd cc;
   plainly = λ f form sizes type fill stored places e. absurd cc;
@@ -215,9 +203,9 @@ pub part_laws : {B : Type 0} (codec : PlainCodec B) → IsLawfulPart (meaning co
 unfolding meaning
 part_laws (bytes_codec order) = bytes_part_laws order
 part_laws (packbits_codec settings) = packbits_part_laws settings
-part_laws (vlen_v2_codec codec) = whole_part_laws (meaning (vlen_v2_codec codec)) whole_facts refl refl
-part_laws (vlen_codec ia ix ib da dx db wide at_end) = vlen_part_laws (vlen_codec ia ix ib da dx db wide at_end) (plain_form_of (vlen_codec ia ix ib da dx db wide at_end)) refl refl
-part_laws (optional_codec ma mx mb da dx db) = whole_part_laws (meaning (optional_codec ma mx mb da dx db)) whole_facts refl refl
+part_laws (vlen_v2_codec codec) = whole_part_laws (meaning (vlen_v2_codec codec)) whole_facts refl refl refl
+part_laws (vlen_codec ia ix ib da dx db wide at_end) = vlen_part_laws (vlen_codec ia ix ib da dx db wide at_end) (facts (vlen_codec ia ix ib da dx db wide at_end)).plain refl refl refl
+part_laws (optional_codec ma mx mb da dx db) = whole_part_laws (meaning (optional_codec ma mx mb da dx db)) whole_facts refl refl refl
 part_laws (sharding_codec sa sx sb ia ix ib shape at_end) = shard_part_laws sa (meaning sx) (part_of sx) sb (through ia (meaning ix) ib) shape at_end (part_laws sx).places
 
 -- ---- what follows

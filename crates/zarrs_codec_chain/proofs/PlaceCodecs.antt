@@ -1,5 +1,6 @@
 -- The reads in part of each codec keep what is asked of them.
 use Rattle.std.proofs.Common.{◌≡◌, ℕ, ◌+◌, ◌-◌, ◌<◌, ◌*◌, ◌&&◌, nat_lt, Bool, true, Option, Some, None, get_or, List, [], ◌∷◌, ◌++◌, length, map, slice_index, Result, Ok, Err, refl, ap, sym, subst, ◌∙◌}
+use Rattle.std.specs.Result.{result_unwrap_or}
 use Rattle.std.specs.Prelude.{is_ok, IsOk}
 use Rattle.std.specs.List.{All, list_all, flat_map, range_with_len}
 use Rattle.std.proofs.lemmas.List.Folds.{list_all-append}
@@ -45,7 +46,7 @@ use Rattle.zarrs_plain_vlen.proofs.Alike.{reads_alike}
 use Rattle.zarrs_plain_vlen.proofs.Selected.{decoded_selects}
 use Rattle.zarrs_plain_vlen.specs.PlainRead.{plain_read}
 use Rattle.zarrs_plain_vlen.specs.VlenLayout.{VlenLayout, layout_of, span_bytes, span_numbers}
-use Rattle.zarrs_plain_vlen.specs.VlenRead.{element_is_there, element_numbers, elements_at, elements_read, head_numbers, numbers_or_none, offsets_read, rests_on, stored_rests_on}
+use Rattle.zarrs_plain_vlen.specs.VlenRead.{element_is_there, element_numbers, elements_at, elements_read, head_numbers, offsets_read, rests_on, stored_rests_on}
 
 -- ---- numbers place by place
 
@@ -175,22 +176,22 @@ appended_same : (test : ℕ → Bool) (front one other : List ℕ) → list_all 
 appended_same test front one other e = list_all-append test front one ∙ ap (λ (b : Bool). list_all test front && b) e ∙ sym (list_all-append test front other)
 
 module _ (test : ℕ → Bool) (ps qs : List ℕ) (same : SameMembers ps qs) where
-  by_offsets : (start : ℕ) (o : Result (List ℕ) CodecError) → list_all test (numbers_or_none (o >>= λ offsets. ok (element_numbers start offsets ps))) ≡ list_all test (numbers_or_none (o >>= λ offsets. ok (element_numbers start offsets qs)))
+  by_offsets : (start : ℕ) (o : Result (List ℕ) CodecError) → list_all test (result_unwrap_or (o >>= λ offsets. ok (element_numbers start offsets ps)) []) ≡ list_all test (result_unwrap_or (o >>= λ offsets. ok (element_numbers start offsets qs)) [])
   by_offsets start (Ok offsets) = flat_same test (λ place. range_with_len (start + slice_index offsets place) (slice_index offsets (place + 1) - slice_index offsets place)) ps qs same
   by_offsets start (Err e) = refl
 
   by_layout : (form : PlainForm) (count : ℕ) (value : List ℕ) (l : Result VlenLayout CodecError)
-      → list_all test (numbers_or_none (l >>= λ layout. offsets_read form count (span_bytes value layout.index) >>= λ offsets. ok (element_numbers layout.content.start offsets ps)))
-      ≡ list_all test (numbers_or_none (l >>= λ layout. offsets_read form count (span_bytes value layout.index) >>= λ offsets. ok (element_numbers layout.content.start offsets qs)))
+      → list_all test (result_unwrap_or (l >>= λ layout. offsets_read form count (span_bytes value layout.index) >>= λ offsets. ok (element_numbers layout.content.start offsets ps)) [])
+      ≡ list_all test (result_unwrap_or (l >>= λ layout. offsets_read form count (span_bytes value layout.index) >>= λ offsets. ok (element_numbers layout.content.start offsets qs)) [])
   by_layout form count value (Ok layout) = by_offsets layout.content.start (offsets_read form count (span_bytes value layout.index))
   by_layout form count value (Err e) = refl
 
   by_value : (form : PlainForm) (count : ℕ) (value : List ℕ) → list_all test (rests_on form count value ps) ≡ list_all test (rests_on form count value qs)
   by_value form count value =
       let head = head_numbers form.at_end (length value) in
-      let index = numbers_or_none (seen (λ layout. span_numbers layout.index) (layout_of form.at_end value)) in
-      let one = numbers_or_none (elements_at form count value ps) in
-      let other = numbers_or_none (elements_at form count value qs) in
+      let index = result_unwrap_or (seen (λ layout. span_numbers layout.index) (layout_of form.at_end value)) [] in
+      let one = result_unwrap_or (elements_at form count value ps) [] in
+      let other = result_unwrap_or (elements_at form count value qs) [] in
       appended_same test head (index ++ one) (index ++ other) (appended_same test index one other (by_layout form count value (layout_of form.at_end value)))
 
 plain_rests : (form : PlainForm) (count : ℕ) (stored : Option (List ℕ)) → RestsEach (λ places. Ok (stored_rests_on form count stored places))

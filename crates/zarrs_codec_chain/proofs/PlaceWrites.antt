@@ -30,7 +30,8 @@ use Rattle.zarrs_bytes.specs.PartialWrite.{bytes_left, filled_chunk, StartsFrom}
 use Rattle.zarrs_bytes.proofs.Coding as bytes_coding
 use Rattle.zarrs_bytes.proofs.PartWrites.{write_updates, ok_length}
 use Rattle.zarrs_chain_meaning.specs.ArrayStages.{arrays_map}
-use Rattle.zarrs_chain_meaning.specs.BytesStages.{outer_bytes, OuterWritten}
+use Rattle.zarrs_chain_meaning.specs.BytesStages.{outer_bytes, outer_value}
+use Rattle.zarrs_chain_meaning.proofs.NestedEncode.{memory_so}
 use Rattle.zarrs_codec_chain.specs.ChunkRead.{encoded_places}
 use Rattle.zarrs_chain_meaning.specs.ChunkForm.{ChunkForm}
 use Rattle.zarrs_codec_chain.specs.CodecPart.{order_in_place, part_of}
@@ -178,7 +179,7 @@ module _ {B : Type 0} (f : BytesCodecs B) (form : ChunkForm B) (encoded : List �
   written_through : (value : List ℕ) (chunk : Chunk) → IsChunk form.type (product form.sizes) chunk → BytesWritten order (form_of h.map_is.encoded form.type form.fill) value (moved_chunk h.map_is chunk) → ChainWritten f form.chain form.sizes form.type form.fill value chunk
   written_through value chunk is w =
       let alone' = bytes_alone form.chain.bytes_to_bytes form.chain.array_to_bytes order alone in
-      let around : OuterWritten f [] value value = (w.small, refl) in
+      let around : outer_value f [] value ≡ Ok value = memory_so value w.small in
       record {
         map_is = h.map_is;
         size = r;
@@ -188,7 +189,7 @@ module _ {B : Type 0} (f : BytesCodecs B) (form : ChunkForm B) (encoded : List �
         countable = subst (λ (n : ℕ). sizes_fit form.type n ≡ Ok tt) h.is_map.count (bytes_countable order h.map_is.encoded form.type form.fill at_bytes);
         elements = is;
         written = codec_written f form.chain.array_to_bytes order h.map_is.encoded form.type form.fill value (moved_chunk h.map_is chunk) alone'.1.means w;
-        around = subst (λ (bs : List B). OuterWritten f bs value value) (sym alone'.0) around;
+        around = subst (λ (bs : List B). outer_value f bs value ≡ Ok value) (sym alone'.0) around;
       }
 
   -- what is left where a write starts from the moved chunk

@@ -22,7 +22,7 @@ use Rattle.zarrs_chain_meaning.specs.ArrayStages.{arrays_map}
 use Rattle.zarrs_chain_meaning.specs.BytesStages.{outer_bytes}
 use Rattle.zarrs_chain_meaning.specs.Meaning.{Measure, Decoder, Meaning, around_representation, around_chunk, through}
 use Rattle.zarrs_chain_meaning.specs.sharding.InnerChunks.{inner_chunk_of, place_inside, joined_inner_chunks, IsCut}
-use Rattle.zarrs_chain_meaning.specs.sharding.Sharding.{index_shape, index_size, Span, is_stored, spans_of, missing_chunk, index_part_of, spanned_bytes, inner_chunk_at, inner_chunks_at, shard_representation, shard_chunk, shard_meaning}
+use Rattle.zarrs_chain_meaning.specs.sharding.Sharding.{index_shape, index_size, Span, is_stored, spans_of, index_part_of, spanned_bytes, inner_chunk_at, inner_chunks_at, shard_representation, shard_chunk, shard_meaning}
 use Rattle.zarrs_chain_meaning.specs.vlen.Vlen.{offset_type, offset_bytes, offsets_in_chunk}
 use Rattle.zarrs_chunk.proofs.Inside.{from_le_test}
 use Rattle.zarrs_chunk.specs.Answer.{◌>>=◌, demand, seen}
@@ -38,7 +38,9 @@ use Rattle.zarrs_codec_chain.specs.PlaceLaws.{Resting, read_through, rests_throu
 use Rattle.zarrs_codec_chain.specs.ShardRead.{spans_by, spans_in, span_read, inner_read, inner_reads, in_turn, spans_read, shard_read, index_bytes_at, span_rests, inner_rests, inner_chunks_rest, spans_rest, shard_rests, shard_rests_behind}
 use Rattle.zarrs_data_type.specs.Element.{Element, absent, Chunk, fill_element}
 use Rattle.zarrs_data_type.specs.ElementType.{ElementType}
-use Rattle.zarrs_shard_runs.specs.PlacesInside.{if_inside, places_of_inner}
+use Rattle.zarrs_shard_runs.specs.PlacesInside.{places_of_inner}
+use Rattle.zarrs_shard_runs.proofs.Grouping.{if_inside, inner_step}
+use Rattle.zarrs_bytes.specs.PartialWrite.{filled_chunk}
 
 -- ---- the same places rest on the same bytes
 
@@ -195,8 +197,9 @@ inside_if n false inside rest l below = below
 all_in : (shape sizes : List ℕ) (number : ℕ) (ps : List ℕ) → IsCut shape sizes → All (λ p. p < product sizes) ps → All (λ q. q < product shape) (places_of_inner shape sizes number ps)
 all_in shape sizes number [] cut below = All-nil (λ q. q < product shape)
 all_in shape sizes number (p ∷ ps) cut below =
-    inside_if (product shape) (nat_eq (inner_chunk_of shape sizes p) number) (place_inside shape sizes p) (places_of_inner shape sizes number ps) (cut.inside_below p (All-head (λ p. p < product sizes) p ps below))
-    (all_in shape sizes number ps cut (All-tail (λ p. p < product sizes) p ps below))
+    subst (All (λ q. q < product shape)) (sym (inner_step shape sizes number p ps))
+    (inside_if (product shape) (nat_eq (inner_chunk_of shape sizes p) number) (place_inside shape sizes p) (places_of_inner shape sizes number ps) (cut.inside_below p (All-head (λ p. p < product sizes) p ps below))
+    (all_in shape sizes number ps cut (All-tail (λ p. p < product sizes) p ps below)))
 
 -- the element of an inner chunk
 abbrev element_of : Chunk → ℕ → Element
@@ -213,7 +216,7 @@ picked_is (chunk ∷ chunks) (suc k) inside = picked_is chunks k inside
 module _ (measure : Measure) (decode : Decoder) (read : PlaceReader) (law : SelectsOfChunk measure decode read) (shape : List ℕ) (type : ElementType) (fill value : List ℕ) (positive : All is_positive shape) (measured : (r : _) × (measure shape type fill ≡ Ok r)) (none : (places : List ℕ) → read shape type fill None places ≡ Ok (map (λ _. fill_element type fill) places)) where
   span_selects : (stored : Bool) (span : Span) (chunk : Chunk) (ps : List ℕ) → inner_chunk_at stored decode shape type fill value span ≡ Ok chunk → All (λ q. q < product shape) ps → span_read stored read shape type fill value span ps ≡ Ok (select chunk ps)
   span_selects false span chunk ps e below =
-      none ps ∙ ap (λ (c : Chunk). ok c) (fills_selected (product shape) (fill_element type fill) ps below) ∙ ap (λ (c : Chunk). ok (select c ps)) (ok_is (missing_chunk shape type fill) chunk e)
+      none ps ∙ ap (λ (c : Chunk). ok c) (fills_selected (product shape) (fill_element type fill) ps below) ∙ ap (λ (c : Chunk). ok (select c ps)) (ok_is (filled_chunk shape type fill) chunk e)
   span_selects true span chunk ps e below =
       let a = bind_ok (demand (nat_le (span.0 + span.1) (length value)) InvalidByteRange) _ chunk e in
       rw (demand_ok (nat_le (span.0 + span.1) (length value)) InvalidByteRange a.0 a.1) (law shape type fill (spanned_bytes value span) measured.0 chunk ps positive measured.1 a.2 below)

@@ -20,7 +20,8 @@ use Rattle.zarrs_codec_chain.specs.PlaceLaws.{read_through, SameMembers, ReadsEa
 use Rattle.zarrs_codec_chain.specs.ShardRead.{spans_in, span_read, inner_read, inner_reads, without_first, in_turn, spans_read, shard_read}
 use Rattle.zarrs_data_type.specs.Element.{Element, absent, Chunk, fill_element}
 use Rattle.zarrs_data_type.specs.ElementType.{ElementType}
-use Rattle.zarrs_shard_runs.specs.PlacesInside.{if_inside, places_of_inner}
+use Rattle.zarrs_shard_runs.specs.PlacesInside.{places_of_inner}
+use Rattle.zarrs_shard_runs.proofs.Grouping.{if_inside, inner_step}
 
 -- ---- lists with the same members
 
@@ -39,7 +40,8 @@ all_if test false inside rest b e = e
 all_inside : (test : ℕ → Bool) (shape sizes : List ℕ) (number : ℕ) (ps : List ℕ) → list_all test (places_of_inner shape sizes number ps) ≡ list_all (λ p. if_tested (nat_eq (inner_chunk_of shape sizes p) number) (test (place_inside shape sizes p))) ps
 all_inside test shape sizes number [] = refl
 all_inside test shape sizes number (p ∷ ps) =
-    all_if test (nat_eq (inner_chunk_of shape sizes p) number) (place_inside shape sizes p) (places_of_inner shape sizes number ps) _ (all_inside test shape sizes number ps)
+    ap (list_all test) (inner_step shape sizes number p ps)
+    ∙ all_if test (nat_eq (inner_chunk_of shape sizes p) number) (place_inside shape sizes p) (places_of_inner shape sizes number ps) _ (all_inside test shape sizes number ps)
 
 pub members_inside : (shape sizes : List ℕ) (number : ℕ) (ps qs : List ℕ) → SameMembers ps qs → SameMembers (places_of_inner shape sizes number ps) (places_of_inner shape sizes number qs)
 members_inside shape sizes number ps qs same test =

@@ -11,7 +11,7 @@ use Rattle.zarrs_codec.specs.declared.bytes_representation.BytesRepresentation.{
 use Rattle.zarrs_array_to_array.specs.ArrayToArrayCodec.{ArrayMapping}
 use Rattle.zarrs_chain_meaning.specs.Chain.{codec_reads, taken_form}
 use Rattle.zarrs_codec_chain.specs.CodecPart.{rests_where}
-use Rattle.zarrs_codec_chain.specs.ChunkRead.{are_given_sure, are_asked_sure, asks_in_part, encoded_places, read_rests_on, reads_surely, WhereSure, WhereSureBy, read_rests_where}
+use Rattle.zarrs_codec_chain.specs.ChunkRead.{are_given_sure, are_asked_sure, asks_in_part, encoded_places, read_rests_on, reads_surely, WhereSureBy, read_rests_where}
 use Rattle.zarrs_chain_meaning.specs.ChunkForm.{ChunkForm}
 use Rattle.zarrs_codec_chain.specs.vlen.VlenPartialDecoder.{CodecForm, CodecWhereSure, codec_reads_surely, codec_selection_rests_on}
 use Rattle.zarrs_bytes.proofs.Coding.{ok}
@@ -43,7 +43,7 @@ surely_by sure P (Ok None) h e = absurd cc
 surely_by sure P (Err x) h e = absurd cc
 
 -- what holds where bytes are sure, or with a cache, holds where a read never fails
-pub surely : {B : Type 0} (f : BytesCodecs B) (form : ChunkForm B) (before : StorageState) (selection : Selection) (P : Type 0) (cached : Bool) → (cached ≡ true → P) → WhereSure f form before selection P → reads_surely cached f form before.value before.sure selection ≡ true → P
+pub surely : {B : Type 0} (f : BytesCodecs B) (form : ChunkForm B) (before : StorageState) (selection : Selection) (P : Type 0) (cached : Bool) → (cached ≡ true → P) → WhereSureBy false f form before selection P → reads_surely cached f form before.value before.sure selection ≡ true → P
 surely f form before selection P true by_cache here e = by_cache refl
 surely f form before selection P false by_cache here e = surely_by before.sure P (read_rests_on f form before.value selection) here e
 

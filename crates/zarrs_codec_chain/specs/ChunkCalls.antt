@@ -1,8 +1,7 @@
 -- Which bytes an edit through a chain replaces, and how often reads and edits ask their handle: `calls` says what the record of a handle is, `state` what it keeps.
-use Rattle.std.specs.Prelude.{◌≡◌, ℕ, false, Option, Some, None, List, Result, IfOk}
+use Rattle.std.specs.Prelude.{◌≡◌, ℕ, false, Option, Some, None, List, Result, IfOk, MatchOption}
 use Rattle.zarrs_chunk.specs.Selection.{Selection}
 use Rattle.zarrs_data_type.specs.ElementType.{ElementType}
-use Rattle.zarrs_data_type.specs.declared.endianness.Endianness.{Endianness}
 use Rattle.zarrs_codec.specs.Calls.{Calls, MakesReads, MakesWrite}
 use Rattle.zarrs_codec.specs.StorageState.{StorageState, value_indices}
 use Rattle.zarrs_bytes.specs.PartialRead.{place_bytes, place_size}
@@ -20,22 +19,11 @@ abbrev pub ReplacesPlaces : {H E T : Type 0} → (H → Option Calls) → (H →
 ReplacesPlaces calls state type places before after result =
     MakesWrite calls 1 (replaced_in_place type (state before).value (state after).value places) before after result
 
--- the same of the places that a selection selects, in the order in which they stand or, where they don't stand as a region, in their own
-abbrev pub ReplacesSelected : {H E T B : Type 0} → (H → Option Calls) → (H → StorageState) → ChunkForm B → Selection → (before after : H) → Result T E → Type 0
-ReplacesSelected calls state form selection before after result =
-    IfOk (planned_order form selection) (λ places. ReplacesPlaces calls state form.type places before after result)
-
--- An accepted edit makes one reading call and one writing call. Where the chain writes in place, with this byte order, the reading call asks whether a value is stored, and the writing call replaces the bytes of the selected places and no others, or all of a first value. Through any other chain the value is read, and all of it replaced.
-abbrev pub CountsChunkEdit : {H E T B : Type 0} → (H → Option Calls) → (H → StorageState) → ChunkForm B → Option (Option Endianness) → Selection → (before after : H) → Result T E → Type 0
-CountsChunkEdit calls state form None selection before after result =
-    MakesWrite calls 1 (value_indices (state after).value) before after result
-CountsChunkEdit calls state form (Some order) selection before after result =
-    ReplacesSelected calls state form selection before after result
-
--- how often an accepted edit through a chain asks the handle, and which bytes it replaces: in place where the chain writes in place
+-- An accepted edit makes one reading call and one writing call. Where the chain writes in place, the reading call asks whether a value is stored, and the writing call replaces the bytes of the selected places and no others, in the order in which they are planned, or all of a first value. Through any other chain the value is read, and all of it replaced.
 abbrev pub CountsEditThrough : {H E T B : Type 0} → (H → Option Calls) → (H → StorageState) → ChunkForm B → Selection → (before after : H) → Result T E → Type 0
 CountsEditThrough calls state form selection before after result =
-    CountsChunkEdit calls state form (form_in_place form) selection before after result
+    MatchOption (form_in_place form) (MakesWrite calls 1 (value_indices (state after).value) before after result)
+    (λ order. IfOk (planned_order form selection) (λ places. ReplacesPlaces calls state form.type places before after result))
 
 -- where a read through the chain asks for the whole value, an accepted one asks once
 abbrev pub WholeOnce : {H E T B : Type 0} → (H → Option Calls) → PlainChain B → (before after : H) → Result T E → Type 0

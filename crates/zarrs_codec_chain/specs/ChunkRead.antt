@@ -22,14 +22,15 @@ use Rattle.zarrs_array_regions.specs.KeptRegions.{kept_region}
 use Rattle.zarrs_array_regions.specs.Windows.{window_of, window_places, last_window}
 use Rattle.zarrs_chain_meaning.specs.ArrayStages.{arrays_map}
 use Rattle.zarrs_chain_meaning.specs.BytesStages.{outer_bytes}
-use Rattle.zarrs_chain_meaning.specs.Chain.{codec_reads, taken_form, chain_reads}
+use Rattle.zarrs_chain_meaning.specs.Chain.{taken_form, chain_reads}
+use Rattle.zarrs_chain_meaning.specs.CodecFacts.{facts}
 use Rattle.zarrs_chain_meaning.specs.PlainChain.{PlainCodec, PlainChain}
 use Rattle.std.proofs.Common.{Global}
 use Rattle.zarrs_chunk.specs.Runs.{joined_runs}
 use Rattle.zarrs_codec.specs.declared.capabilities.PartialDecoderCapability.{PartialDecoderCapability}
 use Rattle.zarrs_chain.specs.ChainView.{plain_chain}
 use Rattle.zarrs_chain.specs.declared.codec_chain.CodecChain.{CodecChain}
-use Rattle.zarrs_codec_chain.specs.CodecPart.{codec_read, codec_plans, order_in_place, IsCodecPlan, codec_rests_on, rests_where}
+use Rattle.zarrs_codec_chain.specs.CodecPart.{part_of, codec_read, order_in_place, codec_rests_on, rests_where}
 use Rattle.zarrs_chain_meaning.specs.ChunkForm.{ChunkForm}
 
 -- ---- chains
@@ -52,13 +53,13 @@ stored_read f form stored selection = do
   places ← encoded_places form.type form.chain.array_to_array form.sizes selection
   taken ← taken_form f form.chain form.sizes form.type form.fill
   below ← outer_stored f form.chain.bytes_to_bytes taken.1 stored
-  codec_read f form.chain.array_to_bytes taken.0 form.type form.fill below places
+  (part_of form.chain.array_to_bytes).read f taken.0 form.type form.fill below places
 
 -- ---- plans
 
 -- whether a read asks for the bytes of its places alone: it does over `bytes` and `packbits` where there are no bytes-to-bytes codecs
 abbrev pub reads_places : {B : Type 0} → List B → PlainCodec B → Bool
-reads_places [] codec = codec_plans codec
+reads_places [] codec = (part_of codec).plans
 reads_places (first ∷ rest) codec = false
 
 -- the byte order of a chain that writes in place, where it does
@@ -93,7 +94,7 @@ planned_places form selection =
 abbrev pub IsReadPlan : {B : Type 0} → BytesCodecs B → ChunkForm B → Option (List ByteSpan) → Option (List ℕ) → Type 0
 IsReadPlan f form None None = Unit {0}
 IsReadPlan f form (Some ranges) (Some places) =
-    IsOkAnd (taken_form f form.chain form.sizes form.type form.fill) (λ taken. IsCodecPlan form.chain.array_to_bytes (form_of taken.0 form.type form.fill) places ranges)
+    IsOkAnd (taken_form f form.chain form.sizes form.type form.fill) (λ taken. (part_of form.chain.array_to_bytes).IsPlanned taken.0 form.type form.fill places ranges)
 IsReadPlan f form _ _ = ⊥
 
 -- the same of ranges as a call gives them
@@ -104,7 +105,7 @@ IsPlanSeen f form ranges places = IsReadPlan f form (option_map (λ v. v.items) 
 
 -- whether a read asks for a part of the value alone: it does over `bytes`, `packbits`, a plain `vlen` and `sharding_indexed` where there are no bytes-to-bytes codecs
 abbrev pub asks_in_part : {B : Type 0} → List B → PlainCodec B → Bool
-asks_in_part [] codec = (codec_reads codec).partial_decode
+asks_in_part [] codec = (facts codec).reads
 asks_in_part (first ∷ rest) codec = false
 
 -- the numbers of the bytes that a read asks for, of what is stored, where it asks for a part alone and a shard's index is known, or isn't; or the first error
@@ -123,10 +124,6 @@ WhereSureBy known f form before selection P =
 -- the numbers of the bytes where no index is known
 abbrev pub read_rests_on : {B : Type 0} → BytesCodecs B → ChunkForm B → Option (List ℕ) → Selection → Result (Option (List ℕ)) CodecError
 read_rests_on f form stored selection = read_rests_where false f form stored selection
-
--- P, where these are sure
-abbrev pub WhereSure : {B : Type 0} → BytesCodecs B → ChunkForm B → StorageState → Selection → Type 0 → Type 0
-WhereSure f form before selection P = WhereSureBy false f form before selection P
 
 -- the bytes are sure that a read rests on, where it asks for a part of the value alone
 abbrev pub are_asked_sure : Option (ℕ → Bool) → Result (Option (List ℕ)) CodecError → Bool
@@ -153,7 +150,7 @@ pub record ReadsStoredChunk {B : Type 0} (f : BytesCodecs B) (form : ChunkForm B
       → AnswersBy memory_or_fault (Holds form.type) result (seen (map (λ _. fill_element form.type form.fill)) (places_of selection form.sizes))
   pub exact : AnswersBy memory_or_fault (Holds form.type) result (stored_read f form before.value selection)
   pub indexer_first : IfErr (bounds_of selection form.sizes) (λ cause. AnswersBy memory (Holds form.type) result (Err cause))
-  pub sure : WhereSure f form before selection (is_fault result ≡ false)
+  pub sure : WhereSureBy false f form before selection (is_fault result ≡ false)
 
 -- ---- what calls give
 

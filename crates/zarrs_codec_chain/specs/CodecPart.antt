@@ -1,4 +1,5 @@
 -- What each array-to-bytes codec does in part, as one record: what a read of places answers and rests on, what is planned, and whether a write replaces its places' bytes alone.
+use Rattle.std.specs.Option.{option_map_or}
 use Rattle.std.specs.Prelude.{ℕ, suc, Bool, true, false, Option, Some, None, IsOkAnd, List, [], ◌∷◌, Result, Ok}
 use Rattle.zarrs_bytes.specs.CountLaws.{read_count}
 use Rattle.zarrs_bytes.specs.PartialRead.{place_bytes, place_size, read_places}
@@ -6,7 +7,7 @@ use Rattle.zarrs_bytes.specs.PlannedRanges.{IsPlan as IsElementPlan}
 use Rattle.zarrs_chain_meaning.specs.CodecMeaning.{meaning}
 use Rattle.zarrs_chain_meaning.specs.Meaning.{Meaning, through}
 use Rattle.zarrs_chain_meaning.specs.PlainChain.{PlainCodec, bytes_codec, packbits_codec, vlen_v2_codec, vlen_codec, optional_codec, sharding_codec}
-use Rattle.zarrs_chain_meaning.specs.vlen.PlainVlen.{plain_form_of}
+use Rattle.zarrs_chain_meaning.specs.CodecFacts.{facts}
 use Rattle.zarrs_chain_meaning.specs.vlen.PlainForm.{PlainForm}
 use Rattle.zarrs_chain_meaning.specs.sharding.Sharding.{Span}
 use Rattle.zarrs_chunk.specs.ChunkShape.{product}
@@ -40,7 +41,6 @@ pub record Part (B : Type 0) : Type 1 where
   pub rests_on : BytesCodecs B → Resting
   pub plans : Bool
   pub IsPlanned : List ℕ → ElementType → List ℕ → List ℕ → List ByteSpan → Type 0
-  pub in_place : Option (Option Endianness)
   pub depth : ℕ
   pub indexed : Option (IndexPart B)
 
@@ -54,7 +54,6 @@ whole_part m = record {
   rests_on = λ f. whole_rests;
   plans = false;
   IsPlanned = λ sizes type fill places ranges. ⊥;
-  in_place = None;
   depth = 0;
   indexed = None;
 }
@@ -69,7 +68,6 @@ bytes_part order = record (whole_part (meaning (bytes_codec order))) {
   rests_on = λ f sizes type fill stored places. Ok (place_bytes (place_size type) places);
   plans = true;
   IsPlanned = λ sizes type fill places ranges. IsElementPlan (place_size type) places ranges;
-  in_place = Some order;
 }
 
 -- The bytes that have bits of the places, whatever is stored; the ranges likewise.
@@ -116,7 +114,7 @@ abbrev pub part_of : {B : Type 0} → PlainCodec B → Part B
 part_of (bytes_codec order) = bytes_part order
 part_of (packbits_codec settings) = packbits_part settings
 part_of (vlen_v2_codec codec) = whole_part (meaning (vlen_v2_codec codec))
-part_of (vlen_codec ia ix ib da dx db wide at_end) = vlen_part (plain_form_of (vlen_codec ia ix ib da dx db wide at_end)) (meaning (vlen_codec ia ix ib da dx db wide at_end))
+part_of (vlen_codec ia ix ib da dx db wide at_end) = vlen_part (facts (vlen_codec ia ix ib da dx db wide at_end)).plain (meaning (vlen_codec ia ix ib da dx db wide at_end))
 part_of (optional_codec ma mx mb da dx db) = whole_part (meaning (optional_codec ma mx mb da dx db))
 part_of (sharding_codec sa sx sb ia ix ib shape at_end) = shard_part sa (meaning sx) (part_of sx) sb (through ia (meaning ix) ib) shape at_end
 
@@ -128,18 +126,14 @@ codec_read f codec = (part_of codec).read f
 abbrev pub codec_rests_on : {B : Type 0} → BytesCodecs B → PlainCodec B → Resting
 codec_rests_on f codec = (part_of codec).rests_on f
 
--- what a read rests on behind the index; all of it where values have none
-abbrev pub rests_with : {B : Type 0} → Option (IndexPart B) → BytesCodecs B → Resting → Resting
-rests_with None f rests sizes type fill stored places = rests sizes type fill stored places
-rests_with (Some index) f rests sizes type fill stored places = index.rests_behind f sizes type fill stored places
-
--- the same of a codec: of `sharding_indexed` what the inner reads rest on
+-- what a read rests on behind the index: of `sharding_indexed` what the inner reads rest on; all of it where values have no index
 abbrev pub rests_behind : {B : Type 0} → BytesCodecs B → PlainCodec B → Resting
-rests_behind f codec sizes type fill stored places = rests_with (part_of codec).indexed f (codec_rests_on f codec) sizes type fill stored places
+rests_behind f codec sizes type fill stored places =
+    option_map_or (λ index. index.rests_behind f sizes type fill stored places) (part_of codec).indexed ((part_of codec).rests_on f sizes type fill stored places)
 
 -- what a read rests on where the index is known, or isn't
 abbrev pub rests_where : {B : Type 0} → Bool → BytesCodecs B → PlainCodec B → Resting
-rests_where false f codec sizes type fill stored places = codec_rests_on f codec sizes type fill stored places
+rests_where false f codec sizes type fill stored places = (part_of codec).rests_on f sizes type fill stored places
 rests_where true f codec sizes type fill stored places = rests_behind f codec sizes type fill stored places
 
 -- whether the bytes of a place are known before anything is read
@@ -156,5 +150,5 @@ shard_depth codec = (part_of codec).depth
 
 -- the byte order of `bytes` without bytes-to-bytes codecs: there the bytes of places are those of their elements, and a write over a stored value replaces them alone
 abbrev pub order_in_place : {B : Type 0} → List B → PlainCodec B → Option (Option Endianness)
-order_in_place [] codec = (part_of codec).in_place
+order_in_place [] codec = (facts codec).order
 order_in_place (first ∷ rest) codec = None

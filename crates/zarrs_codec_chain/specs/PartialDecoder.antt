@@ -7,9 +7,9 @@ use Rattle.zarrs_codec.specs.ArrayReader.{ArrayReader}
 use Rattle.zarrs_codec.specs.BytesToBytesCodec.{BytesCodecs}
 use Rattle.zarrs_codec.specs.StorageState.{StorageState, after_reading}
 use Rattle.zarrs_codec.specs.declared.refused.Refused.{Refused}
-use Rattle.zarrs_codec_chain.specs.ChunkCoder.{coder_form, coder_keeps_nothing, coder_knows_index, coder_wants_index, reader_source}
+use Rattle.zarrs_codec_chain.specs.ChunkCoder.{coder_form, coder_keeps_nothing, coder_wants_index, reader_source}
 use Rattle.zarrs_codec_chain.specs.ChunkRead.{reads_surely, stored_read, WhereSureBy}
-use Rattle.zarrs_codec_chain.specs.KeptIndex.{asks_index, form_index, index_held}
+use Rattle.zarrs_codec_chain.specs.KeptIndex.{asks_index, form_index, index_held, knows_index}
 use Rattle.zarrs_chain_meaning.specs.ChunkForm.{ChunkForm}
 use Rattle.zarrs_codec_chain.specs.ChunkSource.{Source, held_by, is_cache, IsSizeOf, source_made}
 use Rattle.zarrs_codec_chain.specs.declared.partial_decoder.array_partial_decoder.ArrayPartialDecoder.{ArrayPartialDecoder}
@@ -33,7 +33,7 @@ is_cached decoder = is_cache decoder.coder.cache
 
 -- a decoder keeps a shard's index
 abbrev pub is_indexed : {H B : Type 0} {h : _} {b : _} → ArrayPartialDecoder H B h b → Bool
-is_indexed decoder = coder_knows_index decoder.coder
+is_indexed decoder = knows_index decoder.coder.cache
 
 -- it reads a shard by its index, and keeps nothing yet
 abbrev pub wants_index : {H B : Type 0} {h : _} {b : _} → ArrayPartialDecoder H B h b → Bool

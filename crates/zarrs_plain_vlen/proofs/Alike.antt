@@ -1,5 +1,6 @@
 -- A read rests on the bytes of the index's length, of the index and of the elements alone.
 use Rattle.std.proofs.Common.{◌≡◌, ℕ, ◌-◌, ◌≤◌, Bool, true, false, nat_le, List, [], ◌∷◌, ◌++◌, length, map, slice_index, Result, Ok, Err, arith, refl, ap, ap₂, sym, subst, ◌∙◌}
+use Rattle.std.specs.Result.{result_unwrap_or}
 use Rattle.std.specs.List.{All, between, list_all}
 use Rattle.std.proofs.lemmas.Bool.{and_parts}
 use Rattle.std.proofs.lemmas.Bool.Decides.{nat_tests}
@@ -17,7 +18,7 @@ use Rattle.zarrs_chain_meaning.proofs.ArraySteps.{ok_is}
 use Rattle.zarrs_plain_vlen.specs.Laws.{VlenReadsAlike}
 use Rattle.zarrs_chain_meaning.specs.vlen.PlainForm.{PlainForm}
 use Rattle.zarrs_plain_vlen.specs.VlenLayout.{VlenLayout, span_bytes, span_numbers, head_at, head_of, layout_at, layout_within, layout_of}
-use Rattle.zarrs_plain_vlen.specs.VlenRead.{element_is_there, offsets_read, elements_read, vlen_read, numbers_or_none, element_numbers, elements_at, rests_on}
+use Rattle.zarrs_plain_vlen.specs.VlenRead.{element_is_there, offsets_read, elements_read, vlen_read, element_numbers, elements_at, rests_on}
 use Rattle.zarrs_plain_vlen.proofs.ElementBytes.{numbers_at, cut_numbered}
 use Rattle.zarrs_plain_vlen.proofs.LayoutParts.{parts_at, parts_are}
 use Rattle.zarrs_bytes.proofs.Ranges.{take_drop-numbers}
@@ -86,12 +87,12 @@ module _ (form : PlainForm) (count : ℕ) (value other places : List ℕ) (long 
   eight : (head : ByteSpan) → head_of form.at_end n ≡ Ok head → 8 ≤ n
   eight head e = long_if (nat_le 8 n) n (head_at form.at_end n) head refl e
 
-  from_head : (r : Result ByteSpan CodecError) → head_of form.at_end n ≡ r → All Same (numbers_or_none (seen span_numbers r))
+  from_head : (r : Result ByteSpan CodecError) → head_of form.at_end n ≡ r → All Same (result_unwrap_or (seen span_numbers r) [])
       → (r >>= λ head. layout_within form.at_end n (length_of (span_bytes value head))) ≡ (r >>= λ head. layout_within form.at_end n (length_of (span_bytes other head)))
   from_head (Ok head) e h = ap (λ (bs : List ℕ). layout_within form.at_end n (length_of bs)) (span_alike head (head_inside form.at_end n head e) h)
   from_head (Err cause) e h = refl
 
-  layout_alike : All Same (numbers_or_none (seen span_numbers (head_of form.at_end n))) → layout_of form.at_end value ≡ layout_of form.at_end other
+  layout_alike : All Same (result_unwrap_or (seen span_numbers (head_of form.at_end n)) []) → layout_of form.at_end value ≡ layout_of form.at_end other
   layout_alike h =
       from_head (head_of form.at_end n) refl h
       ∙ ap (λ (k : ℕ). head_of form.at_end k >>= λ head. layout_within form.at_end k (length_of (span_bytes other head))) long
@@ -144,14 +145,14 @@ module _ (form : PlainForm) (count : ℕ) (value other places : List ℕ) (long 
       ap (λ (r : Result (List ℕ × List ℕ) CodecError). r >>= λ parts. offsets_read form count parts.0 >>= λ offsets. elements_read offsets parts.1 places) (parts_are form.at_end v)
       ∙ read_each v (layout_of form.at_end v)
 
-  from_offsets : (l : VlenLayout) (r : Result (List ℕ) CodecError) → LayoutInside n l → All Same (numbers_or_none (r >>= λ offsets. ok (element_numbers l.content.start offsets places)))
+  from_offsets : (l : VlenLayout) (r : Result (List ℕ) CodecError) → LayoutInside n l → All Same (result_unwrap_or (r >>= λ offsets. ok (element_numbers l.content.start offsets places)) [])
       → (r >>= λ offsets. elements_read offsets (span_bytes value l.content) places) ≡ (r >>= λ offsets. elements_read offsets (span_bytes other l.content) places)
   from_offsets l (Ok offsets) i h = elements_alike l.content offsets i.content h
   from_offsets l (Err cause) i h = refl
 
   from_layout : (r : Result VlenLayout CodecError) → ((l : VlenLayout) → r ≡ Ok l → LayoutInside n l)
-      → All Same (numbers_or_none (seen (λ layout. span_numbers layout.index) r))
-      → All Same (numbers_or_none (r >>= λ layout. offsets_read form count (span_bytes value layout.index) >>= λ offsets. ok (element_numbers layout.content.start offsets places)))
+      → All Same (result_unwrap_or (seen (λ layout. span_numbers layout.index) r) [])
+      → All Same (result_unwrap_or (r >>= λ layout. offsets_read form count (span_bytes value layout.index) >>= λ offsets. ok (element_numbers layout.content.start offsets places)) [])
       → read_at value r ≡ read_at other r
   from_layout (Ok l) known h k =
       let i = known l refl in
@@ -161,9 +162,9 @@ module _ (form : PlainForm) (count : ℕ) (value other places : List ℕ) (long 
 
   pub alike : All Same (rests_on form count value places) → vlen_read form count value places ≡ vlen_read form count other places
   alike h =
-      let head = numbers_or_none (seen span_numbers (head_of form.at_end n)) in
-      let index = numbers_or_none (seen (λ layout. span_numbers layout.index) (layout_of form.at_end value)) in
-      let elements = numbers_or_none (elements_at form count value places) in
+      let head = result_unwrap_or (seen span_numbers (head_of form.at_end n)) [] in
+      let index = result_unwrap_or (seen (λ layout. span_numbers layout.index) (layout_of form.at_end value)) [] in
+      let elements = result_unwrap_or (elements_at form count value places) [] in
       let later = All-second Same head (index ++ elements) h in
       read_is value
       ∙ from_layout (layout_of form.at_end value) (λ l e. layout_known (head_of form.at_end n) l refl e) (All-first Same index elements later) (All-second Same index elements later)

@@ -1,5 +1,6 @@
 -- A read in part, step by step, and the bytes that each step reads.
-use Rattle.std.proofs.Common.{◌≡◌, ℕ, ◌+◌, ◌<◌, ◌≤◌, Bool, true, Option, Some, None, List, ◌++◌, length, Result, Ok, Err, arith, refl, ap, sym, ◌∙◌}
+use Rattle.std.proofs.Common.{[], ◌≡◌, ℕ, ◌+◌, ◌<◌, ◌≤◌, Bool, true, Option, Some, None, List, ◌++◌, length, Result, Ok, Err, arith, refl, ap, sym, ◌∙◌}
+use Rattle.std.specs.Result.{result_unwrap_or}
 use Rattle.std.specs.List.{All}
 use Rattle.zarrs_chunk.specs.Answer.{◌>>=◌, seen}
 use Rattle.zarrs_chunk.specs.declared.codec_error.CodecError.{CodecError}
@@ -12,7 +13,7 @@ use Rattle.zarrs_chain_meaning.specs.vlen.PlainForm.{PlainForm}
 use Rattle.zarrs_plain_vlen.specs.VlenLayout.{VlenLayout, span_bytes, span_numbers, head_of, layout_of}
 use Rattle.zarrs_data_type.specs.ElementType.{ElementType}
 use Rattle.zarrs_plain_vlen.specs.PlainRead.{plain_read}
-use Rattle.zarrs_plain_vlen.specs.VlenRead.{stored_vlen_read, offsets_read, elements_read, vlen_read, numbers_or_none, elements_at, rests_on}
+use Rattle.zarrs_plain_vlen.specs.VlenRead.{stored_vlen_read, offsets_read, elements_read, vlen_read, elements_at, rests_on}
 use Rattle.zarrs_plain_vlen.proofs.IndexOffsets.{offsets_long}
 use Rattle.zarrs_plain_vlen.proofs.LayoutParts.{parts_at, parts_are}
 use Rattle.zarrs_bytes.proofs.BytesAt.{sure_parts}
@@ -44,18 +45,18 @@ module _ (form : PlainForm) (count : ℕ) (value places : List ℕ) where
 
 module _ (form : PlainForm) (count : ℕ) (value places : List ℕ) (sure : Option (ℕ → Bool)) (h : are_sure sure (rests_on form count value places) ≡ true) where
   abbrev pub head : List ℕ
-  head = numbers_or_none (seen span_numbers (head_of form.at_end (length value)))
+  head = result_unwrap_or (seen span_numbers (head_of form.at_end (length value))) []
 
   abbrev pub index : List ℕ
-  index = numbers_or_none (seen (λ layout. span_numbers layout.index) (layout_of form.at_end value))
+  index = result_unwrap_or (seen (λ layout. span_numbers layout.index) (layout_of form.at_end value)) []
 
   abbrev pub elements : List ℕ
-  elements = numbers_or_none (elements_at form count value places)
+  elements = result_unwrap_or (elements_at form count value places) []
 
   pub sure_index : (layout : VlenLayout) → layout_of form.at_end value ≡ Ok layout → are_sure sure (span_numbers layout.index) ≡ true
   sure_index layout e =
       let both = sure_parts sure index elements (sure_parts sure head (index ++ elements) h).1 in
-      ap (λ (r : Result VlenLayout CodecError). are_sure sure (numbers_or_none (seen (λ layout. span_numbers layout.index) r))) (sym e) ∙ both.0
+      ap (λ (r : Result VlenLayout CodecError). are_sure sure (result_unwrap_or (seen (λ layout. span_numbers layout.index) r) [])) (sym e) ∙ both.0
 
 -- ---- runs
 

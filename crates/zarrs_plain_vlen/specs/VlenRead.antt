@@ -1,24 +1,25 @@
 -- What a read in part answers through a plain `vlen`, and the bytes that the answer rests on.
-use Rattle.std.specs.Prelude.{ℕ, ◌+◌, ◌-◌, Bool, nat_le, ◌||◌, Option, Some, None, List, [], ◌++◌, length, map, slice_index, Result, Ok, Err}
+use Rattle.std.specs.Prelude.{ℕ, ◌+◌, ◌-◌, Bool, nat_le, ◌||◌, Option, Some, None, List, [], ◌∷◌, ◌++◌, length, map, slice_index, Result, Ok, Err}
+use Rattle.std.specs.Result.{result_unwrap_or}
 use Rattle.std.specs.List.{flat_map, list_all, range_with_len}
 use Rattle.zarrs_chunk.specs.Answer.{◌>>=◌, demand, checked_u64, seen}
 use Rattle.zarrs_chunk.specs.declared.codec_error.CodecError.{CodecError}
 use Rattle.zarrs_chunk.specs.declared.codec_error.CodecError.TheVariants.{InvalidOffsets, InvalidByteRange}
 use Rattle.zarrs_data_type.specs.Element.{plain, Chunk}
+use Rattle.zarrs_data_type.specs.Form.{form_of}
 use Rattle.zarrs_array_bytes.specs.Elements.{cut}
 use Rattle.zarrs_array_bytes.specs.Offsets.{rises}
 use Rattle.zarrs_bytes.specs.BytesCodec.{bytes_chunk}
-use Rattle.zarrs_chain_meaning.specs.vlen.Vlen.{offsets_in_chunk, vlen_value_parts}
+use Rattle.zarrs_chain_meaning.specs.vlen.Vlen.{offset_bytes, offset_type, offsets_in_chunk, vlen_value_parts}
 use Rattle.zarrs_chain_meaning.specs.vlen.PlainForm.{PlainForm}
 use Rattle.zarrs_plain_vlen.specs.VlenLayout.{span_numbers, head_of, layout_of, span_bytes}
-use Rattle.zarrs_chain_meaning.specs.vlen.VlenSteps.{offsets_form}
 
 -- ---- the answer
 
 -- so many offsets that an index part stands for, or the first error
 abbrev pub offsets_of_index : PlainForm → ℕ → List ℕ → Result (List ℕ) CodecError
 offsets_of_index form count index = do
-  chunk ← bytes_chunk (Some form.order) (offsets_form form.wide count) index
+  chunk ← bytes_chunk (Some form.order) (form_of (count ∷ []) (offset_type form.wide) (offset_bytes form.wide 0)) index
   _ ← demand (rises (offsets_in_chunk form.wide chunk)) InvalidOffsets
   Ok (offsets_in_chunk form.wide chunk)
 
@@ -48,14 +49,9 @@ vlen_read form count value places = do
 
 -- ---- what it rests on
 
--- the numbers, or none of what is rejected
-abbrev pub numbers_or_none : Result (List ℕ) CodecError → List ℕ
-numbers_or_none (Ok numbers) = numbers
-numbers_or_none (Err cause) = []
-
 -- the numbers of the bytes of the index's length, where a value of so many bytes has them
 abbrev pub head_numbers : Bool → ℕ → List ℕ
-head_numbers at_end size = numbers_or_none (seen span_numbers (head_of at_end size))
+head_numbers at_end size = result_unwrap_or (seen span_numbers (head_of at_end size)) []
 
 -- the numbers of the bytes of the elements at places, of data that begin at `start`
 abbrev pub element_numbers : ℕ → List ℕ → List ℕ → List ℕ
@@ -73,7 +69,7 @@ elements_at form count value places = do
 abbrev pub rests_on : PlainForm → ℕ → List ℕ → List ℕ → List ℕ
 rests_on form count value places =
     head_numbers form.at_end (length value)
-    ++ (numbers_or_none (seen (λ layout. span_numbers layout.index) (layout_of form.at_end value)) ++ numbers_or_none (elements_at form count value places))
+    ++ (result_unwrap_or (seen (λ layout. span_numbers layout.index) (layout_of form.at_end value)) [] ++ result_unwrap_or (elements_at form count value places) [])
 
 -- the numbers of the bytes that a read of places rests on; none, where nothing is stored
 abbrev pub stored_rests_on : PlainForm → ℕ → Option (List ℕ) → List ℕ → List ℕ

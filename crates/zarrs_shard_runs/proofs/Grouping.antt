@@ -1,13 +1,29 @@
 -- Groups of rising numbers are the inner chunks that have any of the places.
-use Rattle.std.proofs.Common.{◌≡◌, ℕ, zero, suc, ◌+◌, ◌<◌, ◌≤◌, ◌++◌, nat_eq, Bool, true, false, List, [], ◌∷◌, length, map, arith, refl, ap, sym, subst, ◌∙◌, ⊎_elim}
-use Rattle.std.specs.List.{All, range_with_len}
+use Rattle.std.proofs.Common.{◌≡◌, ℕ, zero, suc, ◌+◌, ◌<◌, ◌≤◌, ◌++◌, nat_eq, Bool, true, false, cond, List, [], ◌∷◌, length, map, arith, refl, ap, sym, subst, ◌∙◌, ⊎_elim}
+use Rattle.std.specs.List.{All, filter, range_with_len}
 use Rattle.std.proofs.lemmas.Bool.{cases_eq}
 use Rattle.std.proofs.lemmas.Bool.Decides.{nat_tests}
 use Rattle.std.proofs.lemmas.List.{append-nil}
 use Rattle.std.proofs.lemmas.List.Elements.{All-head, All-tail}
+use Rattle.zarrs_chain_meaning.specs.sharding.InnerChunks.{inner_chunk_of, place_inside}
 use Rattle.zarrs_shard_runs.specs.CutRuns.{cell, cells_at}
 use Rattle.zarrs_shard_runs.specs.Groups.{AreRising, cells_of_groups}
-use Rattle.zarrs_shard_runs.specs.PlacesInside.{if_inside, if_any, places_of_inner, groups_among}
+use Rattle.zarrs_shard_runs.specs.PlacesInside.{if_any, places_of_inner, groups_among}
+
+-- a place of the inner chunk of this number before others, where that is the one
+abbrev pub if_inside : Bool → ℕ → List ℕ → List ℕ
+if_inside true inside places = inside ∷ places
+if_inside false inside places = places
+
+one_mapped : (test : Bool) (f : ℕ → ℕ) (place : ℕ) (rest : List ℕ) → map f (cond test (place ∷ rest) rest) ≡ if_inside test (f place) (map f rest)
+one_mapped true f place rest = refl
+one_mapped false f place rest = refl
+
+-- one place after another
+pub inner_step : (shape sizes : List ℕ) (number place : ℕ) (places : List ℕ)
+    → places_of_inner shape sizes number (place ∷ places) ≡ if_inside (nat_eq (inner_chunk_of shape sizes place) number) (place_inside shape sizes place) (places_of_inner shape sizes number places)
+inner_step shape sizes number place places =
+    one_mapped (nat_eq (inner_chunk_of shape sizes place) number) (place_inside shape sizes) place (filter (λ other. nat_eq (inner_chunk_of shape sizes other) number) places)
 
 -- of places with the numbers of their inner chunks those of one number
 abbrev pub cells_in : ℕ → List (ℕ × ℕ) → List ℕ
@@ -21,7 +37,8 @@ cell_groups cells (number ∷ numbers) = if_any number (cells_in number cells) (
 
 pub places_are_cells : (shape sizes places : List ℕ) (number : ℕ) → places_of_inner shape sizes number places ≡ cells_in number (map (cell shape sizes) places)
 places_are_cells shape sizes [] number = refl
-places_are_cells shape sizes (place ∷ places) number = ap (if_inside (nat_eq (cell shape sizes place).0 number) (cell shape sizes place).1) (places_are_cells shape sizes places number)
+places_are_cells shape sizes (place ∷ places) number =
+    inner_step shape sizes number place places ∙ ap (if_inside (nat_eq (cell shape sizes place).0 number) (cell shape sizes place).1) (places_are_cells shape sizes places number)
 
 pub groups_are_cells : (shape sizes places numbers : List ℕ) → groups_among shape sizes places numbers ≡ cell_groups (map (cell shape sizes) places) numbers
 groups_are_cells shape sizes places [] = refl

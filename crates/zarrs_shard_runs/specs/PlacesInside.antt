@@ -1,18 +1,11 @@
 -- Places of a chunk, by the inner chunks that have them.
 use Rattle.std.specs.List.{range_with_len}
-use Rattle.std.specs.Prelude.{ℕ, nat_eq, Bool, true, false, List, [], ◌∷◌}
+use Rattle.std.specs.Prelude.{ℕ, nat_eq, List, [], ◌∷◌, map, filter}
 use Rattle.zarrs_chain_meaning.specs.sharding.InnerChunks.{inner_chunk_count, inner_chunk_of, place_inside}
-
--- a place of the inner chunk of this number before others, where that is the one
-abbrev pub if_inside : Bool → ℕ → List ℕ → List ℕ
-if_inside true inside places = inside ∷ places
-if_inside false inside places = places
 
 -- of places of the chunk those in the inner chunk of this number, as places of it
 abbrev pub places_of_inner : List ℕ → List ℕ → ℕ → List ℕ → List ℕ
-places_of_inner shape sizes number [] = []
-places_of_inner shape sizes number (place ∷ places) =
-    if_inside (nat_eq (inner_chunk_of shape sizes place) number) (place_inside shape sizes place) (places_of_inner shape sizes number places)
+places_of_inner shape sizes number places = map (place_inside shape sizes) (filter (λ place. nat_eq (inner_chunk_of shape sizes place) number) places)
 
 -- an inner chunk's number with these places of it before others, where there are any
 abbrev pub if_any : ℕ → List ℕ → List (ℕ × List ℕ) → List (ℕ × List ℕ)

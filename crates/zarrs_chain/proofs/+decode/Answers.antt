@@ -46,7 +46,7 @@ use Rattle.zarrs_chain.specs.declared.optional.optional_codec.OptionalCodec.{out
 use Rattle.zarrs_chain.proofs.OptionalRoom.{mask_long}
 use Rattle.zarrs_chain.proofs.TakenTight.{vlen_tight}
 use Rattle.zarrs_chain.proofs.ShardIndex.{index_form, numbers_answered, numbers_counted, numbers_refused, rows_there}
-use Rattle.zarrs_chain_meaning.specs.sharding.Sharding.{is_stored, missing_chunk}
+use Rattle.zarrs_chain_meaning.specs.sharding.Sharding.{is_stored}
 use Rattle.zarrs_chain_meaning.specs.sharding.ShardingSettings.{is_index_at_end}
 use Rattle.zarrs_chain.specs.declared.sharding.sharding_codec.ShardingCodec.{out-ShardingCodec}
 use Rattle.zarrs_chain_meaning.proofs.InnerChunks.{is_cut}
@@ -63,6 +63,7 @@ use Rattle.std.specs.Prelude.{is_none}
 use Rattle.std.specs.declared.borrow.CowSlice.{CowSlice}
 use Rattle.std.specs.declared.alloc.Global.{Global}
 use Rattle.zarrs_chain.proofs.+decode.Goals as goal
+use Rattle.zarrs_bytes.specs.PartialWrite.{filled_chunk}
 
 pub decode::chain_decode-returns : goal.decode::chain_decode-returns
 decode::chain_decode-returns g t c =
@@ -515,7 +516,7 @@ sharding::shard_rows::read_rows-returns-in_err-bytes g t c =
 pub sharding::shard_rows::read_rows-read_all_bytes-requires : goal.sharding::shard_rows::read_rows-read_all_bytes-requires
 sharding::shard_rows::read_rows-read_all_bytes-requires g t c =
     let s : is_none (fixed_size_of c.args.form.data_type.now) ≡ false = ap is_none c.requires.fixed in
-    let h : Holds c.args.form.data_type.now (flen (lent_bytes c.in_ok-bytes.bytes.now)) (missing_chunk c.args.inner.now c.args.form.data_type.now c.args.form.fill_value.now) =
+    let h : Holds c.args.form.data_type.now (flen (lent_bytes c.in_ok-bytes.bytes.now)) (filled_chunk c.args.inner.now c.args.form.data_type.now c.args.form.fill_value.now) =
     lent_holds c.args.form.data_type.now c.in_ok-blank.blank c.in_ok-bytes.bytes.now _ (sym c.in_ok-bytes.ensures.answer) c.in_ok-blank.ensures.answer.is in
     search (rules, s, h)
 

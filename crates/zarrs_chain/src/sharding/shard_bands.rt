@@ -7,7 +7,7 @@ ghost use Rattle.zarrs_array_bytes.specs.Validity.{Holds, validity};
 ghost use Rattle.zarrs_chunk.specs.Answer.{Appends, GivesBy};
 ghost use Rattle.zarrs_chunk.specs.ChunkShape.{product};
 ghost use Rattle.zarrs_chain_meaning.specs.sharding.InnerChunks.{inner_chunk_count, is_divided};
-ghost use Rattle.zarrs_chain_meaning.specs.sharding.Sharding.{missing_chunk};
+ghost use Rattle.zarrs_bytes.specs.PartialWrite.{filled_chunk};
 ghost use Rattle.zarrs_chain.specs.sharding.ShardBands.{AreJoinable, Extends, IsBandForm, ReadsBand, ReadsElements, band_of, chunks_of, part_elements};
 ghost use Rattle.zarrs_chain.specs.sharding.BandSizes.{GivesBandSizes};
 ghost use Rattle.zarrs_chain.specs.sharding.ShardWalk.{ReadsAll};
@@ -42,7 +42,7 @@ fn read_elements<'a, B: BytesToBytesCodecTraits>(
     blank: &ArrayBytes<'a>,
 ) -> Result<ArrayBytes<'a>, CodecError>
     requires missing { Holds form.data_type.now blank.now
-        (missing_chunk form.shape.now form.data_type.now form.fill_value.now) }
+        (filled_chunk form.shape.now form.data_type.now form.fill_value.now) }
     requires blank_tight { IsTight form.data_type.now blank.now }
     // Wide: the form of an inner chunk, the value and the span.
     ensures answer { ReadsElements B.functions chain.now (lent_form form.entry)
@@ -71,7 +71,7 @@ fn read_band<'a, B: BytesToBytesCodecTraits>(
     blank: &ArrayBytes<'a>,
 ) -> Result<Vec<ArrayBytes<'a>>, CodecError>
     requires missing { Holds form.data_type.now blank.now
-        (missing_chunk form.shape.now form.data_type.now form.fill_value.now) }
+        (filled_chunk form.shape.now form.data_type.now form.fill_value.now) }
     requires blank_tight { IsTight form.data_type.now blank.now }
     // Wide: the form of an inner chunk, the value and the numbers.
     ensures answer { ReadsBand B.functions chain.now (lent_form form.entry)
@@ -135,7 +135,7 @@ fn blank_chunk<'b>(
 ) -> Result<ArrayBytes<'b>, CodecError>
     requires form { IsShardForm inner.now form.shape.now form.data_type.now form.fill_value.now }
     ensures answer { GivesBy (Holds form.entry.data_type.now) result
-        (Ok (missing_chunk inner.now form.entry.data_type.now form.entry.fill_value.now)) }
+        (Ok (filled_chunk inner.now form.entry.data_type.now form.entry.fill_value.now)) }
     ensures tight { IfOk result (IsTight form.entry.data_type.now) }
 {
     inner.as_slice();

@@ -8,7 +8,7 @@ ghost use Rattle.zarrs_array_bytes.specs.Held.{flen, raw_of};
 ghost use Rattle.zarrs_array_bytes.specs.Tight.{IsTight};
 ghost use Rattle.zarrs_array_bytes.specs.Validity.{Holds, sizes_fit, validity};
 ghost use Rattle.zarrs_chain_meaning.specs.sharding.InnerChunks.{inner_chunk_count};
-ghost use Rattle.zarrs_chain_meaning.specs.sharding.Sharding.{missing_chunk};
+ghost use Rattle.zarrs_bytes.specs.PartialWrite.{filled_chunk};
 ghost use Rattle.zarrs_chain_meaning.specs.vlen.VlenSteps.{lent_bytes};
 ghost use Rattle.zarrs_chain.specs.sharding.ShardingCalls.{IsShardForm};
 ghost use Rattle.zarrs_chain.specs.sharding.ShardRows.{ReadsStoredBytes, ReadsInnerBytes, ReadsAllBytes};
@@ -60,7 +60,7 @@ fn read_inner_bytes<'a, B: BytesToBytesCodecTraits>(
 ) -> Result<ArrayBytesRaw<'a>, CodecError>
     requires fixed { is_none (fixed_size_of form.data_type.now) ≡ false }
     requires blank { Holds form.data_type.now (flen (lent_bytes blank.now))
-        (missing_chunk form.shape.now form.data_type.now form.fill_value.now) }
+        (filled_chunk form.shape.now form.data_type.now form.fill_value.now) }
     ensures answer { ReadsInnerBytes B.functions chain.now (lent_form form.entry)
         value.now span result }
     ensures whole { IfOk result (λ content. validity
@@ -85,7 +85,7 @@ fn read_all_bytes<'a, B: BytesToBytesCodecTraits>(
 ) -> Result<Vec<ArrayBytesRaw<'a>>, CodecError>
     requires fixed { is_none (fixed_size_of form.data_type.now) ≡ false }
     requires blank { Holds form.data_type.now (flen (lent_bytes blank.now))
-        (missing_chunk form.shape.now form.data_type.now form.fill_value.now) }
+        (filled_chunk form.shape.now form.data_type.now form.fill_value.now) }
     ensures answer { ReadsAllBytes B.functions chain.now (lent_form form.entry)
         value.now numbers.now result }
     ensures all { IfOk result (λ contents. length contents.items ≡ length numbers.now / 2) }
@@ -109,7 +109,7 @@ pub(crate) fn blank_inner_chunk<'b>(
     requires filling { fill_fits form.data_type.now form.fill_value.now ≡ true }
     requires counted { checked_u64 (product form.shape.now) ≡ Ok (product form.shape.now) }
     requires room { sizes_fit form.data_type.now (product form.shape.now) ≡ Ok tt }
-    ensures answer { GivesBy (Holds form.entry.data_type.now) result (Ok (missing_chunk
+    ensures answer { GivesBy (Holds form.entry.data_type.now) result (Ok (filled_chunk
         form.entry.shape.now form.entry.data_type.now form.entry.fill_value.now)) }
     ensures tight { IfOk result (IsTight form.entry.data_type.now) }
 {

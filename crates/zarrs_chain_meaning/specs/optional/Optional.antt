@@ -1,10 +1,10 @@
 -- The codec `optional`: a mask chain writes which elements are present, and a data chain those.
 -- Source: codec.zarrs.dev, `optional`.
-use Rattle.std.specs.Prelude.{ℕ, ◌+◌, ◌^◌, Bool, false, nat_lt, if◌then◌else◌, List, [], ◌∷◌, replicate, Result, Ok, Err, map, ◌≡◌, ◌<◌, true, ◌++◌, length, zero, suc, ◌==◌, nat_le, take, drop}
+use Rattle.std.specs.Prelude.{ℕ, ◌+◌, ◌^◌, Bool, false, nat_lt, if◌then◌else◌, List, [], ◌∷◌, replicate, Result, Ok, Err, map, filter, ◌≡◌, ◌<◌, true, ◌++◌, length, zero, suc, ◌==◌, nat_le, take, drop, IsSomeAnd}
 use Rattle.zarrs_bytes.specs.BytesCodec.{IsChunk}
 use Rattle.zarrs_chain_meaning.specs.BytesStages.{in_memory}
-use Rattle.zarrs_chain_meaning.specs.Meaning.{Measure, Encoder, Decoder, Standing, Meaning, part_value, part_chunk, PartStands, PartWritten}
-use Rattle.zarrs_chain_meaning.specs.Parts.{part_length_bytes, length_of}
+use Rattle.zarrs_chain_meaning.specs.Meaning.{Measure, Encoder, Decoder, Standing, Keeping, Meaning, part_value, part_chunk, PartStands, PartWritten}
+use Rattle.zarrs_chain_meaning.specs.Parts.{for_each, part_length_bytes, length_of}
 use Rattle.zarrs_chain_meaning.specs.declared.codec_name.TheConstants.{OPTIONAL}
 use Rattle.zarrs_chunk.specs.Answer.{◌>>=◌, demand, checked_u64}
 use Rattle.zarrs_chunk.specs.ChunkShape.{product}
@@ -13,7 +13,7 @@ use Rattle.zarrs_chunk.specs.declared.codec_error.CodecError.{CodecError}
 use Rattle.zarrs_codec.specs.declared.bytes_representation.BytesRepresentation.TheVariants.{FixedSize, BoundedSize, UnboundedSize}
 use Rattle.zarrs_codec.specs.declared.bytes_representation.BytesRepresentation.{BytesRepresentation}
 use Rattle.zarrs_data_type.specs.Element.{Element, plain, present, Chunk, absent}
-use Rattle.zarrs_data_type.specs.ElementType.{ElementType, fixed, text, bytes, optional, element_size}
+use Rattle.zarrs_data_type.specs.ElementType.{ElementType, fixed, optional, element_size, inner_of}
 use Rattle.zarrs_data_type.specs.FillValue.{fill_fits}
 
 -- ---- which chunks, and how many bytes
@@ -25,9 +25,8 @@ flag_type = fixed 1 1 false
 -- the fill value that a chain of present elements gets
 abbrev pub blank_fill : ElementType → List ℕ
 blank_fill (fixed width components sign) = replicate (element_size width components) 0
-blank_fill text = []
-blank_fill bytes = []
 blank_fill (optional type) = 0 ∷ []
+blank_fill type = []
 
 -- at most so many bytes, or any number where 64 bits don't count them
 abbrev pub bounded : ℕ → BytesRepresentation
@@ -95,20 +94,6 @@ flag_in (plain (zero ∷ [])) = Ok false
 flag_in (plain (suc zero ∷ [])) = Ok true
 flag_in _ = Err MaskValue
 
--- the flags of a mask
-abbrev pub flags_in : Chunk → Result (List Bool) CodecError
-flags_in [] = Ok []
-flags_in (element ∷ chunk) = do
-  flag ← flag_in element
-  flags ← flags_in chunk
-  Ok (flag ∷ flags)
-
--- how many flags are set
-abbrev pub count_set : List Bool → ℕ
-count_set [] = 0
-count_set (true ∷ flags) = suc (count_set flags)
-count_set (false ∷ flags) = count_set flags
-
 -- the elements at the places whose flags are set
 abbrev pub under_flags : List Bool → Chunk → Chunk
 under_flags [] chunk = []
@@ -121,15 +106,15 @@ abbrev pub optional_chunk : Decoder → Decoder → List ℕ → ElementType →
 optional_chunk mask data' sizes (optional type) value = do
   parts ← optional_parts value
   mask_chunk ← mask sizes flag_type (0 ∷ []) parts.0
-  flags ← flags_in mask_chunk
-  elements ← part_chunk data' type (blank_fill type) (count_set flags) parts.1
+  flags ← for_each flag_in mask_chunk
+  elements ← part_chunk data' type (blank_fill type) (length (filter (λ set. set) flags)) parts.1
   Ok (under_flags flags elements)
 optional_chunk mask data' sizes type value = Err (UnsupportedDataType OPTIONAL)
 
 -- ---- what is kept of an element
 
 -- what is present as the data chain keeps it
-abbrev pub optional_normal : (ElementType → Element → Element) → ElementType → Element → Element
+abbrev pub optional_normal : Keeping → Keeping
 optional_normal data' (optional type) (present element) = present (data' type element)
 optional_normal data' type element = element
 
@@ -151,11 +136,6 @@ pub record OptionalStands (mask content : Standing) (sizes : List ℕ) (type : E
   pub mask_stands : mask sizes flag_type (0 ∷ []) mask_part (map flag_of chunk)
   pub data_stands : PartStands content type (blank_fill type) data_part (present_of chunk)
 
--- the value stands for the chunk, whose type is optional
-abbrev pub OptionalStandsFor : Standing → Standing → List ℕ → ElementType → List ℕ → Chunk → Type 0
-OptionalStandsFor mask content sizes (optional type) value chunk = OptionalStands mask content sizes type value chunk
-OptionalStandsFor mask content sizes type value chunk = ⊥
-
 -- The lengths of the mask and of the data, and both, each as its chain writes it.
 pub record OptionalWritten (mask content : Standing) (sizes : List ℕ) (type : ElementType) (value : List ℕ) (chunk : Chunk) : Type 0 where
   pub mask_part : List ℕ
@@ -165,14 +145,9 @@ pub record OptionalWritten (mask content : Standing) (sizes : List ℕ) (type : 
   pub mask_written : mask sizes flag_type (0 ∷ []) mask_part (map flag_of chunk)
   pub data_written : PartWritten content type (blank_fill type) data_part (present_of chunk)
 
--- the value is written for the chunk, whose type is optional
-abbrev pub OptionalWrittenFor : Standing → Standing → List ℕ → ElementType → List ℕ → Chunk → Type 0
-OptionalWrittenFor mask content sizes (optional type) value chunk = OptionalWritten mask content sizes type value chunk
-OptionalWrittenFor mask content sizes type value chunk = ⊥
-
 -- ---- all of it
 
--- what `optional` means, by what its two chains mean
+-- what `optional` means, by what its two chains mean; of types that are optional alone
 abbrev pub optional_meaning : {B : Type 0} → Meaning B → Meaning B → Meaning B
 optional_meaning mask content = record {
   Mapped = mask.Mapped × content.Mapped;
@@ -180,6 +155,6 @@ optional_meaning mask content = record {
   representation = λ f. optional_representation (mask.representation f) (content.representation f);
   value = λ f sizes type fill chunk. optional_value (mask.value f) (content.value f) sizes type chunk;
   chunk = λ f sizes type fill value. optional_chunk (mask.chunk f) (content.chunk f) sizes type value;
-  Stands = λ f sizes type fill value chunk. OptionalStandsFor (mask.Stands f) (content.Stands f) sizes type value chunk;
-  Written = λ f sizes type fill value chunk. OptionalWrittenFor (mask.Written f) (content.Written f) sizes type value chunk;
+  Stands = λ f sizes type fill value chunk. IsSomeAnd (inner_of type) (λ inner. OptionalStands (mask.Stands f) (content.Stands f) sizes inner value chunk);
+  Written = λ f sizes type fill value chunk. IsSomeAnd (inner_of type) (λ inner. OptionalWritten (mask.Written f) (content.Written f) sizes inner value chunk);
 }

@@ -1,5 +1,5 @@
 -- What the calls of the codec `optional` answer, one step at a time.
-use Rattle.std.specs.Prelude.{ℕ, List, length, Result, Ok, Err, []}
+use Rattle.std.specs.Prelude.{ℕ, List, length, filter, Result, Ok, Err, []}
 use Rattle.zarrs_chunk.specs.Answer.{◌>>=◌, GivesBy}
 use Rattle.zarrs_chunk.specs.declared.codec_error.CodecError.{CodecError}
 use Rattle.zarrs_chunk.specs.declared.codec_error.CodecError.TheVariants.{UnsupportedDataType}
@@ -9,9 +9,9 @@ use Rattle.zarrs_array_bytes.specs.Elements.{elements}
 use Rattle.zarrs_array_bytes.specs.Held.{Held, masked, owned_bytes}
 use Rattle.zarrs_array_bytes.specs.Present.{present_elements}
 use Rattle.zarrs_chain_meaning.specs.Meaning.{Decoder, part_chunk}
-use Rattle.zarrs_chain_meaning.specs.optional.Optional.{flags_in, count_set, under_flags, blank_fill}
+use Rattle.zarrs_chain_meaning.specs.optional.Optional.{under_flags, blank_fill, flag_in}
 use Rattle.zarrs_chain_meaning.specs.CodecMeaning.{chain_chunk, codec_value}
-use Rattle.zarrs_chain_meaning.specs.Parts.{byte_elements}
+use Rattle.zarrs_chain_meaning.specs.Parts.{byte_elements, for_each}
 use Rattle.std.proofs.Common.{Bor}
 use Rattle.zarrs_chunk.specs.ChunkShape.{product}
 use Rattle.zarrs_array_bytes.specs.Validity.{Holds}
@@ -33,8 +33,8 @@ elements_under type held mask = present_elements (elements (optional type) (leng
 -- the elements that a part stands for, at the places whose flags are set
 abbrev pub present_part : Decoder → ElementType → Chunk → List ℕ → Result Chunk CodecError
 present_part decode type mask part = do
-  flags ← flags_in mask
-  items ← part_chunk decode type (blank_fill type) (count_set flags) part
+  flags ← for_each flag_in mask
+  items ← part_chunk decode type (blank_fill type) (length (filter (λ set. set) flags)) part
   Ok (under_flags flags items)
 
 -- the bytes of both parts, which are lent

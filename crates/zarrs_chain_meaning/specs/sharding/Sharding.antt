@@ -1,14 +1,16 @@
 -- The codec `sharding_indexed`: the values of inner chunks, and an index of where the value of each begins and how long it is.
 -- Source: the Zarr v3 codec `sharding_indexed`.
 use Rattle.std.specs.Cmp.Lexicographic.{pointwise}
-use Rattle.std.specs.List.{list_all}
-use Rattle.std.specs.Prelude.{ℕ, ◌+◌, ◌*◌, ◌-◌, ◌^◌, ◌==◌, nat_eq, nat_lt, nat_le, if◌then◌else◌, Bool, true, false, not, ◌&&◌, Option, Some, None, List, [], ◌∷◌, ◌++◌, length, take, drop, replicate, map, All, Result, Ok, Err, ◌≡◌, ◌<◌, ◌≤◌}
+use Rattle.std.specs.List.{list_all, flat_map, AllZip}
+use Rattle.std.specs.Prelude.{ℕ, ◌+◌, ◌*◌, ◌-◌, ◌^◌, ◌==◌, nat_eq, nat_lt, nat_le, if◌then◌else◌, Bool, true, false, not, ◌&&◌, Option, Some, None, unwrap_or, List, [], ◌∷◌, ◌++◌, length, take, drop, map, All, Result, Ok, Err, ◌≡◌, ◌<◌, ◌≤◌}
 use Rattle.zarrs_array_bytes.specs.Validity.{sizes_fit}
 use Rattle.zarrs_bytes.specs.BytesCodec.{IsChunk}
+use Rattle.zarrs_bytes.specs.PartialWrite.{filled_chunk}
 use Rattle.zarrs_chain_meaning.specs.BytesStages.{in_memory}
 use Rattle.zarrs_chain_meaning.specs.Meaning.{Measure, Encoder, Decoder, Standing, Keeping, Meaning}
+use Rattle.zarrs_chain_meaning.specs.Parts.{for_each}
 use Rattle.zarrs_chain_meaning.specs.optional.Optional.{bounded}
-use Rattle.zarrs_chain_meaning.specs.sharding.InnerChunks.{is_divided, grid, inner_chunk_count, inner_chunks_of, joined_inner_chunks, IsCut}
+use Rattle.zarrs_chain_meaning.specs.sharding.InnerChunks.{is_divided, grid, inner_chunk_count, inner_chunks_of, joined_inner_chunks}
 use Rattle.zarrs_chain_meaning.specs.vlen.Vlen.{offset_type, offset_bytes, offset_elements, offsets_in_chunk, is_same_bytes}
 use Rattle.zarrs_chunk.specs.Answer.{◌>>=◌, demand, checked_u64}
 use Rattle.zarrs_chunk.specs.ChunkShape.{product}
@@ -25,20 +27,14 @@ use Rattle.zarrs_data_type.specs.ElementType.{ElementType}
 abbrev pub index_shape : List ℕ → List ℕ → List ℕ
 index_shape shape sizes = grid shape sizes ++ 2 ∷ []
 
--- how many bytes the index chain makes of an index, which has the type uint64 and the fill value 0
-abbrev pub index_measured : Measure → List ℕ → List ℕ → Result BytesRepresentation CodecError
-index_measured index shape sizes = index (index_shape shape sizes) (offset_type true) (offset_bytes true 0)
-
 -- a size that is fixed, or the error
 abbrev pub fixed_size : BytesRepresentation → Result ℕ CodecError
 fixed_size (FixedSize size) = Ok size
 fixed_size _ = Err IndexNotFixed
 
--- how many bytes the index of a chunk has
+-- how many bytes the index chain makes of the index of a chunk, which has the type uint64 and the fill value 0
 abbrev pub index_size : Measure → List ℕ → List ℕ → Result ℕ CodecError
-index_size index shape sizes = do
-  r ← index_measured index shape sizes
-  fixed_size r
+index_size index shape sizes = index (index_shape shape sizes) (offset_type true) (offset_bytes true 0) >>= fixed_size
 
 -- both numbers of an inner chunk that isn't stored; shut, since it computes to a large number
 unfoldable pub missing : ℕ
@@ -74,10 +70,6 @@ is_kept_as_fill keep type fill element = is_same_element (keep type element) (fi
 abbrev pub is_left_out : Keeping → ElementType → List ℕ → Chunk → Bool
 is_left_out keep type fill inner_chunk = list_all (is_kept_as_fill keep type fill) inner_chunk
 
--- the inner chunk of fill elements alone
-abbrev pub missing_chunk : List ℕ → ElementType → List ℕ → Chunk
-missing_chunk shape type fill = replicate (product shape) (fill_element type fill)
-
 -- ---- which chunks, and how many bytes
 
 -- how many bytes so many inner chunks and an index have at most
@@ -102,24 +94,16 @@ shard_representation shape keep inner index sizes type fill = do
 
 -- the value of an inner chunk, or none where it is left out
 abbrev pub inner_value : Bool → Result (List ℕ) CodecError → Result (Option (List ℕ)) CodecError
-inner_value true value = Ok None
-inner_value false value = do
-  part ← value
-  Ok (Some part)
+inner_value left_out value = if left_out then Ok None else value >>= λ part. Ok (Some part)
 
 -- the values of inner chunks, in order, or the first error
 abbrev pub inner_values : Keeping → Encoder → List ℕ → ElementType → List ℕ → List Chunk → Result (List (Option (List ℕ))) CodecError
-inner_values keep inner shape type fill [] = Ok []
-inner_values keep inner shape type fill (inner_chunk ∷ inner_chunks) = do
-  part ← inner_value (is_left_out keep type fill inner_chunk) (inner shape type fill inner_chunk)
-  parts ← inner_values keep inner shape type fill inner_chunks
-  Ok (part ∷ parts)
+inner_values keep inner shape type fill inner_chunks =
+    for_each (λ inner_chunk. inner_value (is_left_out keep type fill inner_chunk) (inner shape type fill inner_chunk)) inner_chunks
 
 -- all values, one behind the other
 abbrev pub joined_values : List (Option (List ℕ)) → List ℕ
-joined_values [] = []
-joined_values (None ∷ parts) = joined_values parts
-joined_values (Some part ∷ parts) = part ++ joined_values parts
+joined_values parts = flat_map (λ part. unwrap_or part []) parts
 
 -- the numbers of the index, where the first value begins at an offset
 abbrev pub index_numbers : ℕ → List (Option (List ℕ)) → List ℕ
@@ -161,18 +145,15 @@ spanned_bytes value span = take span.1 (drop span.0 value)
 
 -- the inner chunk at a span, or that of fill elements where it isn't stored
 abbrev pub inner_chunk_at : Bool → Decoder → List ℕ → ElementType → List ℕ → List ℕ → Span → Result Chunk CodecError
-inner_chunk_at false inner shape type fill value span = Ok (missing_chunk shape type fill)
+inner_chunk_at false inner shape type fill value span = Ok (filled_chunk shape type fill)
 inner_chunk_at true inner shape type fill value span = do
   _ ← demand (nat_le (span.0 + span.1) (length value)) InvalidByteRange
   inner shape type fill (spanned_bytes value span)
 
 -- the inner chunks at spans, in order, or the first error
 abbrev pub inner_chunks_at : Decoder → List ℕ → ElementType → List ℕ → List ℕ → List Span → Result (List Chunk) CodecError
-inner_chunks_at inner shape type fill value [] = Ok []
-inner_chunks_at inner shape type fill value (span ∷ spans) = do
-  inner_chunk ← inner_chunk_at (is_stored span) inner shape type fill value span
-  inner_chunks ← inner_chunks_at inner shape type fill value spans
-  Ok (inner_chunk ∷ inner_chunks)
+inner_chunks_at inner shape type fill value spans =
+    for_each (λ span. inner_chunk_at (is_stored span) inner shape type fill value span) spans
 
 -- the chunk that a value stands for, of chunks that the codec takes, or the first error
 abbrev pub shard_chunk : List ℕ → Bool → Measure → Decoder → Decoder → Decoder
@@ -187,19 +168,17 @@ shard_chunk shape at_end index_measure inner index sizes type fill value = do
 
 -- the bytes at a span inside the value stand for the inner chunk; where it isn't stored, it is of fill elements
 abbrev pub InnerChunkStands : Bool → Standing → List ℕ → ElementType → List ℕ → List ℕ → Span → Chunk → Type 0
-InnerChunkStands false inner shape type fill value span inner_chunk = inner_chunk ≡ missing_chunk shape type fill
+InnerChunkStands false inner shape type fill value span inner_chunk = inner_chunk ≡ filled_chunk shape type fill
 InnerChunkStands true inner shape type fill value span inner_chunk = (span.0 + span.1 ≤ length value) × inner shape type fill (spanned_bytes value span) inner_chunk
 
 -- span by span and inner chunk by inner chunk
 abbrev pub InnerChunksStand : Standing → List ℕ → ElementType → List ℕ → List ℕ → List Span → List Chunk → Type 0
-InnerChunksStand inner shape type fill value [] [] = Unit {0}
-InnerChunksStand inner shape type fill value (span ∷ spans) (inner_chunk ∷ inner_chunks) =
-    InnerChunkStands (is_stored span) inner shape type fill value span inner_chunk × InnerChunksStand inner shape type fill value spans inner_chunks
-InnerChunksStand inner shape type fill value _ _ = ⊥
+InnerChunksStand inner shape type fill value spans inner_chunks =
+    AllZip (λ span inner_chunk. InnerChunkStands (is_stored span) inner shape type fill value span inner_chunk) spans inner_chunks
 
 -- The index, before other bytes or behind them, stands for two numbers for each inner chunk; and the bytes at these stand for that inner chunk. They are in any order, and may overlap.
 pub record ShardStands (shape : List ℕ) (at_end : Bool) (index_measure : Measure) (inner index : Standing) (sizes : List ℕ) (type : ElementType) (fill value : List ℕ) (chunk : Chunk) : Type 0 where
-  pub cut : IsCut shape sizes
+  pub divided : is_divided shape sizes ≡ true
   pub size : ℕ
   pub index_part : List ℕ
   pub others : List ℕ
@@ -219,14 +198,12 @@ InnerChunkWritten left_out inner shape type fill inner_chunk part = ⊥
 
 -- inner chunk by inner chunk
 abbrev pub InnerChunksWritten : Keeping → Standing → List ℕ → ElementType → List ℕ → List Chunk → List (Option (List ℕ)) → Type 0
-InnerChunksWritten keep inner shape type fill [] [] = Unit {0}
-InnerChunksWritten keep inner shape type fill (inner_chunk ∷ inner_chunks) (part ∷ parts) =
-    InnerChunkWritten (is_left_out keep type fill inner_chunk) inner shape type fill inner_chunk part × InnerChunksWritten keep inner shape type fill inner_chunks parts
-InnerChunksWritten keep inner shape type fill _ _ = ⊥
+InnerChunksWritten keep inner shape type fill inner_chunks parts =
+    AllZip (λ inner_chunk part. InnerChunkWritten (is_left_out keep type fill inner_chunk) inner shape type fill inner_chunk part) inner_chunks parts
 
 -- The values of the inner chunks that aren't left out, one behind the other, and the index of where each begins and how long it is, whose numbers the index chain keeps.
 pub record ShardWritten (shape : List ℕ) (at_end : Bool) (keep index_keep : Keeping) (index_measure : Measure) (inner index : Standing) (sizes : List ℕ) (type : ElementType) (fill value : List ℕ) (chunk : Chunk) : Type 0 where
-  pub cut : IsCut shape sizes
+  pub divided : is_divided shape sizes ≡ true
   pub size : ℕ
   pub values : List (Option (List ℕ))
   pub index_part : List ℕ

@@ -9,7 +9,7 @@ use Rattle.zarrs_array_bytes.specs.Offsets.{rises, last_of}
 use Rattle.zarrs_array_bytes.specs.Pieces.{ends}
 use Rattle.zarrs_bytes.specs.ByteOrder.{bytes_of}
 use Rattle.zarrs_chain_meaning.specs.BytesStages.{in_memory}
-use Rattle.zarrs_chain_meaning.specs.Meaning.{Measure, Encoder, Decoder, Standing, Meaning, part_value, part_chunk, PartStands, PartWritten}
+use Rattle.zarrs_chain_meaning.specs.Meaning.{Measure, Encoder, Decoder, Standing, Keeping, Meaning, part_value, part_chunk, PartStands, PartWritten}
 use Rattle.zarrs_chain_meaning.specs.Parts.{byte_type, the_byte, byte_elements, all_bytes, part_length_bytes, length_of}
 use Rattle.zarrs_chain_meaning.specs.declared.codec_name.TheConstants.{VLEN}
 use Rattle.zarrs_chunk.specs.Answer.{◌>>=◌, demand, checked_u64}
@@ -66,9 +66,7 @@ slices count offsets items = map (λ place. plain (cut offsets items place)) (ra
 
 -- the elements have the same bytes
 abbrev pub is_same_bytes : Chunk → Chunk → Bool
-is_same_bytes [] [] = true
-is_same_bytes (a ∷ as') (b ∷ bs) = pointwise nat_eq (bytes_of a) (bytes_of b) && is_same_bytes as' bs
-is_same_bytes _ _ = false
+is_same_bytes chunk others = pointwise (λ one other. pointwise nat_eq (bytes_of one) (bytes_of other)) chunk others
 
 -- ---- the value of a chunk
 
@@ -78,7 +76,7 @@ arranged false head index data' = head ++ (index ++ data')
 arranged true head index data' = data' ++ (index ++ head)
 
 -- the value that `vlen` writes of a chunk, by the encoders of its two chains; or the first error
-abbrev pub vlen_value : Bool → Bool → (ElementType → Element → Element) → Encoder → Encoder → Chunk → Result (List ℕ) CodecError
+abbrev pub vlen_value : Bool → Bool → Keeping → Encoder → Encoder → Chunk → Result (List ℕ) CodecError
 vlen_value wide at_end keep index data' chunk = do
   let offsets = offset_elements wide (chunk_offsets chunk)
   items ← in_memory (all_bytes chunk)
@@ -117,7 +115,7 @@ vlen_chunk wide at_end index data' count value = do
 -- ---- what is kept of an element
 
 -- each byte as the data chain keeps it
-abbrev pub vlen_normal : (ElementType → Element → Element) → ElementType → Element → Element
+abbrev pub vlen_normal : Keeping → Keeping
 vlen_normal data' text (plain items) = plain (map (λ byte. the_byte (data' byte_type (plain (byte ∷ [])))) items)
 vlen_normal data' bytes (plain items) = plain (map (λ byte. the_byte (data' byte_type (plain (byte ∷ [])))) items)
 vlen_normal data' type element = element
@@ -142,7 +140,7 @@ pub record VlenStands (wide at_end : Bool) (index content : Standing) (count : �
   pub elements : chunk ≡ slices count (offsets_in_chunk wide offset_chunk) (all_bytes byte_chunk)
 
 -- Offsets are the sums of the lengths from zero, fit their type and are as the index chain keeps them; each part is the one that its chain writes.
-pub record VlenWritten (wide at_end : Bool) (keep : ElementType → Element → Element) (index content : Standing) (value : List ℕ) (chunk : Chunk) : Type 0 where
+pub record VlenWritten (wide at_end : Bool) (keep : Keeping) (index content : Standing) (value : List ℕ) (chunk : Chunk) : Type 0 where
   pub index_part : List ℕ
   pub data_part : List ℕ
   pub small : length value < 2 ^ 64

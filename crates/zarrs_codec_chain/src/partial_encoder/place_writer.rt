@@ -9,7 +9,7 @@ ghost use Rattle.zarrs_chunk.specs.Tuples.{is_box_inside};
 ghost use Rattle.zarrs_codec.specs.CodersOverHandles.{HandleWrites};
 ghost use Rattle.zarrs_codec_chain.specs.ChunkWrite.{FitsPlacesIn, FitsRuns, LendsData, LeavesThere, form_written};
 ghost use Rattle.zarrs_bytes.specs.PartialWrite.{FailsByWriting};
-ghost use Rattle.zarrs_codec_chain.specs.ChunkCalls.{ReplacesPlaces, ReplacesSelected};
+ghost use Rattle.zarrs_codec_chain.specs.ChunkCalls.{ReplacesPlaces, CountsEditThrough};
 ghost use Rattle.zarrs_codec_chain.specs.ChunkRead.{form_in_place};
 
 use crate::chunk_coder::ChunkCoder;
@@ -162,7 +162,7 @@ impl<'a, B: BytesToBytesCodecTraits> ChunkCoder<'a, B> {
         ensures writes { CoderWrites H.state self.now (Some codec.now) handle.old handle.new
             (selection_of indexer.now) elements.now result }
         ensures unread { FailsByWriting H.state handle.old handle.new result }
-        ensures counted { ReplacesSelected H.calls H.state (coder_form self.now)
+        ensures counted { CountsEditThrough H.calls H.state (coder_form self.now)
             (selection_of indexer.now) handle.old handle.new result }
         ensures left { HandleWrites H.state H.lent H.atomic handle.old handle.new result }
     {

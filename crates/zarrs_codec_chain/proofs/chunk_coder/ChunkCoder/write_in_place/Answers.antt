@@ -1,15 +1,16 @@
-use Rattle.std.proofs.Common.{◌∙◌, None, ap, refl, sym, subst, rules}
+use Rattle.std.proofs.Common.{◌∙◌, Option, None, ap, refl, sym, subst, rules}
 use Rattle.std.specs.Prelude.{Some}
 use Rattle.std.proofs.lemmas.Result.{err_from_is_err_and}
 use Rattle.zarrs_chunk.specs.Answer.{seen}
 use Rattle.zarrs_chunk.specs.Indexer.{selection_of}
 use Rattle.zarrs_chunk.specs.Runs.{joined_runs}
 use Rattle.zarrs_data_type.specs.Form.{form_of}
+use Rattle.zarrs_data_type.specs.declared.endianness.Endianness.{Endianness}
 use Rattle.zarrs_codec_chain.specs.ChunkCalls.{ReplacesPlaces}
 use Rattle.zarrs_codec_chain.specs.ChunkCoder.{coder_form}
-use Rattle.zarrs_codec_chain.specs.ChunkRead.{encoded_places, planned_order, standing_places}
+use Rattle.zarrs_codec_chain.specs.ChunkRead.{encoded_places, form_in_place, planned_order, standing_places}
 use Rattle.zarrs_codec_chain.specs.ChunkWrite.{WritesChunk}
-use Rattle.zarrs_codec_chain.proofs.Counting.{counted_at, in_place_region, refused_counts, replaced_so}
+use Rattle.zarrs_codec_chain.proofs.Counting.{CountsByOrder, counted_at, in_place_region, refused_edit, replaced_so}
 use Rattle.zarrs_codec_chain.proofs.PartialReads.{is_readable}
 use Rattle.zarrs_codec_chain.proofs.PlaceWrites.{answer_by, in_place_taken, left_unchecked, memory_too, selection_in_place}
 use Rattle.zarrs_codec_chain.proofs.PlannedPlaces.{others_are, standing_is}
@@ -79,13 +80,14 @@ returns-in-Some-clause-counted g c =
     let goes = region_goes f form k.encoded k.representation h are positive k.counted_whole region kept.inside kept.kept in
     let there = ap (λ s. encoded_places form.type form.chain.array_to_array form.sizes s) kept.selection_is ∙ goes in
     let planned = in_place_region form selection (Some region) c.args.codec.now c.requires.writes_in_place (sym (c.in-Some.ensures {u = tt}).region) in
-    counted_at (planned_order form selection) (standing_places form.chain.array_to_array form.sizes region) (λ places. ReplacesPlaces D.calls D.state form.type places c.args.handle.now c.write_region.new.handle c.write_region.result)
-    (standing_is form selection region _ planned there) c.write_region.ensures.counted
+    subst (λ (order : Option (Option Endianness)). CountsByOrder D.calls D.state (coder_form c.args.self.now) order (selection_of c.args.indexer.now) c.args.handle.now c.write_region.new.handle c.write_region.result) (sym c.requires.writes_in_place)
+    (counted_at (planned_order form selection) (standing_places form.chain.array_to_array form.sizes region) (λ places. ReplacesPlaces D.calls D.state form.type places c.args.handle.now c.write_region.new.handle c.write_region.result)
+    (standing_is form selection region _ planned there) c.write_region.ensures.counted)
 
 pub returns-in_err-runs-clause-counted : goal.returns-in_err-runs-clause-counted
 returns-in_err-runs-clause-counted g c =
     let p = err_from_is_err_and c.from_residual.result c.from_residual.ensures.1 in
-    rw p.1 (refused_counts (planned_order (coder_form c.args.self.now) (selection_of c.args.indexer.now)))
+    rw p.1 (refused_edit (form_in_place (coder_form c.args.self.now)) (planned_order (coder_form c.args.self.now) (selection_of c.args.indexer.now)))
 
 pub returns-clause-counted : goal.returns-clause-counted
 returns-clause-counted g c =
@@ -95,6 +97,7 @@ returns-clause-counted g c =
     let selection = selection_of c.args.indexer.now in
     let none = in_place_region form selection None c.args.codec.now c.requires.writes_in_place (sym (c.in_default.ensures {u = tt}).region) in
     let runs = joined_runs c.in_ok-runs.runs.items in
-    counted_at (planned_order form selection) runs (λ places. ReplacesPlaces D.calls D.state form.type places c.args.handle.now c.write_runs.new.handle c.write_runs.result)
+    subst (λ (order : Option (Option Endianness)). CountsByOrder D.calls D.state (coder_form c.args.self.now) order (selection_of c.args.indexer.now) c.args.handle.now c.write_runs.new.handle c.write_runs.result) (sym c.requires.writes_in_place)
+    (counted_at (planned_order form selection) runs (λ places. ReplacesPlaces D.calls D.state form.type places c.args.handle.now c.write_runs.new.handle c.write_runs.result)
     (others_are form selection none ∙ c.in_ok-runs.ensures.places)
-    (replaced_so c.write_runs.result c.args.codec.now (form_of k.encoded k.data_type k.fill_value) (D.state c.args.handle.now).value (D.state c.write_runs.new.handle).value runs runs c.args.elements.now _ _ c.write_runs.ensures.answer refl c.write_runs.ensures.counted)
+    (replaced_so c.write_runs.result c.args.codec.now (form_of k.encoded k.data_type k.fill_value) (D.state c.args.handle.now).value (D.state c.write_runs.new.handle).value runs runs c.args.elements.now _ _ c.write_runs.ensures.answer refl c.write_runs.ensures.counted))
