@@ -24,9 +24,6 @@ byte_run size run = (run.0 * size, run.1 * size)
 abbrev pub byte_runs : ℕ → List (ℕ × ℕ) → List (ℕ × ℕ)
 byte_runs size runs = map (λ run. (run.0 * size, run.1 * size)) runs
 
-pub length-byte_runs : (size : ℕ) (runs : List (ℕ × ℕ)) → length (byte_runs size runs) ≡ length runs
-length-byte_runs size runs = length-map runs (byte_run size)
-
 -- the run at an index is still one of elements
 pub run_at : (size : ℕ) (runs now : List (ℕ × ℕ)) (index : ℕ) (d : ℕ × ℕ) → index < length runs → now ≡ byte_runs size (take index runs) ++ drop index runs → get_or now index d ≡ get_or runs index d
 run_at size runs now index d lt is =

@@ -306,14 +306,14 @@ impl<H: BytesPartialEncoderTraits> BytesCodecPartial<H> {
         ensures left { OnlyWrites (coder_state H.state) (coder_lent H.lent) bytes_form_of
             H.atomic self.old self.new result }
     {
-        let runs = runs_for(alloc, indexer, &self.shape, &self.data_type, elements)?;
+        let mut runs = runs_for(alloc, indexer, &self.shape, &self.data_type, elements)?;
         self.codec.write_runs(
             alloc,
             &mut self.handle,
             &self.shape,
             &self.data_type,
             &self.fill_value,
-            runs,
+            &mut runs,
             elements,
         )
     }

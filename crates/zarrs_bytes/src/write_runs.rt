@@ -39,22 +39,22 @@ fn put_runs<H: BytesPartialEncoderTraits>(
     alloc: Global,
     handle: &mut H,
     size: u64,
-    mut runs: Vec<(u64, u64)>,
+    runs: &mut [(u64, u64)],
     bytes: &[u8],
 ) -> Result<(), CodecError>
-    requires filled { All (λ run. 0 < run.1) runs.items }
-    requires ends { All (λ run. (run.0 + run.1) * size < 2 ^ 64) runs.items }
+    requires filled { All (λ run. 0 < run.1) runs.old }
+    requires ends { All (λ run. (run.0 + run.1) * size < 2 ^ 64) runs.old }
     requires sized { 0 < size }
-    requires enough { length bytes.now ≡ length (joined_runs runs.items) * size }
+    requires enough { length bytes.now ≡ length (joined_runs runs.old) * size }
     ensures answer { Answers memory_or_fault (λ done. done) result (Ok tt) }
-    ensures written { PutsBytes size runs.items bytes.now H.state handle.old handle.new result }
+    ensures written { PutsBytes size runs.old bytes.now H.state handle.old handle.new result }
     ensures kept_if_atomic { KeptIfAtomic H.atomic H.state handle.old handle.new result }
     ensures left { LeftByWriting H.state handle.old handle.new result }
     ensures same_reference { H.lent handle.new ≡ H.lent handle.old }
-    ensures counted { CountsWrite H.calls handle.old handle.new (run_byte_numbers size runs.items) result }
+    ensures counted { CountsWrite H.calls handle.old handle.new (run_byte_numbers size runs.old) result }
 {
-    scale_runs(&mut runs, size);
-    handle.partial_encode_many(alloc, runs.as_slice(), bytes)
+    scale_runs(runs, size);
+    handle.partial_encode_many(alloc, runs, bytes)
 }
 
 /// Elements of one size, lent.
@@ -89,17 +89,17 @@ impl BytesCodec {
         handle: &mut H,
         data_type: &DataType,
         size: u64,
-        runs: Vec<(u64, u64)>,
+        runs: &mut [(u64, u64)],
         elements: ArrayBytes<'_>,
     ) -> Result<(), CodecError>
-        requires filled { All (λ run. 0 < run.1) runs.items }
-        requires ends { All (λ run. (run.0 + run.1) * size < 2 ^ 64) runs.items }
+        requires filled { All (λ run. 0 < run.1) runs.old }
+        requires ends { All (λ run. (run.0 + run.1) * size < 2 ^ 64) runs.old }
         requires sized { 0 < size }
         requires kind { IsOk (fixed_part elements) }
-        requires enough { length (bytes_in elements) ≡ length (joined_runs runs.items) * size }
+        requires enough { length (bytes_in elements) ≡ length (joined_runs runs.old) * size }
         ensures answer { Answers memory_or_fault (λ done. done) result (Ok tt) }
         // Wide: it names the handle's state before and after, and what each byte comes from.
-        ensures written { PutsBytes size runs.items
+        ensures written { PutsBytes size runs.old
             (value_bytes self.now data_type.now elements.entry)
             H.state handle.old handle.new result }
         ensures one_write { OnOk result (LeftByWriting H.state handle.old handle.new result) }
@@ -108,7 +108,7 @@ impl BytesCodec {
         ensures kept_if_atomic { KeptIfAtomic H.atomic H.state handle.old handle.new result }
         ensures same_reference { H.lent handle.new ≡ H.lent handle.old }
         ensures counted { CountsWrite H.calls
-            handle.old handle.new (run_byte_numbers size runs.items) result }
+            handle.old handle.new (run_byte_numbers size runs.old) result }
     {
         let bytes = self.spell(alloc, elements, data_type)?;
         put_runs(alloc, handle, size, runs, bytes.as_slice())
@@ -135,22 +135,22 @@ impl BytesCodec {
         self.encode(alloc, edited, shape, data_type, fill)
     }
 
-    /// The same of runs and elements that are let go.
+    /// The same of elements that are let go.
     fn into_value(
         &self,
         alloc: Global,
         shape: &ChunkShape,
         data_type: &DataType,
         fill: &FillValue,
-        runs: Vec<(u64, u64)>,
+        runs: &[(u64, u64)],
         new: ArrayBytes<'_>,
     ) -> Result<ArrayBytesRaw<'static>, CodecError>
         requires taken { BytesTakes self.now (form_of shape.now data_type.now fill.now) }
-        requires below { EndWithin (product shape.now) runs.items }
-        requires fit { FitRuns data_type.now runs.items new }
-        ensures answer { FillsUp self.now shape.now data_type.now fill.now runs.items new.entry result }
+        requires below { EndWithin (product shape.now) runs.now }
+        requires fit { FitRuns data_type.now runs.now new }
+        ensures answer { FillsUp self.now shape.now data_type.now fill.now runs.now new.entry result }
     {
-        self.value_from_fill(alloc, shape, data_type, fill, runs.as_slice(), &new)
+        self.value_from_fill(alloc, shape, data_type, fill, runs, &new)
     }
 
     /// Writes new elements at the places of these runs, each a start and a length, in order, over a
@@ -162,7 +162,7 @@ impl BytesCodec {
     /// `OutOfMemory` and `Storage`.
     ///
     /// The handle is asked whether a value is stored, and then one writing call is made. Elements that
-    /// own their bytes are turned round where they stand.
+    /// own their bytes are turned round where they stand. Other numbers may stand in `runs` afterwards.
     #[inline(always)]
     pub fn write_given_runs<H: BytesPartialEncoderTraits>(
         &self,
@@ -171,15 +171,15 @@ impl BytesCodec {
         shape: &ChunkShape,
         data_type: &DataType,
         fill_value: &FillValue,
-        runs: Vec<(u64, u64)>,
+        runs: &mut [(u64, u64)],
         elements: ArrayBytes<'_>,
     ) -> Result<(), CodecError>
         requires taken { BytesTakes self.now (form_of shape.now data_type.now fill_value.now) }
-        requires filled { All (λ run. 0 < run.1) runs.items }
-        requires below { EndWithin (product shape.now) runs.items }
-        requires fit { FitRuns data_type.now runs.items elements }
+        requires filled { All (λ run. 0 < run.1) runs.old }
+        requires below { EndWithin (product shape.now) runs.old }
+        requires fit { FitRuns data_type.now runs.old elements }
         ensures answer { WritesRuns self.now (form_of shape.now data_type.now fill_value.now)
-            runs.items elements.entry H.state handle.old handle.new result }
+            runs.old elements.entry H.state handle.old handle.new result }
         ensures one_write { OnOk result (LeftByWriting H.state handle.old handle.new result) }
         ensures refused { OnErr result (LeftByRefusal H.state handle.old handle.new result) }
         ensures unread { FailsByWriting H.state handle.old handle.new result }
@@ -187,7 +187,7 @@ impl BytesCodec {
         ensures same_reference { H.lent handle.new ≡ H.lent handle.old }
         // Wide: the form and the new elements, and the handle's record and state.
         ensures counted { CountsWriteOfRuns self.now
-            (form_of shape.now data_type.now fill_value.now) runs.items elements.entry
+            (form_of shape.now data_type.now fill_value.now) runs.old elements.entry
             H.calls H.state handle.old handle.new result }
     {
         if handle.exists()? {
@@ -207,15 +207,15 @@ impl BytesCodec {
         shape: &ChunkShape,
         data_type: &DataType,
         fill_value: &FillValue,
-        runs: Vec<(u64, u64)>,
+        runs: &mut [(u64, u64)],
         elements: &ArrayBytes<'_>,
     ) -> Result<(), CodecError>
         requires taken { BytesTakes self.now (form_of shape.now data_type.now fill_value.now) }
-        requires filled { All (λ run. 0 < run.1) runs.items }
-        requires below { EndWithin (product shape.now) runs.items }
-        requires fit { FitRuns data_type.now runs.items elements.now }
+        requires filled { All (λ run. 0 < run.1) runs.old }
+        requires below { EndWithin (product shape.now) runs.old }
+        requires fit { FitRuns data_type.now runs.old elements.now }
         ensures answer { WritesRuns self.now (form_of shape.now data_type.now fill_value.now)
-            runs.items elements.now H.state handle.old handle.new result }
+            runs.old elements.now H.state handle.old handle.new result }
         ensures one_write { OnOk result (LeftByWriting H.state handle.old handle.new result) }
         ensures refused { OnErr result (LeftByRefusal H.state handle.old handle.new result) }
         ensures unread { FailsByWriting H.state handle.old handle.new result }
@@ -223,7 +223,7 @@ impl BytesCodec {
         ensures same_reference { H.lent handle.new ≡ H.lent handle.old }
         // Wide: the form and the new elements, and the handle's record and state.
         ensures counted { CountsWriteOfRuns self.now
-            (form_of shape.now data_type.now fill_value.now) runs.items elements.now
+            (form_of shape.now data_type.now fill_value.now) runs.old elements.now
             H.calls H.state handle.old handle.new result }
     {
         let elements = lend(elements)?;

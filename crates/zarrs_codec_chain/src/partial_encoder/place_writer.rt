@@ -134,14 +134,14 @@ impl<'a, B: BytesToBytesCodecTraits> ChunkCoder<'a, B> {
             (coder_standing self.now region.now) handle.old handle.new result }
         ensures left { HandleWrites H.state H.lent H.atomic handle.old handle.new result }
     {
-        let (runs, encoded) = self.encoded_region(alloc, codec, region, elements)?;
+        let (mut runs, encoded) = self.encoded_region(alloc, codec, region, elements)?;
         codec.write_given_runs(
             alloc,
             handle,
             &self.encoded,
             &self.data_type,
             &self.fill_value,
-            runs,
+            &mut runs,
             encoded,
         )
     }
@@ -170,14 +170,14 @@ impl<'a, B: BytesToBytesCodecTraits> ChunkCoder<'a, B> {
         if let Some(region) = self.kept_region(indexer) {
             return self.write_region(alloc, codec, handle, region, elements);
         }
-        let runs = self.placed_runs(alloc, indexer, elements)?;
+        let mut runs = self.placed_runs(alloc, indexer, elements)?;
         codec.write_runs(
             alloc,
             handle,
             &self.encoded,
             &self.data_type,
             &self.fill_value,
-            runs,
+            &mut runs,
             elements,
         )
     }
