@@ -11,3 +11,4 @@ pub mod DecodedWindows
 pub mod EncodedWindows
 pub mod OrderedRows
 pub mod RegionRuns
+pub mod FewRuns

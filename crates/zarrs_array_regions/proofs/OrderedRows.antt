@@ -2,8 +2,8 @@
 use Rattle.std.proofs.Common.{◌≡◌, ◌==◌, Bool, ℕ, zero, suc, ◌+◌, ◌*◌, ◌-◌, ◌<◌, ◌≤◌, ◌^◌, true, List, [], ◌∷◌, ◌++◌, length, get_or, map, take, drop, arith, refl, ap, ◌∙◌, sym, subst}
 use Rattle.std.specs.Prelude.{min}
 use Rattle.std.specs.List.{All, flat_map, range_with_len}
-use Rattle.std.proofs.lemmas.List.{append-nil, map-append, append_assoc, get_or_default, length-take, drop_all, take_more, take_rest, take-map, drop-map, take-append-drop}
-use Rattle.std.proofs.Math.Nat.{mul-le-mul_right, mul-le-mul_left, mul_assoc}
+use Rattle.std.proofs.lemmas.List.{append-nil, map-append, append_assoc, length-take, drop_all, take_more, take_rest, take-map, drop-map, take-append-drop}
+use Rattle.std.proofs.Math.Nat.{mul-le-mul_right, mul_assoc}
 use Rattle.std.proofs.lemmas.List.Concat.{flat_map-append}
 use Rattle.zarrs_chunk.specs.ChunkShape.{product}
 use Rattle.zarrs_chunk.specs.Levels.{number_behind, numbers_behind, rows_behind, IsFitting, AreFronts, FrontsFit, AreWhole, LastIsPartial}
@@ -12,9 +12,8 @@ use Rattle.zarrs_chunk.proofs.BoxTuples.{numbers_behind-next, numbers_behind-sta
 use Rattle.zarrs_chunk.proofs.Fitting.{IsFitting-more, IsFitting-start, room_below, room_next}
 use Rattle.zarrs_chunk.proofs.Inside.{is_box_inside-at, is_box_inside-lengths}
 use Rattle.zarrs_chunk.proofs.Products.{product_positive, product_positive-drop, product_drop}
-use Rattle.zarrs_chunk.proofs.WholeAxes.{positive_whole, spread_rows, rows_before_whole, whole_row_fits, product_drop-le, all_whole, one_filled}
-use Rattle.zarrs_chunk.proofs.Apart.{AreApart-one, rows_apart}
-use Rattle.zarrs_chunk.specs.Runs.{joined_runs, AreFilled, EndWithin}
+use Rattle.zarrs_chunk.proofs.WholeAxes.{positive_whole, product_drop-le, all_whole, one_filled}
+use Rattle.zarrs_chunk.proofs.Apart.{AreApart-one}
 use Rattle.std.proofs.lemmas.Bool.{and_from, and_parts, eqb-true}
 use Rattle.std.proofs.lemmas.List.Elements.{All-map, All-tail, All-take, All-push}
 use Rattle.zarrs_array_to_array.specs.Orders.{permuted}

@@ -4,6 +4,7 @@ pub mod KeptRegions
 pub mod PlaceReaders
 pub mod Parts
 pub mod OrderedRuns
+pub mod FewRuns
 pub mod WindowLaws
 pub use Rattle.zarrs_chunk.specs.Answer
 pub use Rattle.zarrs_chunk.specs.Indexer

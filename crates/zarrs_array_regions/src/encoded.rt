@@ -12,6 +12,7 @@ ghost use Rattle.zarrs_array_to_array.specs.CodecAnswers.{type_taken};
 ghost use Rattle.zarrs_array_to_array.specs.Mapping.{mapping_of};
 ghost use Rattle.zarrs_array_regions.specs.Windows.{region_map, window_of, TakesRegion, TakeType, GivesRegionRuns, EncodesRegion};
 ghost use Rattle.zarrs_array_regions.specs.Parts.{FitsRegion, EncodesPart};
+ghost use Rattle.zarrs_array_regions.specs.FewRuns.{FitsOne, EncodesFirst};
 
 use crate::next::next_window;
 use crate::window::own_runs;
@@ -43,6 +44,7 @@ pub(crate) fn transposed_part<'b>(
 
 /// The elements of the window behind one codec, encoded at a part's own lengths from those of the
 /// part.
+#[inline(always)]
 fn encoded_part<'a>(
     alloc: Global,
     codec: &ArrayToArrayCodec,
@@ -60,12 +62,36 @@ fn encoded_part<'a>(
 {
     match codec {
         ArrayToArrayCodec::Transpose(codec) => {
-            let encoded = transposed_part(alloc, codec, part, &held, data_type);
-            // A call to `drop` is one step of the proof, and a drop at the end is many.
-            drop(held);
-            encoded
+            transposed_part(alloc, codec, part, &held, data_type)
         }
         ArrayToArrayCodec::Reshape(_) | ArrayToArrayCodec::Squeeze(_) => Ok(held),
+    }
+}
+
+/// The elements of a region as they stand where no codec or the one that there is takes it, from those
+/// of the region, at its own lengths. The codec accepts the type, the region has elements, and there is
+/// one in `held` for each. Where `held` is fixed by its elements, so is what is made. Errors:
+/// `OutOfMemory`.
+#[inline(always)]
+pub fn encode_first<'a>(
+    alloc: Global,
+    codecs: &[ArrayToArrayCodec],
+    region: &ArraySubset,
+    held: ArrayBytes<'a>,
+    data_type: &DataType,
+) -> Result<ArrayBytes<'a>, CodecError>
+    requires fits { FitsOne (map mapping_of codecs.now) region.now }
+    requires filled { 0 < product region.now.lengths }
+    requires counted { product region.now.lengths < 2 ^ 64 }
+    requires takes { TakeType (map mapping_of codecs.now) data_type.now }
+    requires valid { validity data_type.now (product region.now.lengths) held ≡ Ok tt }
+    ensures encoded { EncodesFirst (map mapping_of codecs.now)
+        data_type.now region.now held.entry result }
+    ensures tight { KeepsTight data_type.now held.entry result }
+{
+    match codecs {
+        [] => Ok(held),
+        [first, ..] => encoded_part(alloc, first, region, held, data_type),
     }
 }
 

@@ -1,5 +1,5 @@
 //! Where a region goes through array-to-array codecs as a region.
-ghost use Rattle.std.specs.Prelude.{◌≡◌, map, IfSome, option_map};
+ghost use Rattle.std.specs.Prelude.{◌≡◌, [], map, IfSome, option_map};
 ghost use Rattle.std.specs.List.{list_all};
 ghost use Rattle.zarrs_chunk.specs.Indexer.{selection_of};
 ghost use Rattle.zarrs_array_to_array.specs.Mapping.{mapping_of};
@@ -69,6 +69,24 @@ pub fn kept_region<'i>(
         return None;
     }
     if is_filled(region) && keeps_regions(codecs) {
+        return Some(region);
+    }
+    None
+}
+
+/// The box that the indexer selects, where it lies inside a chunk of this shape and has elements.
+#[inline(always)]
+pub fn filled_box<'i>(shape: &ChunkShape, indexer: &'i Indexer) -> Option<&'i ArraySubset>
+    ensures filled { IfSome result
+        (λ region. IsKept [] shape.now (selection_of indexer.now) region.now) }
+{
+    let Indexer::Subset(region) = indexer else {
+        return None;
+    };
+    if indexer.check(shape).is_err() {
+        return None;
+    }
+    if is_filled(region) {
         return Some(region);
     }
     None

@@ -9,12 +9,14 @@
 //! [`kept_region`] returns where a region goes so. [`region_runs`] is where it stands in the moved
 //! chunk, [`decoded_window`] the elements of the region from those that stand there, and
 //! [`encode_region`] both the runs and the elements there, from those of the region. Through one
-//! transposition of few axes the runs come straight from the region's own ranges. A [`Window`] is what
-//! the laws speak of.
+//! transposition of few axes the runs come straight from the region's own ranges. Where these are few,
+//! [`few_region_runs`] puts them where they take no memory, and [`encode_first`] is the elements there.
+//! A [`Window`] is what the laws speak of.
 #![tactic(auto)]
 
 mod decoded;
 mod encoded;
+mod few_runs;
 mod kept;
 pub mod laws;
 mod next;
@@ -23,6 +25,8 @@ mod runs;
 mod window;
 
 pub use decoded::decoded_window;
-pub use kept::kept_region;
+pub use encoded::encode_first;
+pub use few_runs::{FewRuns, few_region_runs};
+pub use kept::{filled_box, kept_region};
 pub use runs::{encode_region, region_runs};
 pub use window::Window;

@@ -4,13 +4,13 @@ ghost use Rattle.zarrs_chunk.specs.ChunkShape.{product};
 ghost use Rattle.zarrs_chunk.specs.Levels.{AreWhole, LastIsPartial};
 ghost use Rattle.zarrs_chunk.specs.Rows.{AppendsRows, AreBoxRuns};
 ghost use Rattle.zarrs_array_to_array.specs.Orders.{permuted};
-ghost use Rattle.zarrs_array_regions.specs.OrderedRuns.{fronts_over, AreAxes, HasRoom};
+ghost use Rattle.zarrs_array_regions.specs.OrderedRuns.{fronts_over, row_along, AreAxes, HasRoom};
 
 use std::alloc::{AllocError, Global};
 use zarrs_chunk::{Row, push_rows};
 
 /// How many elements the axes of this order have.
-fn count_elements(order: &[usize], sizes: &[u64]) -> u64
+pub(crate) fn count_elements(order: &[usize], sizes: &[u64]) -> u64
     requires below { All (λ axis. axis < length sizes.now) order.now }
     requires positive { All (λ size. 0 < size) sizes.now }
     requires fits { product (permuted order.now sizes.now) < 2 ^ 64 }
@@ -24,7 +24,7 @@ fn count_elements(order: &[usize], sizes: &[u64]) -> u64
 }
 
 /// How many axes stand before those at the end of the order that the region covers whole.
-fn outer_axes(order: &[usize], sizes: &[u64], starts: &[u64], lengths: &[u64]) -> usize
+pub(crate) fn outer_axes(order: &[usize], sizes: &[u64], starts: &[u64], lengths: &[u64]) -> usize
     requires axes { AreAxes order.now sizes.now starts.now lengths.now }
     ensures axes { result ≤ length order.now }
     ensures whole { AreWhole result (length order.now) (permuted order.now sizes.now)
@@ -40,6 +40,36 @@ fn outer_axes(order: &[usize], sizes: &[u64], starts: &[u64], lengths: &[u64]) -
         }
     }
     axes
+}
+
+/// The rows along the last of so many axes in this order, behind a front over those before it. The
+/// region covers the axes after it whole.
+#[inline(always)]
+pub(crate) fn last_row(
+    order: &[usize],
+    sizes: &[u64],
+    starts: &[u64],
+    lengths: &[u64],
+    axes: usize,
+) -> Row
+    requires axes { AreAxes order.now sizes.now starts.now lengths.now }
+    requires filled { All (λ len. 0 < len) lengths.now }
+    requires fits { product (permuted order.now sizes.now) < 2 ^ 64 }
+    requires some { 0 < axes }
+    requires within { axes ≤ length order.now }
+    requires whole { AreWhole axes (length order.now) (permuted order.now sizes.now)
+        (permuted order.now starts.now) (permuted order.now lengths.now) }
+    requires partial { LastIsPartial axes
+        (permuted order.now sizes.now) (permuted order.now lengths.now) }
+    ensures value { result ≡ row_along axes order.now sizes.now starts.now lengths.now }
+{
+    let last = order[axes - 1];
+    let whole = count_elements(&order[axes..], sizes);
+    Row {
+        step: sizes[last] * whole,
+        start: starts[last] * whole,
+        len: lengths[last] * whole,
+    }
 }
 
 /// How many rows there are over these axes. No memory has room for `usize::MAX` of them.
@@ -108,13 +138,7 @@ pub(crate) fn ordered_runs(
         return Ok(runs);
     }
     let before = &order[..axes - 1];
-    let last = order[axes - 1];
-    let whole = count_elements(&order[axes..], sizes);
-    let row = Row {
-        step: sizes[last] * whole,
-        start: starts[last] * whole,
-        len: lengths[last] * whole,
-    };
+    let row = last_row(order, sizes, starts, lengths, axes);
     let mut runs = Vec::with_capacity(alloc, count_rows(before, lengths))?;
     append_rows(&mut runs, before, sizes, starts, lengths, 0, row)?;
     Ok(runs)

@@ -21,10 +21,10 @@ use zarrs_chunk::{ArraySubset, ChunkShape, CodecError};
 use zarrs_data_type::DataType;
 
 /// So many axes are few: their rows are made with a call an axis, one inside another.
-const FEW: usize = 8;
+pub(crate) const FEW: usize = 8;
 
 /// The one codec, where it is a transposition of few axes.
-fn few_axes(codecs: &[ArrayToArrayCodec]) -> Option<&TransposeCodec>
+pub(crate) fn few_axes(codecs: &[ArrayToArrayCodec]) -> Option<&TransposeCodec>
     ensures only { IfSome result (λ codec. map mapping_of codecs.now ≡ transpose codec.now ∷ []) }
 {
     match codecs {
@@ -160,11 +160,7 @@ pub fn encode_region<'a>(
     ensures apart { IfOk result (λ answer. AreApart answer.0.items) }
 {
     match few_axes(codecs) {
-        Some(codec) => {
-            let encoded = transposed_region(alloc, codec, shape, region, &held, data_type);
-            drop(held);
-            encoded
-        }
+        Some(codec) => transposed_region(alloc, codec, shape, region, &held, data_type),
         None => encoded_runs(alloc, codecs, shape, region, held, data_type),
     }
 }

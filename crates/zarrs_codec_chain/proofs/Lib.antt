@@ -19,6 +19,7 @@ pub mod IndexReads
 pub mod RegionReads
 pub mod RegionWrites
 pub mod PlannedPlaces
+pub mod WrittenRegions
 pub mod ListedReads
 pub mod Unharmed
 pub mod Counting
@@ -42,3 +43,4 @@ pub mod GroupedShards
 pub mod JointReads
 pub mod StoredIndex
 pub mod GroupSteps
+pub mod AloneGroup

@@ -1,6 +1,6 @@
 -- Writes of regions that go through array-to-array codecs as regions.
 use Rattle.std.proofs.Common.{◌≡◌, ◌^◌, ◌*◌, ◌<◌, ◌≤◌, ℕ, true, Option, Some, List, length, map, Result, Ok, Err, arith, refl, ap, sym, ◌∙◌, subst}
-use Rattle.std.specs.Prelude.{is_ok, IsOk}
+use Rattle.std.specs.Prelude.{is_ok, IsOk, IfErr}
 use Rattle.std.specs.List.{All}
 use Rattle.std.proofs.Math.Nat.{mul-le-mul_right}
 use Rattle.std.proofs.lemmas.Bool.{lt-ltb}
@@ -12,6 +12,7 @@ use Rattle.zarrs_chunk.specs.Tuples.{is_box_inside}
 use Rattle.zarrs_chunk.specs.declared.codec_error.CodecError.{CodecError}
 use Rattle.zarrs_chunk.specs.declared.codec_error.CodecError.TheVariants.{ArrayBytesKind, InvalidBytesLength}
 use Rattle.zarrs_chunk.proofs.Rising.{Rises-box, Rises-room}
+use Rattle.zarrs_data_type.specs.Element.{Chunk}
 use Rattle.zarrs_data_type.specs.ElementType.{ElementType, fixed, text, bytes, optional, element_size}
 use Rattle.zarrs_data_type.specs.FillValue.{fill_fits}
 use Rattle.zarrs_data_type.specs.Form.{form_of}
@@ -142,6 +143,15 @@ module _ {B : Type 0} (f : BytesCodecs B) (form : ChunkForm B) (encoded : List �
         fits_valid order encoded form.type form.fill (length places) held taken (subst (λ n. validity form.type n held ≡ Ok tt) (long ∙ sym there) holds.valid)
 
 -- ---- answers of calls
+
+-- after a check that passes none of its errors comes
+pub passed : (r : Result (Unit {0}) CodecError) (Q : CodecError → Type 0) → r ≡ Ok tt → IfErr r Q
+passed (Ok u) Q e = tt
+passed (Err x) Q e = absurd cc
+
+-- where a value is expected, no error but a lack of memory comes
+pub memory_alone : (chunk : Chunk) (e : CodecError) → ◌≡◌ {A = Result Chunk CodecError} (Ok chunk) (Err e) → ⊥
+memory_alone chunk e h = cc
 
 -- the bytes of elements of one size that are lent
 pub fixed_of : (new : Held) (items : List ℕ) → ◌≡◌ {A = Result (List ℕ) CodecError} (Ok items) (seen (λ (raw : Raw). raw.items) (fixed_part new)) → (raw : Raw) × (fixed_part new ≡ Ok raw) × (items ≡ raw.items)

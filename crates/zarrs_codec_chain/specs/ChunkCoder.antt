@@ -8,7 +8,7 @@ use Rattle.zarrs_chunk.specs.declared.indexer.Indexer.{Indexer}
 use Rattle.zarrs_chain.specs.ChainView.{plain_chain}
 use Rattle.zarrs_codec.specs.BytesToBytesCodec.{BytesCodecs}
 use Rattle.zarrs_codec_chain.specs.CodecPart.{rests_where}
-use Rattle.zarrs_codec_chain.specs.ChunkRead.{asks_in_part, form_in_place, form_places, standing_places, WhereSureBy}
+use Rattle.zarrs_codec_chain.specs.ChunkRead.{asks_in_part, form_in_place, form_places, planned_order, standing_places, WhereSureBy}
 use Rattle.zarrs_chain_meaning.specs.ChunkForm.{ChunkForm}
 use Rattle.zarrs_codec_chain.specs.KeptIndex.{IsIndexOf, asks_index, knows_index, keeps_nothing}
 use Rattle.zarrs_codec_chain.specs.ChunkSource.{Source, is_cache, kept_stage, source_made_at, source_of, bytes_above, opened_chunk, source_places, source_read}
@@ -162,3 +162,8 @@ IsKeptRegion coder indexer region = IsKept (plain_chain coder.chain.now).array_t
 -- where a region of the chunk stands in the moved chunk
 abbrev pub coder_standing : {B : Type 0} {b : _} → ChunkCoder B b → Region → List ℕ
 coder_standing coder region = standing_places (plain_chain coder.chain.now).array_to_array coder.shape region
+
+-- the indexer selects this region, which goes through the array-to-array codecs as a region; and where the coder writes in place, the selected places are planned in the order in which it stands
+pub record IsWrittenRegion {B : Type 0} {b : _} (coder : ChunkCoder B b) (indexer : Indexer) (region : Region) : Type 0 where
+  pub kept : IsKeptRegion coder indexer region
+  pub places : (order : Option Endianness) → IsInPlace coder order → planned_order (coder_form coder) (selection_of indexer) ≡ Ok (coder_standing coder region)

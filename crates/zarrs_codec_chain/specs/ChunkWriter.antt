@@ -1,11 +1,12 @@
 -- What a reader of chunks writes, and what its private calls for that give.
-use Rattle.std.specs.Prelude.{ℕ, Option, None, Some, List, Result}
+use Rattle.std.specs.Prelude.{◌≡◌, ℕ, Option, None, Some, List, Result, Ok, Err}
 use Rattle.std.proofs.Common.{Global}
 use Rattle.std.specs.declared.borrow.CowSlice.{CowSlice}
-use Rattle.zarrs_chunk.specs.Answer.{Answers, Gives, memory_or_fault, seen}
+use Rattle.zarrs_chunk.specs.Answer.{Answers, Excused, Gives, memory, memory_or_fault, seen}
 use Rattle.zarrs_chunk.specs.ChunkShape.{product}
-use Rattle.zarrs_chunk.specs.Runs.{joined_runs}
-use Rattle.zarrs_chunk.specs.Selection.{Selection}
+use Rattle.zarrs_chunk.specs.Region.{Region}
+use Rattle.zarrs_chunk.specs.Runs.{joined_runs, AreApart, AreFilled, EndWithin}
+use Rattle.zarrs_chunk.specs.Selection.{Selection, subset}
 use Rattle.zarrs_chunk.specs.declared.codec_error.CodecError.{CodecError}
 use Rattle.zarrs_data_type.specs.declared.endianness.Endianness.{Endianness}
 use Rattle.zarrs_array_bytes.specs.Elements.{elements}
@@ -13,8 +14,8 @@ use Rattle.zarrs_array_bytes.specs.Held.{Held, items_of}
 use Rattle.zarrs_codec.specs.BytesToBytesCodec.{BytesCodecs}
 use Rattle.zarrs_codec.specs.Calls.{Calls, MakesWrite}
 use Rattle.zarrs_codec.specs.StorageState.{StorageState, value_indices}
-use Rattle.zarrs_codec_chain.specs.ChunkCoder.{coder_form}
-use Rattle.zarrs_codec_chain.specs.ChunkWrite.{WritesChunk, edited_value, form_checked, value_left}
+use Rattle.zarrs_codec_chain.specs.ChunkCoder.{coder_form, coder_standing}
+use Rattle.zarrs_codec_chain.specs.ChunkWrite.{FitsRuns, LeavesThere, WritesChunk, edited_value, form_checked, value_left}
 use Rattle.zarrs_codec_chain.specs.declared.chunk_coder.ChunkCoder.{ChunkCoder}
 
 -- what its bytes-to-bytes codecs compute
@@ -26,6 +27,21 @@ reader_functions {b = b} coder = b.functions
 -- the check of new elements at a selection
 abbrev pub new_check : {B : Type 0} {b : _} → ChunkCoder B b → Selection → Held → Result (Unit {0}) CodecError
 new_check coder selection new = form_checked (coder_form coder) selection new
+
+-- where elements are given, these are checked; an error is the first one of the check, or a lack of memory
+abbrev pub ChecksSome : {T : Type 0} → Result (Option T) CodecError → Result (Unit {0}) CodecError → Type 0
+ChecksSome (Ok None) check = Unit {0}
+ChecksSome (Ok (Some x)) check = check ≡ Ok tt
+ChecksSome (Err e) check = Excused (memory e) (check ≡ Err e)
+
+-- Runs and a container are those of new elements of a region as it stands behind the array-to-array codecs: to write the elements at the places of the runs leaves what is to be left, and none is empty, ends behind the last element or starts where the one before it ends.
+pub record StandsThere {B : Type 0} {b : _} (coder : ChunkCoder B b) (order : Option Endianness) (region : Region) (new : Held) (runs : List (ℕ × ℕ)) (held : Held) : Type 0 where
+  pub same_edit : LeavesThere (reader_functions coder) (coder_form coder) coder.encoded order (subset region) new runs held
+  pub filled : AreFilled runs
+  pub inside : EndWithin (product coder.encoded) runs
+  pub apart : AreApart runs
+  pub places : joined_runs runs ≡ coder_standing coder region
+  pub fit : FitsRuns (coder_form coder) runs held
 
 -- ---- by the whole value
 

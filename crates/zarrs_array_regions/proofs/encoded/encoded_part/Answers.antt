@@ -5,14 +5,14 @@ use Rattle.zarrs_array_regions.proofs.HeldElements.{axes_fit}
 use Rattle.zarrs_array_to_array.proofs.MappedChunks.{holds_elements}
 use Rattle.zarrs_array_regions.proofs.encoded.encoded_part.Goals as goal
 
-pub transposed_part-encoded-requires-clause-axes : goal.transposed_part-encoded-requires-clause-axes
-transposed_part-encoded-requires-clause-axes c = axes_fit _ _ c.args.part.now (ap mapping_of c.in-Transpose.is) c.requires.axes
+pub transposed_part-requires-clause-axes : goal.transposed_part-requires-clause-axes
+transposed_part-requires-clause-axes c = axes_fit _ _ c.args.part.now (ap mapping_of c.in-Transpose.is) c.requires.axes
 
 pub returns-in-Transpose-clause-encoded : goal.returns-in-Transpose-clause-encoded
-returns-in-Transpose-clause-encoded c = rw c.in-Transpose.is c.transposed_part-encoded.ensures.encoded
+returns-in-Transpose-clause-encoded c = rw c.in-Transpose.is c.transposed_part.ensures.encoded
 
-pub returns-in-Reshape-clause-encoded : goal.returns-in-Reshape-clause-encoded
-returns-in-Reshape-clause-encoded c =
+pub returns-clause-encoded : goal.returns-clause-encoded
+returns-clause-encoded c =
     let held = holds_elements c.args.data_type.now (product c.args.part.now.lengths) c.args.held c.requires.valid in
     elim c.in-Reshape.is [
       | inl reshape ↦ rw reshape.1 (record { is = held; no_fault = refl })

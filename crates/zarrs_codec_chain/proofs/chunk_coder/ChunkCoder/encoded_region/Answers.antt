@@ -1,6 +1,5 @@
-use Rattle.std.proofs.Common.{◌+◌, ◌≤◌, ap, sym, subst, map, refl}
-use Rattle.std.specs.List.{All}
-use Rattle.zarrs_chunk.specs.Runs.{joined_runs}
+use Rattle.std.proofs.Common.{ap, sym, subst, map, refl}
+use Rattle.zarrs_chunk.specs.Runs.{EndWithin, joined_runs}
 use Rattle.zarrs_array_bytes.specs.Validity.{Holds}
 use Rattle.zarrs_array_to_array.specs.Mapping.{mapping_of}
 use Rattle.zarrs_array_regions.specs.Windows.{TakesRegion, TakeType, window_of, window_elements, encoded_elements}
@@ -34,8 +33,8 @@ encode_region-requires-clause-takes g c =
     let h = is_readable f form.chain form.sizes form.type form.fill k.encoded k.representation are positive k.taken in
     subst (λ cs. TakeType cs form.type) (sym c.array_to_array_codecs-codecs.ensures.value) (takes_type f form k.encoded k.representation h are positive k.counted_whole region c.requires.inside c.requires.region_kept)
 
-pub returns-clause-same_edit : goal.returns-clause-same_edit
-returns-clause-same_edit g c =
+pub returns-clause-there : goal.returns-clause-there
+returns-clause-there g c =
     let f = g.B.BytesToBytesCodecTraits.functions in
     let k = c.args.self.now in
     let form = coder_form k in
@@ -45,41 +44,17 @@ returns-clause-same_edit g c =
     let positive = c.is_sound.ensures.positive in
     let h = is_readable f form.chain form.sizes form.type form.fill k.encoded k.representation are positive k.taken in
     let window = window_of form.sizes region in
-    let there = (c.in_ok-runs.ensures {u = tt}).encoded.is in
+    let lent = c.in_ok-lent.lent in
+    let lends = (c.in_ok-lent.ensures {u = tt}).lent in
+    let made = c.in_ok-runs.ensures {u = tt} in
+    let there = made.encoded.is in
     let at = runs_at form.chain.array_to_array (map mapping_of c.array_to_array_codecs-codecs.result.now) window c.in_ok-runs.runs.items c.in_ok-runs.runs.items c.array_to_array_codecs-codecs.ensures.value (ap ok (sym there.0)) refl in
-    let holds = subst (λ cs. Holds form.type c.in_ok-runs.encoded (encoded_elements cs window (window_elements form.type window c.in_ok-lent.lent))) c.array_to_array_codecs-codecs.ensures.value there.1 in
-    region_leaves f form k.encoded k.representation h are positive k.counted_whole region c.requires.inside c.args.codec.now c.requires.writes_in_place c.requires.region_kept new c.in_ok-lent.lent c.in_ok-runs.encoded ((c.in_ok-lent.ensures {u = tt}).lent) (joined_runs c.in_ok-runs.runs.items) at holds k.filling
-
-pub returns-clause-inside : goal.returns-clause-inside
-returns-clause-inside g c =
-    let f = g.B.BytesToBytesCodecTraits.functions in
-    let k = c.args.self.now in
-    let form = coder_form k in
-    let are = c.is_sound.ensures.mappings.mappings in
-    let positive = c.is_sound.ensures.positive in
-    let h = is_readable f form.chain form.sizes form.type form.fill k.encoded k.representation are positive k.taken in
-    subst (λ n. All (λ run. run.0 + run.1 ≤ n) c.in_ok-runs.runs.items) (sym h.count) ((c.in_ok-runs.ensures {u = tt}).below)
-
-pub returns-clause-fit : goal.returns-clause-fit
-returns-clause-fit g c =
-    let f = g.B.BytesToBytesCodecTraits.functions in
-    let k = c.args.self.now in
-    let form = coder_form k in
-    let region = c.args.region.now in
-    let new = c.args.elements.now in
-    let are = c.is_sound.ensures.mappings.mappings in
-    let positive = c.is_sound.ensures.positive in
-    let h = is_readable f form.chain form.sizes form.type form.fill k.encoded k.representation are positive k.taken in
-    let window = window_of form.sizes region in
-    let there = (c.in_ok-runs.ensures {u = tt}).encoded.is in
-    let at = runs_at form.chain.array_to_array (map mapping_of c.array_to_array_codecs-codecs.result.now) window c.in_ok-runs.runs.items c.in_ok-runs.runs.items c.array_to_array_codecs-codecs.ensures.value (ap ok (sym there.0)) refl in
-    let holds = subst (λ cs. Holds form.type c.in_ok-runs.encoded (encoded_elements cs window (window_elements form.type window c.in_ok-lent.lent))) c.array_to_array_codecs-codecs.ensures.value there.1 in
-    region_fits f form k.encoded k.representation h are positive k.counted_whole region c.requires.inside c.args.codec.now c.requires.writes_in_place c.requires.region_kept new c.in_ok-lent.lent c.in_ok-runs.encoded ((c.in_ok-lent.ensures {u = tt}).lent) (joined_runs c.in_ok-runs.runs.items) at holds
-
-pub returns-clause-places : goal.returns-clause-places
-returns-clause-places g c =
-    let form = coder_form c.args.self.now in
-    let window = window_of form.sizes c.args.region.now in
-    let there = (c.in_ok-runs.ensures {u = tt}).encoded.is in
-    let at = runs_at form.chain.array_to_array (map mapping_of c.array_to_array_codecs-codecs.result.now) window c.in_ok-runs.runs.items c.in_ok-runs.runs.items c.array_to_array_codecs-codecs.ensures.value (ap ok (sym there.0)) refl in
-    sym (ok_is _ _ at)
+    let holds = subst (λ cs. Holds form.type c.in_ok-runs.encoded (encoded_elements cs window (window_elements form.type window lent))) c.array_to_array_codecs-codecs.ensures.value there.1 in
+    record {
+      same_edit = region_leaves f form k.encoded k.representation h are positive k.counted_whole region c.requires.inside c.args.codec.now c.requires.writes_in_place c.requires.region_kept new lent c.in_ok-runs.encoded lends (joined_runs c.in_ok-runs.runs.items) at holds k.filling;
+      filled = made.filled;
+      inside = subst (λ n. EndWithin n c.in_ok-runs.runs.items) (sym h.count) made.below;
+      apart = made.apart;
+      places = sym (ok_is _ _ at);
+      fit = region_fits f form k.encoded k.representation h are positive k.counted_whole region c.requires.inside c.args.codec.now c.requires.writes_in_place c.requires.region_kept new lent c.in_ok-runs.encoded lends (joined_runs c.in_ok-runs.runs.items) at holds;
+    }

@@ -1,57 +1,20 @@
-use Rattle.std.proofs.Common.{ap, refl, rules}
+use Rattle.std.proofs.Common.{rules}
 use Rattle.std.specs.Prelude.{Some}
 use Rattle.std.proofs.lemmas.Result.{err_from_is_err_and}
-use Rattle.zarrs_chunk.specs.Answer.{seen}
-use Rattle.zarrs_chunk.specs.Runs.{joined_runs}
 use Rattle.zarrs_chunk.specs.Selection.{subset as subset_of}
-use Rattle.zarrs_data_type.specs.Form.{form_of}
 use Rattle.zarrs_codec_chain.specs.ChunkCoder.{coder_form}
-use Rattle.zarrs_codec_chain.proofs.Counting.{replaced_so}
-use Rattle.zarrs_codec_chain.proofs.PlaceWrites.{answer_by, in_place_taken, left_unchecked, memory_too}
+use Rattle.zarrs_codec_chain.proofs.PlaceWrites.{left_unchecked, memory_too}
 use Rattle.zarrs_codec_chain.proofs.RegionReads.{inside_bounds}
-use Rattle.zarrs_codec_chain.proofs.Unharmed.{accepted_unharmed}
 use Rattle.zarrs_codec_chain.proofs.chunk_coder.ChunkCoder.write_region.Goals as goal
 
-pub returns-in_err-runs-clause-writes : goal.returns-in_err-runs-clause-writes
-returns-in_err-runs-clause-writes g c =
+pub returns-in_err-few_region-clause-writes : goal.returns-in_err-few_region-clause-writes
+returns-in_err-few_region-clause-writes g c =
     let k = c.args.self.now in
-    let e = c.in_err-runs.field-0.0 in
+    let e = c.in_err-few_region.field-0.0 in
     let p = err_from_is_err_and c.from_residual.result c.from_residual.ensures.1 in
     record {
-      answer = rw (p.1, p.2) (λ m. left_unchecked g.B.BytesToBytesCodecTraits.functions (coder_form k) (Some c.args.codec.now) (g.H.BytesPartialDecoderTraits.state c.args.handle.now).value (subset_of c.args.region.now) c.args.elements.now e (c.in_err-runs.ensures.checked.is (memory_too e m)));
+      answer = rw (p.1, p.2) (λ m. left_unchecked g.B.BytesToBytesCodecTraits.functions (coder_form k) (Some c.args.codec.now) (g.H.BytesPartialDecoderTraits.state c.args.handle.now).value (subset_of c.args.region.now) c.args.elements.now e (c.in_err-few_region.ensures.checked (memory_too e m)));
       indexer_first = inside_bounds k.shape c.args.region.now c.requires.inside _;
       checked_first = search rules;
       untouched = search rules;
     }
-
-pub write_given_runs-requires-clause-taken : goal.write_given_runs-requires-clause-taken
-write_given_runs-requires-clause-taken g c =
-    let k = c.args.self.now in
-    let form = coder_form k in
-    in_place_taken g.B.BytesToBytesCodecTraits.functions form.chain.bytes_to_bytes form.chain.array_to_bytes c.args.codec.now k.encoded k.data_type k.fill_value c.requires.writes_in_place k.measured
-
-pub returns-clause-writes : goal.returns-clause-writes
-returns-clause-writes g c =
-    let stored = (g.H.BytesPartialDecoderTraits.state c.args.handle.now).value in
-    record {
-      answer = answer_by _ _ c.write_given_runs.result _ _ (ap (seen (λ value. Some value)) ((c.in_ok-runs.ensures {u = tt}).same_edit stored)) c.write_given_runs.ensures.answer;
-      indexer_first = inside_bounds c.args.self.now.shape c.args.region.now c.requires.inside _;
-      checked_first = search rules;
-      untouched = search rules;
-    }
-
-pub returns-clause-left : goal.returns-clause-left
-returns-clause-left g c = record {
-  one_write = c.write_given_runs.ensures.one_write;
-  refused = c.write_given_runs.ensures.refused;
-  kept_if_atomic = c.write_given_runs.ensures.kept_if_atomic;
-  unharmed = accepted_unharmed _ c.write_given_runs.result _ _ c.write_given_runs.ensures.answer;
-  same_reference = c.write_given_runs.ensures.same_reference;
-  form_kept = refl;
-}
-
-pub returns-clause-counted : goal.returns-clause-counted
-returns-clause-counted g c =
-    let D = g.H.BytesPartialDecoderTraits in
-    let k = c.args.self.now in
-    replaced_so c.write_given_runs.result c.args.codec.now (form_of k.encoded k.data_type k.fill_value) (D.state c.args.handle.now).value (D.state c.write_given_runs.new.handle).value (joined_runs c.in_ok-runs.runs.items) _ c.in_ok-runs.encoded _ _ c.write_given_runs.ensures.answer ((c.in_ok-runs.ensures {u = tt}).places) c.write_given_runs.ensures.counted
