@@ -34,6 +34,10 @@ const NESTED_SIZED: &'static str =
 pub(crate) const TURNED_INSIDE: &'static str =
     r#"{"shape":[2,4],"data_type":"uint8","fill_value":"00","codecs":[{"name":"sharding_indexed","configuration":{"chunk_shape":[2,2],"codecs":[{"name":"transpose","configuration":{"order":[1,0]}},"bytes"],"index_codecs":[{"name":"bytes","configuration":{"endian":"little"}}]}}]}"#;
 
+/// Three rows of six bytes, the axes of whose inner chunks are turned.
+const WIDE_INSIDE: &'static str =
+    r#"{"shape":[3,6],"data_type":"uint8","fill_value":"ff","codecs":[{"name":"sharding_indexed","configuration":{"chunk_shape":[3,3],"codecs":[{"name":"transpose","configuration":{"order":[1,0]}},"bytes"],"index_codecs":[{"name":"bytes","configuration":{"endian":"little"}}]}}]}"#;
+
 /// Four rows of two bytes, whose axes are turned before they are divided.
 const TURNED_OUTSIDE: &'static str =
     r#"{"shape":[4,2],"data_type":"uint8","fill_value":"00","codecs":[{"name":"transpose","configuration":{"order":[1,0]}},{"name":"sharding_indexed","configuration":{"chunk_shape":[2,2],"codecs":["bytes"],"index_codecs":[{"name":"bytes","configuration":{"endian":"little"}}]}}]}"#;
@@ -261,6 +265,30 @@ const OF_CHAINS: &'static [Row] = &[
         value: b"\x01\x03\x02\x04\x05\x07\x06\x08\0\0\0\0\0\0\0\0\x04\0\0\0\0\0\0\0\x04\0\0\0\0\0\0\0\x04\0\0\0\0\0\0\0",
         inside: &[(0, 1), (2, 4), (8, 40)],
         part: r#"{"at":{"indices":[[1,1],[0,0],[0,1]]},"data":["04","01","02"]}"#,
+        refusal: None,
+    },
+    Row {
+        name: "an inner chunk whole, whose axes are turned, by its bytes and nothing of the other",
+        chunk: TURNED_INSIDE,
+        value: b"\x01\x03\x02\x04\x05\x07\x06\x08\0\0\0\0\0\0\0\0\x04\0\0\0\0\0\0\0\x04\0\0\0\0\0\0\0\x04\0\0\0\0\0\0\0",
+        inside: &[(4, 40)],
+        part: r#"{"at":{"ranges":[[0,2],[2,4]]},"data":["05","06","07","08"]}"#,
+        refusal: None,
+    },
+    Row {
+        name: "a box of one inner chunk whose axes are turned, by the bytes of its elements alone",
+        chunk: WIDE_INSIDE,
+        value: b"\x01\x04\x07\x02\x05\x08\x03\x06\x09\xff\xff\xff\xff\xff\xff\xff\xff\xff\xff\xff\xff\xff\xff\xff\xff\0\0\0\0\0\0\0\0\x09\0\0\0\0\0\0\0",
+        inside: &[(4, 6), (7, 41)],
+        part: r#"{"at":{"ranges":[[1,3],[4,6]]},"data":["05","06","08","09"]}"#,
+        refusal: None,
+    },
+    Row {
+        name: "the columns of one that isn't stored, by the index alone",
+        chunk: WIDE_INSIDE,
+        value: b"\x01\x04\x07\x02\x05\x08\x03\x06\x09\xff\xff\xff\xff\xff\xff\xff\xff\xff\xff\xff\xff\xff\xff\xff\xff\0\0\0\0\0\0\0\0\x09\0\0\0\0\0\0\0",
+        inside: &[(9, 41)],
+        part: r#"{"at":{"ranges":[[0,3],[1,2]]},"data":["ff","ff","ff"]}"#,
         refusal: None,
     },
     Row {

@@ -176,7 +176,7 @@ pub record TakesAxis (shape sizes : List ℕ) (axis block : ℕ) : Type 0 where
   pub part : get_or shape axis 0 ≤ get_or sizes axis 0
   pub fits : block * get_or shape axis 0 ≤ product sizes
 
-takes : (shape sizes : List ℕ) (before axis block : ℕ) → is_divided shape sizes ≡ true → All (λ size. 0 < size) sizes → before ≡ axis + 1 → before ≤ length shape → block ≡ product (drop before sizes) → TakesAxis shape sizes axis block
+pub takes : (shape sizes : List ℕ) (before axis block : ℕ) → is_divided shape sizes ≡ true → All (λ size. 0 < size) sizes → before ≡ axis + 1 → before ≤ length shape → block ≡ product (drop before sizes) → TakesAxis shape sizes axis block
 takes shape sizes before axis block d p e l b =
     let axes = (divided_axes shape sizes d).same in
     let here : axis < length sizes = omega (arith, e, l, axes) in

@@ -92,6 +92,9 @@ are_within shape sizes d p q =
     let elements : 1 * product shape ≤ inner_chunk_count shape sizes * product shape = mul-le-mul_right (product shape) some in
     record { elements = omega (arith, elements, count); chunks = omega (arith, chunks, count) }
 
+pub inner_within : (shape sizes : List ℕ) → is_divided shape sizes ≡ true → All (λ part. 0 < part) shape → All (λ size. 0 < size) sizes → product shape ≤ product sizes
+inner_within shape sizes d p q = (are_within shape sizes d p q).elements
+
 -- the same with the slices that the code has
 pub inner_small : (shape sizes parts others : List ℕ) → parts ≡ shape → others ≡ sizes → All (λ part. 0 < part) parts → All (λ size. 0 < size) others → is_divided shape sizes ≡ true → product sizes < 2 ^ 64 → product shape < 2 ^ 64
 inner_small shape sizes parts others p o a b d l =

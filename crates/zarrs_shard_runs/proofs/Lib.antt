@@ -1,10 +1,13 @@
 -- Lemmas of runs by inner chunks.
 pub mod Numbers
 pub mod Blocks
+pub mod Bands
 pub mod CellSteps
 pub mod CutSteps
+pub mod Stands
 pub mod SpanSteps
 pub mod GroupSteps
 pub mod Grouping
 pub mod Orders
+pub mod OneGroup
 pub mod TuplesOfPlaces

@@ -125,14 +125,18 @@ order_is shape sizes places order cuts sorted groups spans e are perm g same lon
     ∙ ap (map (read_cell read)) e
     ∙ cells_read shape sizes places read
 
--- where the cut runs stayed in their order
-pub order_stays : (shape sizes places : List ℕ) (cuts : List CutRun) (groups : List (ℕ × List ℕ)) → cells cuts ≡ map (cell shape sizes) places → AreGrouped cuts groups → groups ≡ groups_of shape sizes places → IsReadingOrder shape sizes places (range_with_len 0 (length places))
-order_stays shape sizes places cuts groups e g same = λ read.
+-- where the places of the groups, one behind the other, are in their order
+pub order_kept : (shape sizes places : List ℕ) (groups : List (ℕ × List ℕ)) → cells_of_groups groups ≡ map (cell shape sizes) places → groups ≡ groups_of shape sizes places → IsReadingOrder shape sizes places (range_with_len 0 (length places))
+order_kept shape sizes places groups e same = λ read.
     let xs = map (λ place. read (inner_chunk_of shape sizes place) (place_inside shape sizes place)) places in
     let is : group_elements read (groups_of shape sizes places) ≡ xs =
-    ap (group_elements read) (sym same) ∙ elements_are read groups ∙ ap (map (read_cell read)) (g.cells ∙ e) ∙ cells_read shape sizes places read in
+    ap (group_elements read) (sym same) ∙ elements_are read groups ∙ ap (map (read_cell read)) e ∙ cells_read shape sizes places read in
     ap (λ (ys : List Element). map (λ at. get_or ys at absent) (range_with_len 0 (length places))) is
     ∙ sym (fill_by_all (λ k. get_or xs k absent) xs (length places) absent (length-map places (λ place. read (inner_chunk_of shape sizes place) (place_inside shape sizes place))) (λ k l. refl))
+
+-- so they are where the cut runs stayed in theirs
+pub order_stays : (shape sizes places : List ℕ) (cuts : List CutRun) (groups : List (ℕ × List ℕ)) → cells cuts ≡ map (cell shape sizes) places → AreGrouped cuts groups → groups ≡ groups_of shape sizes places → IsReadingOrder shape sizes places (range_with_len 0 (length places))
+order_stays shape sizes places cuts groups e g same = order_kept shape sizes places groups (g.cells ∙ e) same
 
 -- ---- what sorted cut runs are
 

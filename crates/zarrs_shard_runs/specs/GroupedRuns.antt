@@ -1,11 +1,12 @@
 -- What runs of places are as runs in inner chunks.
 use Rattle.std.specs.List.{All, flat_map, range_with_len}
-use Rattle.std.specs.Prelude.{◌≡◌, ℕ, Option, Some, None, List, Vec, map, get_or}
+use Rattle.std.specs.Prelude.{◌≡◌, ◌<◌, ℕ, length, Option, Some, None, List, Vec, map, get_or}
 use Rattle.std.specs.declared.alloc.Global.{Global}
-use Rattle.zarrs_chain_meaning.specs.sharding.InnerChunks.{inner_chunk_of, place_inside}
+use Rattle.zarrs_chain_meaning.specs.sharding.InnerChunks.{inner_chunk_count, inner_chunk_of, place_inside}
 use Rattle.zarrs_chunk.specs.ChunkShape.{product}
 use Rattle.zarrs_chunk.specs.Runs.{AreFilled, EndWithin, joined_runs}
 use Rattle.zarrs_data_type.specs.Element.{absent, Element}
+use Rattle.zarrs_shard_runs.specs.CutRuns.{cell, cells_at}
 use Rattle.zarrs_shard_runs.specs.PlacesInside.{groups_of}
 use Rattle.zarrs_shard_runs.specs.declared.grouped_runs.InnerRuns.{InnerRuns}
 
@@ -34,3 +35,11 @@ pub record AreGroups (shape sizes places : List ℕ) (found : List InnerRuns) : 
   pub groups : map group found ≡ groups_of shape sizes places
   pub filled : All (λ it. AreFilled it.runs.items) found
   pub inside : All (λ it. EndWithin (product shape) it.runs.items) found
+
+-- All places, of which there are some, are an inner chunk's: those of its runs, of which none is empty and each ends within it.
+pub record IsOneGroup (shape sizes places : List ℕ) (it : InnerRuns) : Type 0 where
+  pub cells : map (cell shape sizes) places ≡ cells_at it.number (joined_runs it.runs.items)
+  pub some : 0 < length places
+  pub number : it.number < inner_chunk_count shape sizes
+  pub filled : AreFilled it.runs.items
+  pub inside : EndWithin (product shape) it.runs.items

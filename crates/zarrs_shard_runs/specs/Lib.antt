@@ -1,6 +1,7 @@
 -- Runs of places of a shard, by inner chunks.
 pub mod PlacesInside
 pub mod CutRuns
+pub mod BlockRows
 pub mod GroupedRuns
 pub mod Groups
 pub mod RunSelection

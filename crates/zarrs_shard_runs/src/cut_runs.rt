@@ -6,6 +6,7 @@ ghost use Rattle.zarrs_chunk.specs.ChunkShape.{product};
 ghost use Rattle.zarrs_chunk.specs.Runs.{AreFilled, EndWithin, joined_runs};
 ghost use Rattle.zarrs_shard_runs.specs.CutRuns.{AreCut, IsBlock, cell, cells};
 
+use crate::block_rows::blocks_of;
 use std::alloc::{AllocError, Global};
 
 /// Places of one inner chunk that follow one another, there and in the shard.
@@ -19,26 +20,6 @@ pub(crate) struct CutRun {
     pub(crate) len: u64,
     /// Which of the cut runs it is, in the order of the places.
     pub(crate) index: usize,
-}
-
-/// How many places of the shard, from each multiple of that number on, are places of one inner chunk
-/// that follow one another: the last axes that inner chunks cover whole are one with that before.
-pub(crate) fn block_len(parts: &[u64], sizes: &[u64]) -> u64
-    requires divided { is_divided parts.now sizes.now ≡ true }
-    requires positive { All (λ part. 0 < part) parts.now }
-    requires sizes_positive { All (λ size. 0 < size) sizes.now }
-    requires fits { product sizes.now < 2 ^ 64 }
-    ensures block { IsBlock parts.now sizes.now result }
-{
-    let mut axis = parts.len();
-    let mut block = 1;
-    let mut whole = true;
-    while whole && axis > 0 {
-        axis -= 1;
-        block *= parts[axis];
-        whole = parts[axis] == sizes[axis];
-    }
-    block
 }
 
 /// The number of the inner chunk that has a place of the shard, and the place in it.
@@ -122,7 +103,7 @@ pub(crate) fn cut_runs(
         (λ cuts. cells cuts.items ≡ map (cell parts.now sizes.now) (joined_runs runs.now)) }
     ensures cut { IfOk result (λ cuts. AreCut parts.now sizes.now cuts.items) }
 {
-    let block = block_len(parts, sizes);
+    let block = blocks_of(parts, sizes).block;
     let mut cuts = Vec::with_capacity(alloc, runs.len())?;
     for (start, len) in runs {
         cut_run(&mut cuts, parts, sizes, block, *start, *len)?;

@@ -11,6 +11,7 @@ ghost use Rattle.zarrs_shard_runs.specs.Groups.{AreGrouped};
 ghost use Rattle.zarrs_shard_runs.specs.declared.cut_runs.CutRun.{CutRun};
 
 use crate::cut_runs::{CutRun, cut_runs};
+use crate::one_inner_chunk::runs_of_one;
 use crate::reading_order::{append_run, join_neighbours, spans};
 use std::alloc::{AllocError, Global};
 use zarrs_chunk::ChunkShape;
@@ -103,8 +104,8 @@ fn groups(alloc: Global, cuts: &[CutRun]) -> Result<Vec<InnerRuns>, AllocError>
     Ok(groups)
 }
 
-/// The runs by inner chunks of the shape `inner`, which divides `shape`. Errors: `AllocError`.
-pub fn group_runs(
+/// The runs by inner chunks, cut where they leave one and sorted where these aren't in their order.
+fn group_cuts(
     alloc: Global,
     inner: &ChunkShape,
     shape: &ChunkShape,
@@ -138,4 +139,34 @@ pub fn group_runs(
         groups,
         order: Some(order),
     })
+}
+
+/// The runs by inner chunks of the shape `inner`, which divides `shape`. Errors: `AllocError`.
+pub fn group_runs(
+    alloc: Global,
+    inner: &ChunkShape,
+    shape: &ChunkShape,
+    runs: &[(u64, u64)],
+) -> Result<GroupedRuns, AllocError>
+    requires divided { is_divided inner.now shape.now ≡ true }
+    requires counted { product shape.now < 2 ^ 64 }
+    requires filled { AreFilled runs.now }
+    requires inside { EndWithin (product shape.now) runs.now }
+    requires count { length (joined_runs runs.now) < 2 ^ 64 }
+    ensures groups { IfOk result
+        (λ it. AreGroups inner.now shape.now (joined_runs runs.now) it.groups.items) }
+    ensures order { IfOk result (λ it. IsReadingOrder inner.now shape.now (joined_runs runs.now)
+        (order_places (length (joined_runs runs.now)) it.order)) }
+    ensures order_inside { IfOk result (λ it. IfSome it.order
+        (λ order. EndWithin (length (joined_runs runs.now)) order.items)) }
+{
+    if let Some(only) = runs_of_one(alloc, inner.as_slice(), shape.as_slice(), runs)? {
+        let mut groups = Vec::with_capacity(alloc, 1)?;
+        groups.push(only)?;
+        return Ok(GroupedRuns {
+            groups,
+            order: None,
+        });
+    }
+    group_cuts(alloc, inner, shape, runs)
 }

@@ -2,8 +2,10 @@
 //! what is read of these is the answer ([`group_runs`]); and an indexer of places ([`runs_indexer`]).
 #![tactic(auto)]
 
+mod block_rows;
 mod cut_runs;
 mod grouped_runs;
+mod one_inner_chunk;
 mod reading_order;
 mod run_selection;
 

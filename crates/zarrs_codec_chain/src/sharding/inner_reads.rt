@@ -103,7 +103,8 @@ fn moved_in_span<H: ReadAheadTraits, B: BytesToBytesCodecTraits>(
     codec_in_span(alloc, codec, handle, &inside, form, runs)
 }
 
-/// The elements of a region that goes through the array-to-array codecs as one, in row-major order.
+/// The elements of a region that goes through the array-to-array codecs as one, in row-major order. Its
+/// runs are let go of before what is read of them is decoded.
 #[cycle(read)]
 fn region_in_span<H: ReadAheadTraits, B: BytesToBytesCodecTraits>(
     alloc: Global,
@@ -132,12 +133,14 @@ fn region_in_span<H: ReadAheadTraits, B: BytesToBytesCodecTraits>(
     chain_is_sound(chain);
     form.shape.as_slice();
     let codecs = chain.array_to_array_codecs();
-    let runs = region_runs(alloc, codecs, form.shape, region)?;
     let moved = Form {
         shape: encoded,
         ..form
     };
-    let held = moved_in_span(alloc, chain, handle, span, moved, measured, &runs)?;
+    let held = {
+        let runs = region_runs(alloc, codecs, form.shape, region)?;
+        moved_in_span(alloc, chain, handle, span, moved, measured, &runs)?
+    };
     decoded_window(
         alloc,
         codecs,

@@ -1,6 +1,6 @@
 //! Reading runs of places through `sharding_indexed`: the index, and then of each inner chunk that has
 //! any of the places what is read of its own bytes.
-ghost use Rattle.std.specs.Prelude.{◌≡◌, ◌≤◌, ◌*◌, ◌<◌, ◌^◌, IfOk, IfSome, Ok, length, true, false};
+ghost use Rattle.std.specs.Prelude.{◌≡◌, ◌*◌, ◌<◌, ◌^◌, IfOk, IfSome, Ok, length, true, false};
 ghost use Rattle.zarrs_array_bytes.specs.Tight.{IsTight};
 ghost use Rattle.zarrs_chain.specs.ChainView.{plain_sharding};
 ghost use Rattle.zarrs_chain.specs.FormView.{lent_form};
@@ -66,17 +66,46 @@ fn read_group<H: ReadAheadTraits, B: BytesToBytesCodecTraits>(
     chain_in_span(alloc, chain, handle, &inside, form, encoded, measured, runs)
 }
 
-/// For how many elements there is room from the start where groups have so many: a group alone is read
-/// before its elements are joined to none.
-fn joined_room(groups: &[InnerRuns], count: u64) -> u64
-    ensures within { result ≤ count }
+/// The elements at the places of a group that is alone: what is read of it, which is joined to nothing.
+#[cycle(read)]
+fn read_alone<H: ReadAheadTraits, B: BytesToBytesCodecTraits>(
+    alloc: Global,
+    chain: &CodecChain<B>,
+    handle: &mut H,
+    span: &ValueSpan<'_>,
+    numbers: &[usize],
+    groups: &[InnerRuns],
+    form: Form<'_>,
+    encoded: &ChunkShape,
+    measured: &BytesRepresentation,
+) -> Result<ArrayBytes<'static>, CodecError>
+    requires takes { TakesForm B.functions chain.now (lent_form form) encoded.now measured.now }
+    requires counted { product form.shape.now < 2 ^ 64 }
+    requires filling { fill_fits form.data_type.now form.fill_value.now ≡ true }
+    requires stands { StandsIn span.now (H.state handle.old) }
+    requires groups { AreInnerRuns form.shape.now (length (spans_of numbers.now)) groups.now }
+    requires numbers { length numbers.now ≡ length (spans_of numbers.now) * 2 }
+    requires one { length groups.now ≡ 1 }
+    ensures answer { ReadsGroups B.functions chain.now (lent_form form.entry) (seen_state span.now
+        (H.state handle.old)) numbers.now groups.now result }
+    ensures tight { IfOk result (IsTight form.entry.data_type.now) }
+    ensures sure { SureGroups B.functions chain.now (lent_form form.entry) (seen_state span.now
+        (H.state handle.old)) numbers.now groups.now result }
+    ensures left { H.state handle.new ≡ after_reading result (H.state handle.old) }
+    ensures same_reference { H.lent handle.new ≡ H.lent handle.old }
 {
-    if groups.len() > 1 { count } else { 0 }
+    let group = &groups[0];
+    let number = group.number as usize;
+    let place = (numbers[number * 2], numbers[number * 2 + 1]);
+    let runs = group.runs.as_slice();
+    read_group(
+        alloc, chain, handle, span, place, form, encoded, measured, runs,
+    )
 }
 
 /// The elements at the places of groups, one group behind the other. Where it is known what is read of
-/// each of them, the handle gets all of it by one call. Elements of one size are joined in room for so
-/// many.
+/// each of several, the handle gets all of it by one call. Elements of one size are joined in room for
+/// so many.
 #[cycle(read)]
 fn read_groups<H: ReadAheadTraits, B: BytesToBytesCodecTraits>(
     alloc: Global,
@@ -104,6 +133,11 @@ fn read_groups<H: ReadAheadTraits, B: BytesToBytesCodecTraits>(
     ensures left { H.state handle.new ≡ after_reading result (H.state handle.old) }
     ensures same_reference { H.lent handle.new ≡ H.lent handle.old }
 {
+    if groups.len() == 1 {
+        return read_alone(
+            alloc, chain, handle, span, numbers, groups, form, encoded, measured,
+        );
+    }
     read_groups_ahead(
         alloc, chain, handle, span, numbers, groups, form, encoded, measured,
     )?;
@@ -187,9 +221,8 @@ pub(crate) fn shard_by_index<H: ReadAheadTraits, B: BytesToBytesCodecTraits>(
         ..form
     };
     let count = count_places(runs);
-    let room = joined_room(groups, count);
     let joined = read_groups(
-        alloc, chain, handle, span, numbers, groups, room, inside, &encoded, &measured,
+        alloc, chain, handle, span, numbers, groups, count, inside, &encoded, &measured,
     )?;
     in_order(alloc, joined, grouped.order, count, form.data_type)
 }

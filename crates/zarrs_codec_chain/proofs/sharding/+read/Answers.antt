@@ -36,6 +36,7 @@ use Rattle.zarrs_data_type.specs.Form.{form_of}
 use Rattle.std.proofs.lemmas.Bool.Decides.{nat_tests}
 use Rattle.zarrs_codec_chain.proofs.sharding.+read.Goals as goal
 use Rattle.std.proofs.lemmas.List.{nil_from_length}
+use Rattle.zarrs_codec_chain.proofs.AloneGroup.{is_alone, alone_answered, alone_few, alone_sure}
 use Rattle.zarrs_codec_chain.proofs.GroupedShards.{groups_answered, groups_error, groups_sure, inner_runs, grouped_shard}
 use Rattle.zarrs_codec_chain.proofs.GroupSteps.{at_group, group_filled, group_inside, lent_few, group_refused, group_sure, so_far_valid, part_valid, count_fits, group_read, rest_sure}
 
@@ -208,6 +209,26 @@ inner_reads::moved_in_span-returns-clause-sure g t c =
     let f = g.B.BytesToBytesCodecTraits.functions in
     let measured = ap (λ codec. codec_representation f codec c.args.form.shape.now c.args.form.data_type.now c.args.form.fill_value.now) c.array_to_bytes_codec-codec.ensures.value ∙ c.requires.measured in
     λ s. c.codec_in_span-2.ensures.sure (held_sure f (plain_codec c.array_to_bytes_codec-codec.result.now) c.of_bytes-inside.result c.as_slice.result.now (g.H.BytesPartialDecoderTraits.state c.span_bytes.new.handle) c.args.form.shape.now c.args.form.data_type.now c.args.form.fill_value.now c.args.measured.now (joined_runs c.args.runs.now) c.of_bytes-inside.ensures.parts measured)
+
+pub shard_runs::read_alone-read_group-requires : goal.shard_runs::read_alone-read_group-requires
+shard_runs::read_alone-read_group-requires g t c κs within =
+    let it = is_alone c.args.form.shape.now c.args.numbers.now c.args.groups.now c.index-groups-0.result c.requires.one c.index-groups-0.is c.requires.groups c.requires.numbers in
+    let filled = subst AreFilled (sym c.as_slice-runs.ensures.value) it.filled in
+    let below = subst (EndWithin (product c.args.form.shape.now)) (sym c.as_slice-runs.ensures.value) it.inside in
+    let few = alone_few it c.as_slice-runs.result.now c.as_slice-runs.ensures.value in
+    search (rules, filled, below, few)
+
+pub shard_runs::read_alone-returns-clause-answer : goal.shard_runs::read_alone-returns-clause-answer
+shard_runs::read_alone-returns-clause-answer g t c =
+    let it = is_alone c.args.form.shape.now c.args.numbers.now c.args.groups.now c.index-groups-0.result c.requires.one c.index-groups-0.is c.requires.groups c.requires.numbers in
+    alone_answered it c.as_slice-runs.result.now c.as_slice-runs.ensures.value (chain_read g.B.BytesToBytesCodecTraits.functions (plain_chain c.args.chain.now)) c.args.form.data_type.now c.args.form.fill_value.now
+    (seen_state c.args.span.now (g.H.BytesPartialDecoderTraits.state c.args.handle.now)).value c.read_group.result c.read_group.ensures.answer
+
+pub shard_runs::read_alone-returns-clause-sure : goal.shard_runs::read_alone-returns-clause-sure
+shard_runs::read_alone-returns-clause-sure g t c =
+    let it = is_alone c.args.form.shape.now c.args.numbers.now c.args.groups.now c.index-groups-0.result c.requires.one c.index-groups-0.is c.requires.groups c.requires.numbers in
+    let state = seen_state c.args.span.now (g.H.BytesPartialDecoderTraits.state c.args.handle.now) in
+    λ s. c.read_group.ensures.sure (alone_sure it c.as_slice-runs.result.now c.as_slice-runs.ensures.value (chain_rests g.B.BytesToBytesCodecTraits.functions (plain_chain c.args.chain.now)) c.args.form.data_type.now c.args.form.fill_value.now state.value state.sure s)
 
 pub shard_runs::read_groups-read_group-requires : goal.shard_runs::read_groups-read_group-requires
 shard_runs::read_groups-read_group-requires g t c κs within =

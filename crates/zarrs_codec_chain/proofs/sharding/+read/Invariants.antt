@@ -11,28 +11,31 @@ use Rattle.zarrs_shard_runs.specs.GroupedRuns.{group}
 use Rattle.zarrs_codec_chain.proofs.sharding.+read.Given as goal
 
 abbrev pub decreases-inner_reads::codec_in_span : goal.decreases-inner_reads::codec_in_span
-decreases-inner_reads::codec_in_span g l = shard_depth (plain_codec l.codec.now) * 9 + 2
+decreases-inner_reads::codec_in_span g l = shard_depth (plain_codec l.codec.now) * 10 + 2
 
 abbrev pub decreases-inner_reads::moved_in_span : goal.decreases-inner_reads::moved_in_span
-decreases-inner_reads::moved_in_span g l = shard_depth (plain_codec l.chain.now.array_to_bytes) * 9 + 3
+decreases-inner_reads::moved_in_span g l = shard_depth (plain_codec l.chain.now.array_to_bytes) * 10 + 3
 
 abbrev pub decreases-inner_reads::region_in_span : goal.decreases-inner_reads::region_in_span
-decreases-inner_reads::region_in_span g l = shard_depth (plain_codec l.chain.now.array_to_bytes) * 9 + 4
+decreases-inner_reads::region_in_span g l = shard_depth (plain_codec l.chain.now.array_to_bytes) * 10 + 4
 
 abbrev pub decreases-inner_reads::chain_in_span : goal.decreases-inner_reads::chain_in_span
-decreases-inner_reads::chain_in_span g l = shard_depth (plain_codec l.chain.now.array_to_bytes) * 9 + 5
+decreases-inner_reads::chain_in_span g l = shard_depth (plain_codec l.chain.now.array_to_bytes) * 10 + 5
 
 abbrev pub decreases-shard_runs::read_group : goal.decreases-shard_runs::read_group
-decreases-shard_runs::read_group g l = shard_depth (plain_codec l.chain.now.array_to_bytes) * 9 + 6
+decreases-shard_runs::read_group g l = shard_depth (plain_codec l.chain.now.array_to_bytes) * 10 + 6
+
+abbrev pub decreases-shard_runs::read_alone : goal.decreases-shard_runs::read_alone
+decreases-shard_runs::read_alone g l = shard_depth (plain_codec l.chain.now.array_to_bytes) * 10 + 7
 
 abbrev pub decreases-shard_runs::read_groups : goal.decreases-shard_runs::read_groups
-decreases-shard_runs::read_groups g l = shard_depth (plain_codec l.chain.now.array_to_bytes) * 9 + 7
+decreases-shard_runs::read_groups g l = shard_depth (plain_codec l.chain.now.array_to_bytes) * 10 + 8
 
 abbrev pub decreases-shard_runs::shard_by_index : goal.decreases-shard_runs::shard_by_index
-decreases-shard_runs::shard_by_index g l = shard_depth (plain_sharding l.codec.now) * 9
+decreases-shard_runs::shard_by_index g l = shard_depth (plain_sharding l.codec.now) * 10
 
 abbrev pub decreases-shard_runs::shard_in_span : goal.decreases-shard_runs::shard_in_span
-decreases-shard_runs::shard_in_span g l = shard_depth (plain_sharding l.codec.now) * 9 + 1
+decreases-shard_runs::shard_in_span g l = shard_depth (plain_sharding l.codec.now) * 10 + 1
 
 -- the groups so far are read, and nothing else is changed
 abbrev pub invariant-shard_runs::read_groups-loop-group : goal.invariant-shard_runs::read_groups-loop-group
