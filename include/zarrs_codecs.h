@@ -71,7 +71,7 @@ enum zarrs_code {
     ZARRS_DONE = 0,
     ZARRS_SHORT = 1, /* a buffer is too short for the answer */
     ZARRS_SYNTAX = 2, /* the header, or a list of codecs, isn't of its form */
-    ZARRS_ARGUMENT = 3, /* masks of several lengths, numbers that are no selection, other pieces */
+    ZARRS_ARGUMENT = 3, /* masks of several lengths, numbers that are no selection, or no ranges of the bytes fetched */
     ZARRS_NOT_IN_PLACE = 4, /* a value can't be edited where it stands */
     ZARRS_OUT_OF_MEMORY = 10, /* an allocation failed: may come in place of any other */
     ZARRS_STORAGE = 11, /* a byte is needed that isn't among the pieces */
@@ -93,7 +93,7 @@ enum zarrs_code {
     ZARRS_OFFSET_NOT_KEPT = 27, /* the index codecs change an offset, or a size */
     ZARRS_MASK_VALUE = 28, /* neither 0 nor 1 */
     ZARRS_HEADER_OVERFLOW = 29, /* two lengths pass 2^64 - 1 */
-    ZARRS_INVALID_BYTE_RANGE = 30, /* a range ends past the bytes: a value is too short */
+    ZARRS_INVALID_BYTE_RANGE = 30, /* a range ends past the bytes: a value is too short; or pieces that touch */
     ZARRS_BYTES_CODEC = 31, /* a bytes-to-bytes codec failed */
     ZARRS_DATA_MISMATCH = 32, /* not one element for each place */
     ZARRS_UNSUPPORTED_TARGET = 33, /* elements of variable length */
@@ -237,20 +237,25 @@ uint32_t zarrs_edit(const uint8_t *header, size_t header_len,
                     const uint8_t *bytes, size_t bytes_len, size_t *done);
 
 /* Which bytes of a value zarrs_read asks for, whatever is stored: ranges, each the number of its first byte
- * and that of the first byte behind it, in order and with at least a byte between one and the next. Where
- * is_planned is false there are none: the whole value is needed. Where the buffer is too short, is_planned is
- * written too, and ZARRS_SHORT is returned. */
+ * and that of the first byte behind it, in order and with at least a byte between one and the next. ranges_len and
+ * needed count numbers, two for each range. Of a range that ends behind the value, fetch what there is: the read then
+ * says that it is too short. Where is_planned is false there are none: which bytes are needed can't be
+ * told before some of the value is there, or the whole value is needed; zarrs_lacking says which. Where the buffer is
+ * too short, is_planned is written too, and ZARRS_SHORT is returned. */
 uint32_t zarrs_planned_ranges(const uint8_t *header, size_t header_len,
                               uint64_t tuples, const uint64_t *numbers, size_t numbers_len,
                               uint64_t *ranges, size_t ranges_len,
                               bool *is_planned, size_t *needed);
 
 /* What zarrs_read returns of a value of len bytes, by pieces of it: such ranges, and in fetched the bytes of
- * all of them, joined. Where all bytes of the ranges that zarrs_planned_ranges returns are among them, the
- * answer is the same for every value that has these bytes there. ZARRS_STORAGE says that a byte is needed
- * which isn't among them: it comes only where the header, the form of the selection and the ranges have no
- * error, and never where all bytes of the value are among them; zarrs_lacking returns which bytes to fetch
- * before it is called again. Ranges that touch, come in another order or end behind the value are rejected. */
+ * all of them, joined. Of any chain, an answer is that of zarrs_read for every value that has these bytes
+ * there: none rests on a byte that isn't among them. ZARRS_STORAGE says that such a byte is needed: it comes
+ * only where the header, the form of the selection and the ranges have no error, and neither where all bytes
+ * of the value are among them nor where all bytes of the ranges are that zarrs_planned_ranges returns;
+ * zarrs_lacking returns which bytes to fetch before it is called again. Ranges that touch or overlap, come in
+ * another order or end behind the value give ZARRS_INVALID_BYTE_RANGE, as a value does that is too short; a
+ * range that ends before it starts or lacks its end, and fewer or more bytes in fetched than the ranges have,
+ * give ZARRS_ARGUMENT. */
 uint32_t zarrs_read_pieces(const uint8_t *header, size_t header_len,
                            uint64_t len, const uint64_t *ranges, size_t ranges_len,
                            const uint8_t *fetched, size_t fetched_len,
@@ -265,9 +270,12 @@ uint32_t zarrs_read_pieces(const uint8_t *header, size_t header_len,
  * lacking and no others, so that one round is enough. So a chunk of any codecs is read in rounds, the first one
  * with no ranges: each fetches what the one before it lacked, and joins ranges that touch. Texts of a
  * zarrs.vlen whose chains are bytes take at most three: how long the offsets are, the offsets, the texts. Of a
- * shard the index is lacking first, and then what the reads of all inner chunks lack; where these hold shards or
- * texts of a zarrs.vlen, of one inner chunk after the other. Of any other chain the whole value is lacking. Codes
- * are those of zarrs_read_pieces, but for ZARRS_STORAGE. */
+ * shard the index is lacking first, and then what the reads of all inner chunks lack, so two rounds are enough. Where
+ * these hold shards or texts of a zarrs.vlen, or where over 1,024 ranges of them are needed, of fewer than 16 bytes each
+ * on average, it is what one inner chunk after the other lacks, and there are as many rounds as all of them take.
+ * Whoever would rather have the inner chunks whole, in one round behind that of the index, calls this with a header
+ * that has "crc32c" at the end of the shard's codecs, and zarrs_read_pieces with its own. Of any other chain the whole
+ * value is lacking. Codes are those of zarrs_read_pieces, but for ZARRS_STORAGE. examples/c/rounds.c reads a file so. */
 uint32_t zarrs_lacking(const uint8_t *header, size_t header_len,
                        uint64_t len, const uint64_t *ranges, size_t ranges_len,
                        const uint8_t *fetched, size_t fetched_len,

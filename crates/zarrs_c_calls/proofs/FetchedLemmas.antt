@@ -17,8 +17,9 @@ use Rattle.zarrs_bytes.proofs.Coding.{ok}
 use Rattle.zarrs_codec_chain.specs.ChunkRead.{asks_in_part, stored_read}
 use Rattle.zarrs_codec_chain.specs.ChunkSource.{Source, bytes_above, source_made, source_made_at}
 use Rattle.zarrs_codec_chain.proofs.CachePlaces.{no_place, no_stage}
-use Rattle.zarrs_lent_handles.specs.PiecesHandle.{made_state}
-use Rattle.zarrs_lent_handles.specs.Pieces.{PlainPiece, HasPieces, are_apart, are_at_hand, byte_at, is_at_hand, value_of_pieces}
+use Rattle.zarrs_lent_handles.specs.PiecesHandle.{made_around}
+use Rattle.zarrs_lent_handles.specs.Pieces.{PlainPiece, HasPieces, are_apart, are_at_hand, byte_around, is_at_hand, value_around}
+use Rattle.zarrs_lent_handles.proofs.ElsewhereLemmas.{with_piece}
 use Rattle.zarrs_codec_chain.specs.PlannedReads.{ArePlanned}
 use Rattle.zarrs_codec_chain.proofs.PlannedAlike.{planned_is_asked, sized_alike}
 use Rattle.zarrs_codec_chain.proofs.SizedAlike.{passes_at}
@@ -33,20 +34,20 @@ past [] n l = refl
 past (x ∷ xs) zero l = absurd (omega (arith, l))
 past (x ∷ xs) (suc n) l = past xs n (omega (arith, l))
 
--- a value that has the pieces is the one with zeros elsewhere at each byte at hand
-same_at : (len n : ℕ) (ps : List PlainPiece) (value : List ℕ) → HasPieces len ps value → is_at_hand ps n ≡ true → get_or value n 0 ≡ get_or (value_of_pieces len ps) n 0
-same_at len n ps value has here = by (nat_lt n len) refl
+-- values that have the pieces are the same at each byte at hand
+same_at : (elsewhere : ℕ → ℕ) (len n : ℕ) (ps : List PlainPiece) (value : List ℕ) → HasPieces len ps value → is_at_hand ps n ≡ true → get_or value n 0 ≡ get_or (value_around elsewhere len ps) n 0
+same_at elsewhere len n ps value has here = by (nat_lt n len) refl
   where
-    by : (t : Bool) → nat_lt n len ≡ t → get_or value n 0 ≡ get_or (value_of_pieces len ps) n 0
+    by : (t : Bool) → nat_lt n len ≡ t → get_or value n 0 ≡ get_or (value_around elsewhere len ps) n 0
     by true e =
         let l : n < len = grind (arith, nat_tests) in
-        has.same n here ∙ sym (get_or-map-range_with_len (byte_at ps) 0 len n n 0 l (omega arith))
+        has.same n here ∙ sym (with_piece elsewhere ps n here) ∙ sym (get_or-map-range_with_len (byte_around elsewhere ps) 0 len n n 0 l (omega arith))
     by false e =
         let l : len ≤ n = grind (arith, nat_tests) in
-        past value n (omega (arith, has.length_is, l)) ∙ sym (past (value_of_pieces len ps) n (omega (arith, length-map-range_with_len (byte_at ps) 0 len, l)))
+        past value n (omega (arith, has.length_is, l)) ∙ sym (past (value_around elsewhere len ps) n (omega (arith, length-map-range_with_len (byte_around elsewhere ps) 0 len, l)))
 
-agree : (len : ℕ) (ps : List PlainPiece) (value planned : List ℕ) → HasPieces len ps value → are_at_hand ps planned ≡ true → All (λ n. slice_index value n ≡ slice_index (value_of_pieces len ps) n) planned
-agree len ps value planned has hand = λ k d l. same_at len (get_or planned k d) ps value has (passes_at (is_at_hand ps) planned k d hand l)
+agree : (elsewhere : ℕ → ℕ) (len : ℕ) (ps : List PlainPiece) (value planned : List ℕ) → HasPieces len ps value → are_at_hand ps planned ≡ true → All (λ n. slice_index value n ≡ slice_index (value_around elsewhere len ps) n) planned
+agree elsewhere len ps value planned has hand = λ k d l. same_at elsewhere len (get_or planned k d) ps value has (passes_at (is_at_hand ps) planned k d hand l)
 
 -- ---- reads by a decoder that is made for them
 
@@ -62,15 +63,15 @@ uncached f stored x asks =
     ap (λ s. source_made_at known_codecs f s stored >>= λ _. x) (no_stage known_reads f.chain (no_place known_reads f.chain asks))
     ∙ by_taken f stored x (taken_form known_codecs f.chain f.sizes f.type f.fill)
 
--- a value that has the pieces is read as the one with zeros elsewhere, where the planned bytes are at hand
-pub parts_alike : (f : HeaderForm) (len : ℕ) (ps : List PlainPiece) (value planned : List ℕ) (selection : Selection) → ArePlanned known_codecs f selection planned → HasPieces len ps value → are_at_hand ps planned ≡ true
-    → form_read f (Some (value_of_pieces len ps)) selection ≡ form_read f (Some value) selection
-parts_alike f len ps value planned selection are has hand =
+-- values that have the pieces are read alike, where the planned bytes are at hand
+pub parts_alike : (elsewhere : ℕ → ℕ) (f : HeaderForm) (len : ℕ) (ps : List PlainPiece) (value planned : List ℕ) (selection : Selection) → ArePlanned known_codecs f selection planned → HasPieces len ps value → are_at_hand ps planned ≡ true
+    → form_read f (Some (value_around elsewhere len ps)) selection ≡ form_read f (Some value) selection
+parts_alike elsewhere f len ps value planned selection are has hand =
     let asks = planned_is_asked known_codecs f (Some value) selection planned are in
-    let zeros : List ℕ = value_of_pieces len ps in
-    let long : length value ≡ length zeros = omega (arith, has.length_is, length-map-range_with_len (byte_at ps) 0 len) in
-    let same = sized_alike known_codecs f value zeros selection planned are long (agree len ps value planned has hand) in
-    uncached f (Some zeros) (stored_read known_codecs f (Some zeros) selection) asks.in_part
+    let other : List ℕ = value_around elsewhere len ps in
+    let long : length value ≡ length other = omega (arith, has.length_is, length-map-range_with_len (byte_around elsewhere ps) 0 len) in
+    let same = sized_alike known_codecs f value other selection planned are long (agree elsewhere len ps value planned has hand) in
+    uncached f (Some other) (stored_read known_codecs f (Some other) selection) asks.in_part
     ∙ ap (λ (x : Result Chunk CodecError). taken_form known_codecs f.chain f.sizes f.type f.fill >>= λ _. x) (sym same)
     ∙ sym (uncached f (Some value) (stored_read known_codecs f (Some value) selection) asks.in_part)
 
@@ -93,20 +94,20 @@ part_stopped chunk stored selection e h = λ wants. stops (source_made known_cod
 
 -- ---- the handle that is made
 
-pub record IsMade (len : ℕ) (ps : List PlainPiece) (state : StorageState) : Type 0 where
+pub record IsMade (elsewhere : ℕ → ℕ) (len : ℕ) (ps : List PlainPiece) (state : StorageState) : Type 0 where
   pub stand_apart : are_apart len 0 ps ≡ true
-  pub value_is : state.value ≡ Some (value_of_pieces len ps)
+  pub value_is : state.value ≡ Some (value_around elsewhere len ps)
   pub sure_is : state.sure ≡ Some (is_at_hand ps)
 
-pub made_is : (len : ℕ) (ps : List PlainPiece) (state : StorageState) → Ok state ≡ made_state len ps → IsMade len ps state
-made_is len ps state e = by (are_apart len 0 ps) refl
+pub made_is : (elsewhere : ℕ → ℕ) (len : ℕ) (ps : List PlainPiece) (state : StorageState) → Ok state ≡ made_around elsewhere len ps → IsMade elsewhere len ps state
+made_is elsewhere len ps state e = by (are_apart len 0 ps) refl
   where
-    by : (t : Bool) → are_apart len 0 ps ≡ t → IsMade len ps state
+    by : (t : Bool) → are_apart len 0 ps ≡ t → IsMade elsewhere len ps state
     by true f =
-        let is : Ok state ≡ made_state len ps = e in
+        let is : Ok state ≡ made_around elsewhere len ps = e in
         let g = rw f at is in
         record { stand_apart = f; value_is = cc; sure_is = cc }
     by false f =
-        let is : Ok state ≡ made_state len ps = e in
+        let is : Ok state ≡ made_around elsewhere len ps = e in
         let g = rw f at is in
         absurd (cc)

@@ -17,7 +17,7 @@ use Rattle.zarrs_json.specs.Header.{HeaderForm}
 use Rattle.zarrs_json.specs.KnownBytesCodec.{known_codecs}
 use Rattle.zarrs_codec.specs.StorageState.{StorageState, are_sure}
 use Rattle.zarrs_lent_handles.proofs.PieceLemmas.{passes, value_length}
-use Rattle.zarrs_lent_handles.specs.Pieces.{PlainPiece, are_apart, are_at_hand, byte_at, is_at_hand, value_of_pieces}
+use Rattle.zarrs_lent_handles.specs.Pieces.{PlainPiece, are_apart, are_at_hand, byte_around, is_at_hand, value_around}
 use Rattle.zarrs_codec_chain.specs.ChunkRead.{ReadsStoredChunk, are_asked_sure, asks_in_part, read_rests_on}
 use Rattle.zarrs_codec_chain.specs.PlannedReads.{ArePlanned}
 use Rattle.zarrs_codec_chain.proofs.PlannedAlike.{planned_is_asked}
@@ -72,29 +72,29 @@ surely_read chunk form before state selection r same_form same_state reads =
 abbrev some : List ℕ → Option (List ℕ)
 some value = Some value
 
-pub first_is_whole : (len : ℕ) (ps : List PlainPiece) (value : List ℕ) → whole_value len ps ≡ Some value → value_of_pieces len ps ≡ value
-first_is_whole len [] value is = by (len == 0) refl
+pub first_is_whole : (elsewhere : ℕ → ℕ) (len : ℕ) (ps : List PlainPiece) (value : List ℕ) → whole_value len ps ≡ Some value → value_around elsewhere len ps ≡ value
+first_is_whole elsewhere len [] value is = by (len == 0) refl
   where
-    by : (t : Bool) → (len == 0) ≡ t → value_of_pieces len [] ≡ value
+    by : (t : Bool) → (len == 0) ≡ t → value_around elsewhere len [] ≡ value
     by true e =
         let none : len ≡ 0 = grind (arith, nat_tests) in
         let own : some [] ≡ Some value = (let i = rw e at is in i) in
-        ap (λ (n : ℕ). value_of_pieces n []) none ∙ (let h = own in cc)
+        ap (λ (n : ℕ). value_around elsewhere n []) none ∙ (let h = own in cc)
     by false e = absurd (let i = rw e at is in cc)
-first_is_whole len (p ∷ ps) value is = by ((p.start == 0) && (length p.bytes == len)) refl
+first_is_whole elsewhere len (p ∷ ps) value is = by ((p.start == 0) && (length p.bytes == len)) refl
   where
-    by : (t : Bool) → ((p.start == 0) && (length p.bytes == len)) ≡ t → value_of_pieces len (p ∷ ps) ≡ value
+    by : (t : Bool) → ((p.start == 0) && (length p.bytes == len)) ≡ t → value_around elsewhere len (p ∷ ps) ≡ value
     by false e = absurd (let i = rw e at is in cc)
     by true e =
         let first : p.start ≡ 0 = grind (arith, nat_tests) in
         let long : length p.bytes ≡ len = grind (arith, nat_tests) in
         let own : p.bytes ≡ value = (let i = rw e at is in cc) in
-        let same : value_of_pieces len (p ∷ ps) ≡ p.bytes = ext_get_or 0 (value_of_pieces len (p ∷ ps)) p.bytes (omega (arith, value_length len (p ∷ ps), long)) (λ i l.
-        let below : i < len = omega (arith, l, value_length len (p ∷ ps)) in
-        get_or-map-range_with_len (byte_at (p ∷ ps)) 0 len i i 0 below (omega arith) ∙ byte i first (omega (arith, below, long))) in
+        let same : value_around elsewhere len (p ∷ ps) ≡ p.bytes = ext_get_or 0 (value_around elsewhere len (p ∷ ps)) p.bytes (omega (arith, value_length elsewhere len (p ∷ ps), long)) (λ i l.
+        let below : i < len = omega (arith, l, value_length elsewhere len (p ∷ ps)) in
+        get_or-map-range_with_len (byte_around elsewhere (p ∷ ps)) 0 len i i 0 below (omega arith) ∙ byte i first (omega (arith, below, long))) in
         same ∙ own
       where
-        byte : (i : ℕ) → p.start ≡ 0 → i < length p.bytes → byte_at (p ∷ ps) i ≡ get_or p.bytes i 0
+        byte : (i : ℕ) → p.start ≡ 0 → i < length p.bytes → byte_around elsewhere (p ∷ ps) i ≡ get_or p.bytes i 0
         byte i first l = grind (arith, nat_tests)
 
 -- a byte before the first piece isn't at hand
@@ -133,8 +133,8 @@ not_whole len (p ∷ ps) apart none = by (nat_lt (p.start + length p.bytes) len)
 
 -- ---- pieces that stand apart
 
-pub is_read : (form : HeaderForm) (len : ℕ) (ps : List PlainPiece) (selection : Selection) → are_apart len 0 ps ≡ true → apart_read form len ps selection ≡ form_read form (Some (value_of_pieces len ps)) selection
-is_read form len ps selection apart = rw apart refl
+pub is_read : (elsewhere : ℕ → ℕ) (form : HeaderForm) (len : ℕ) (ps : List PlainPiece) (selection : Selection) → are_apart len 0 ps ≡ true → apart_read elsewhere form len ps selection ≡ form_read form (Some (value_around elsewhere len ps)) selection
+is_read elsewhere form len ps selection apart = rw apart refl
 
 less_excused : (type : ElementType) (r : Result Held CodecError) (expected : Result Chunk CodecError) → AnswersBy memory (Holds type) r expected → AnswersBy memory_or_fault (Holds type) r expected
 less_excused type (Ok held) expected h = h
@@ -145,12 +145,12 @@ less_excused type (Err e) expected h = λ quiet. h (by (memory e) refl quiet)
     by true f q = absurd (let g = rw f at q in cc)
 
 -- the value itself is read
-pub whole_read : (form : HeaderForm) (type : ElementType) (len : ℕ) (ps : List PlainPiece) (value : List ℕ) (stored : Option (List ℕ)) (selection : Selection) (r : Result Held CodecError) → are_apart len 0 ps ≡ true → whole_value len ps ≡ Some value → stored ≡ Some value
-    → AnswersBy memory (Holds type) r (form_read form stored selection) → AnswersBy memory_or_fault (Holds type) r (apart_read form len ps selection)
-whole_read form type len ps value stored selection r apart whole same h =
-    let at : stored ≡ Some (value_of_pieces len ps) = same ∙ ap some (sym (first_is_whole len ps value whole)) in
-    let due : form_read form stored selection ≡ apart_read form len ps selection = ap (λ (v : Option (List ℕ)). form_read form v selection) at ∙ sym (is_read form len ps selection apart) in
-    less_excused type r (apart_read form len ps selection) (subst (λ (x : Result Chunk CodecError). AnswersBy memory (Holds type) r x) due h)
+pub whole_read : (elsewhere : ℕ → ℕ) (form : HeaderForm) (type : ElementType) (len : ℕ) (ps : List PlainPiece) (value : List ℕ) (stored : Option (List ℕ)) (selection : Selection) (r : Result Held CodecError) → are_apart len 0 ps ≡ true → whole_value len ps ≡ Some value → stored ≡ Some value
+    → AnswersBy memory (Holds type) r (form_read form stored selection) → AnswersBy memory_or_fault (Holds type) r (apart_read elsewhere form len ps selection)
+whole_read elsewhere form type len ps value stored selection r apart whole same h =
+    let at : stored ≡ Some (value_around elsewhere len ps) = same ∙ ap some (sym (first_is_whole elsewhere len ps value whole)) in
+    let due : form_read form stored selection ≡ apart_read elsewhere form len ps selection = ap (λ (v : Option (List ℕ)). form_read form v selection) at ∙ sym (is_read elsewhere form len ps selection apart) in
+    less_excused type r (apart_read elsewhere form len ps selection) (subst (λ (x : Result Chunk CodecError). AnswersBy memory (Holds type) r x) due h)
 
 never_both : {P : Type 0} (t : Bool) → t ≡ true → t ≡ false → P
 never_both true e f = absurd (cc)
@@ -169,9 +169,9 @@ ok_or_not true failed e h = refl
 ok_or_not false failed e h = never_both failed e (h refl)
 
 -- where a read of pieces fails, a byte is lacking
-pub made_lacks : (form : HeaderForm) (len : ℕ) (ps : List PlainPiece) (state : StorageState) (selection : Selection) (failed : Bool) → IsMade len ps state → whole_value len ps ≡ None
-    → (asks_in_part form.chain.bytes_to_bytes form.chain.array_to_bytes ≡ true → AsksSurely form state selection failed) → failed ≡ true → LacksByte form len ps selection
-made_lacks form len ps state selection failed is none surely e =
+pub made_lacks : (elsewhere : ℕ → ℕ) (form : HeaderForm) (len : ℕ) (ps : List PlainPiece) (state : StorageState) (selection : Selection) (failed : Bool) → IsMade elsewhere len ps state → whole_value len ps ≡ None
+    → (asks_in_part form.chain.bytes_to_bytes form.chain.array_to_bytes ≡ true → AsksSurely form state selection failed) → failed ≡ true → LacksByte elsewhere form len ps selection
+made_lacks elsewhere form len ps state selection failed is none surely e =
     record {
       stand_apart = is.stand_apart;
       not_all = not_whole len ps is.stand_apart none;
@@ -188,10 +188,10 @@ made_lacks form len ps state selection failed is none surely e =
     }
 
 -- where all planned bytes are at hand, none is lacking
-pub not_lacking : (form : HeaderForm) (len : ℕ) (ps : List PlainPiece) (selection : Selection) (planned : List ℕ) (failed : Bool) → ArePlanned known_codecs form selection planned → are_at_hand ps planned ≡ true
-    → (failed ≡ true → LacksByte form len ps selection) → failed ≡ false
-not_lacking form len ps selection planned failed are hand lacks = if_false failed (λ e.
-    let asks = planned_is_asked known_codecs form (Some (value_of_pieces len ps)) selection planned are in
-    let not : are_asked_sure (Some (is_at_hand ps)) (read_rests_on known_codecs form (Some (value_of_pieces len ps)) selection) ≡ false = ((lacks e).in_part asks.in_part).not_asked in
-    let is : are_asked_sure (Some (is_at_hand ps)) (read_rests_on known_codecs form (Some (value_of_pieces len ps)) selection) ≡ true = ap (are_asked_sure (Some (is_at_hand ps))) asks.asked ∙ hand in
+pub not_lacking : (elsewhere : ℕ → ℕ) (form : HeaderForm) (len : ℕ) (ps : List PlainPiece) (selection : Selection) (planned : List ℕ) (failed : Bool) → ArePlanned known_codecs form selection planned → are_at_hand ps planned ≡ true
+    → (failed ≡ true → LacksByte elsewhere form len ps selection) → failed ≡ false
+not_lacking elsewhere form len ps selection planned failed are hand lacks = if_false failed (λ e.
+    let asks = planned_is_asked known_codecs form (Some (value_around elsewhere len ps)) selection planned are in
+    let not : are_asked_sure (Some (is_at_hand ps)) (read_rests_on known_codecs form (Some (value_around elsewhere len ps)) selection) ≡ false = ((lacks e).in_part asks.in_part).not_asked in
+    let is : are_asked_sure (Some (is_at_hand ps)) (read_rests_on known_codecs form (Some (value_around elsewhere len ps)) selection) ≡ true = ap (are_asked_sure (Some (is_at_hand ps))) asks.asked ∙ hand in
     never_both _ is not)

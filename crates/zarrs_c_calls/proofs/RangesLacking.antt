@@ -25,7 +25,7 @@ use Rattle.zarrs_packbits.proofs.PartReads.{same_bools}
 use Rattle.zarrs_json.specs.KnownBytesCodec.{known_codecs, known_reads}
 use Rattle.zarrs_lent_handles.specs.Joined.{has_number, have_number, ranges_apart}
 use Rattle.zarrs_lent_handles.specs.Lacking.{AreLacking, are_all_lacking, are_of_failure, is_lacking, ranges_kept}
-use Rattle.zarrs_lent_handles.specs.Pieces.{PlainPiece, are_apart, are_at_hand, is_at_hand, pieces_seen, value_of_pieces}
+use Rattle.zarrs_lent_handles.specs.Pieces.{PlainPiece, are_apart, are_at_hand, is_at_hand, pieces_seen, value_of_pieces, zeros}
 use Rattle.zarrs_lent_handles.specs.PiecesHandle.{are_unsure, is_unsure, made_state, pieces_state}
 use Rattle.zarrs_lent_handles.specs.declared.pieces_handle.PiecesHandle.{PiecesHandle}
 use Rattle.zarrs_lent_handles.proofs.LackingLemmas.{all_alike, all_lacking, each_passes}
@@ -172,7 +172,7 @@ source_of (Err error) e = absurd (cc)
 
 -- ---- a handle after a read
 
-pub still_made : {T : Type 0} (r : Result T CodecError) (len : ℕ) (ps : List PlainPiece) (before after : StorageState) → IsMade len ps before → after ≡ after_reading r before → IsMade len ps after
+pub still_made : {T : Type 0} (r : Result T CodecError) (len : ℕ) (ps : List PlainPiece) (before after : StorageState) → IsMade zeros len ps before → after ≡ after_reading r before → IsMade zeros len ps after
 still_made r len ps before after is e = record {
   stand_apart = is.stand_apart;
   value_is = ap (λ (s : StorageState). s.value) e ∙ is.value_is;
@@ -180,18 +180,18 @@ still_made r len ps before after is e = record {
 }
 
 lacks_unsure : (len : ℕ) (ps : List PlainPiece) (state : StorageState) (n : ℕ) → state.value ≡ Some (value_of_pieces len ps) → state.sure ≡ Some (is_at_hand ps) → is_lacking len ps n ≡ is_unsure state n
-lacks_unsure len ps state n v s = rw (v, s, value_length len ps, and-true (is_at_hand ps n)) refl
+lacks_unsure len ps state n v s = rw (v, s, value_length zeros len ps, and-true (is_at_hand ps n)) refl
 
-kept_lacking : (len : ℕ) (ps : List PlainPiece) (state : StorageState) (ranges : List ByteSpan) → IsMade len ps state → are_unsure state ranges ≡ true → are_all_lacking len ps ranges ≡ true
+kept_lacking : (len : ℕ) (ps : List PlainPiece) (state : StorageState) (ranges : List ByteSpan) → IsMade zeros len ps state → are_unsure state ranges ≡ true → are_all_lacking len ps ranges ≡ true
 kept_lacking len ps state ranges is h =
     both_true (first_true _ _ h) (sym (all_alike (is_unsure state) (is_lacking len ps) (range_indices ranges) (λ n. sym (lacks_unsure len ps state n is.value_is is.sure_is))) ∙ second_true (ranges_apart 0 ranges) _ h)
 
 -- the pieces of a handle lack what those lack that its state shows
-same_lacking : (handle : PiecesHandle) (len : ℕ) (ps : List PlainPiece) (n : ℕ) → IsMade len ps (pieces_state handle) → is_lacking handle.len (pieces_seen handle.pieces.items) n ≡ is_lacking len ps n
+same_lacking : {E : Type 0} (handle : PiecesHandle E) (len : ℕ) (ps : List PlainPiece) (n : ℕ) → IsMade zeros len ps (pieces_state handle) → is_lacking handle.len (pieces_seen handle.pieces.items) n ≡ is_lacking len ps n
 same_lacking handle len ps n is =
     lacks_unsure handle.len (pieces_seen handle.pieces.items) (pieces_state handle) n refl refl ∙ sym (lacks_unsure len ps (pieces_state handle) n is.value_is is.sure_is)
 
-lacks_made : (handle : PiecesHandle) (len : ℕ) (ps : List PlainPiece) (asked ranges : List ByteSpan) → IsMade len ps (pieces_state handle) → AreLacking handle.len (pieces_seen handle.pieces.items) asked ranges → AreLacking len ps asked ranges
+lacks_made : {E : Type 0} (handle : PiecesHandle E) (len : ℕ) (ps : List PlainPiece) (asked ranges : List ByteSpan) → IsMade zeros len ps (pieces_state handle) → AreLacking handle.len (pieces_seen handle.pieces.items) asked ranges → AreLacking len ps asked ranges
 lacks_made handle len ps asked ranges is h = record {
   apart = h.apart;
   same = λ n. h.same n ∙ ap (λ (b : Bool). have_number asked n && b) (same_lacking handle len ps n is);
@@ -283,18 +283,18 @@ selected type held (Err cause) h = absurd h
 -- ---- what is due
 
 module _ (form : HeaderForm) (len : ℕ) (ps : List PlainPiece) (selection : Selection) where
-  over_read : (state : StorageState) → IsMade len ps state → form_read form state.value selection ≡ apart_read form len ps selection
-  over_read state is = ap (λ (v : Option (List ℕ)). form_read form v selection) is.value_is ∙ sym (is_read form len ps selection is.stand_apart)
+  over_read : (state : StorageState) → IsMade zeros len ps state → form_read form state.value selection ≡ apart_read zeros form len ps selection
+  over_read state is = ap (λ (v : Option (List ℕ)). form_read form v selection) is.value_is ∙ sym (is_read zeros form len ps selection is.stand_apart)
 
-  pub answered : (state : StorageState) (r : Result Held CodecError) (source : Source) → IsMade len ps state → source_made known_codecs known_reads form state.value ≡ Ok source
-      → AnswersBy memory_or_fault (Holds form.type) r (stored_read known_codecs form state.value selection) → AnswersBy memory_or_fault (Holds form.type) r (apart_read form len ps selection)
+  pub answered : (state : StorageState) (r : Result Held CodecError) (source : Source) → IsMade zeros len ps state → source_made known_codecs known_reads form state.value ≡ Ok source
+      → AnswersBy memory_or_fault (Holds form.type) r (stored_read known_codecs form state.value selection) → AnswersBy memory_or_fault (Holds form.type) r (apart_read zeros form len ps selection)
   answered state r source is made h =
-      let due : stored_read known_codecs form state.value selection ≡ apart_read form len ps selection =
+      let due : stored_read known_codecs form state.value selection ≡ apart_read zeros form len ps selection =
       sym (goes_on (source_made known_codecs known_reads form state.value) source (stored_read known_codecs form state.value selection) made) ∙ over_read state is in
       subst (λ (x : Result Chunk CodecError). AnswersBy memory_or_fault (Holds form.type) r x) due h
 
   -- a read whose plan has an error has it
-  plan_stops : (state : StorageState) (source : Source) (e : CodecError) → IsMade len ps state → source_made known_codecs known_reads form state.value ≡ Ok source → planned_places form selection ≡ Err e → apart_read form len ps selection ≡ Err e
+  plan_stops : (state : StorageState) (source : Source) (e : CodecError) → IsMade zeros len ps state → source_made known_codecs known_reads form state.value ≡ Ok source → planned_places form selection ≡ Err e → apart_read zeros form len ps selection ≡ Err e
   plan_stops state source e is made stops =
       sym (over_read state is)
       ∙ goes_on (source_made known_codecs known_reads form state.value) source (stored_read known_codecs form state.value selection) made
@@ -302,7 +302,7 @@ module _ (form : HeaderForm) (len : ℕ) (ps : List PlainPiece) (selection : Sel
 
   -- where a planned byte is lacking, a byte is lacking
   planned_lacks : (numbers : List ℕ) (n : ℕ) → are_apart len 0 ps ≡ true → whole_value len ps ≡ None → is_ok (bounds_of selection form.sizes) ≡ true → ArePlanned known_codecs form selection numbers
-      → list_any (λ other. other == n) numbers ≡ true → is_lacking len ps n ≡ true → LacksByte form len ps selection
+      → list_any (λ other. other == n) numbers ≡ true → is_lacking len ps n ≡ true → LacksByte zeros form len ps selection
   planned_lacks numbers n apart none inside_is are member lacks = record {
     stand_apart = apart;
     not_all = not_whole len ps apart none;
@@ -317,8 +317,8 @@ module _ (form : HeaderForm) (len : ℕ) (ps : List PlainPiece) (selection : Sel
       by true e = absurd (let here : is_at_hand ps n ≡ true = inside (is_at_hand ps) numbers n e member in let not_here : not (is_at_hand ps n) ≡ true = second_true (nat_lt n len) (not (is_at_hand ps n)) lacks in let f : false ≡ true = ap not (sym here) ∙ not_here in cc)
 
   -- what a handle lacks behind a read that is answered
-  pub read_due : (handle : PiecesHandle) (plan : Option (Vec ByteSpan Global)) (told : List ℕ) → IsSoundForm form → IsMade len ps (pieces_state handle) → whole_value len ps ≡ None → (pieces_state handle).failure ≡ None
-      → is_ok (bounds_of selection form.sizes) ≡ true → is_ok (apart_read form len ps selection) ≡ true → IsOkAnd (planned_places form selection) (IsPlanSeen known_codecs form plan)
+  pub read_due : {E : Type 0} (handle : PiecesHandle E) (plan : Option (Vec ByteSpan Global)) (told : List ℕ) → IsSoundForm form → IsMade zeros len ps (pieces_state handle) → whole_value len ps ≡ None → (pieces_state handle).failure ≡ None
+      → is_ok (bounds_of selection form.sizes) ≡ true → is_ok (apart_read zeros form len ps selection) ≡ true → IsOkAnd (planned_places form selection) (IsPlanSeen known_codecs form plan)
       → AreOfLackedOrKept handle (ranges_kept plan) told → (lacking : List ByteSpan) × AreLackingTo form len ps selection lacking × (told ≡ range_numbers lacking)
   read_due handle plan told sound is none quiet inside_is read said (ranges, inl h, e) =
       let asked = ranges_kept plan in
@@ -367,7 +367,7 @@ module _ (form : HeaderForm) (len : ℕ) (ps : List PlainPiece) (selection : Sel
       by false e rest = rest (ap (λ (t : Bool). t || list_any (λ other. other == n) ns) (sym e) ∙ is)
 
   -- what a handle lacks behind a read that failed
-  failed_due : (handle : PiecesHandle) (plan : Option (Vec ByteSpan Global)) (failure : StorageError) (told : List ℕ) → IsSoundForm form → IsMade len ps (pieces_state handle) → (pieces_state handle).failure ≡ Some failure → LacksByte form len ps selection
+  failed_due : {E : Type 0} (handle : PiecesHandle E) (plan : Option (Vec ByteSpan Global)) (failure : StorageError) (told : List ℕ) → IsSoundForm form → IsMade zeros len ps (pieces_state handle) → (pieces_state handle).failure ≡ Some failure → LacksByte zeros form len ps selection
       → IsOkAnd (planned_places form selection) (IsPlanSeen known_codecs form plan) → AreOfLackedOrKept handle (ranges_kept plan) told → (lacking : List ByteSpan) × AreLackingTo form len ps selection lacking × (told ≡ range_numbers lacking)
   failed_due handle plan failure told sound is failed lacks said (ranges, inl h, e) =
       let own = lacks_made handle len ps (ranges_kept plan) ranges is h.0 in (
@@ -389,36 +389,36 @@ module _ (form : HeaderForm) (len : ℕ) (ps : List PlainPiece) (selection : Sel
           none = never_some ranges (some_kept (pieces_state handle).failure failure ranges failed h.1.failed);
           planned = λ numbers are bound n.
               let hand : are_at_hand ps numbers ≡ true = each_number (is_at_hand ps) numbers (λ k member. hand_one (ranges_kept plan) k (is_at_hand ps k) own refl (plan_said form selection plan sound said numbers are k ∙ member) (below numbers k bound member)) in
-              absurd (let quiet : true ≡ false = not_lacking form len ps selection numbers true are hand (λ _. lacks) in cc);
+              absurd (let quiet : true ≡ false = not_lacking zeros form len ps selection numbers true are hand (λ _. lacks) in cc);
         },
         e,
       )
 
   -- the numbers that are returned behind a read that is answered
-  pub answered_tells : (before : StorageState) (handle : PiecesHandle) (held : Held) (r : Result Held CodecError) (plan : Option (Vec ByteSpan Global)) (told : Result (Vec ℕ Global) CodecError) → IsSoundForm form → IsMade len ps before → whole_value len ps ≡ None → before.failure ≡ None
-      → ReadsStoredChunk known_codecs form before selection r → AnswersBy memory_or_fault (Holds form.type) r (apart_read form len ps selection) → pieces_state handle ≡ after_reading r before → r ≡ Ok held
+  pub answered_tells : {E : Type 0} (before : StorageState) (handle : PiecesHandle E) (held : Held) (r : Result Held CodecError) (plan : Option (Vec ByteSpan Global)) (told : Result (Vec ℕ Global) CodecError) → IsSoundForm form → IsMade zeros len ps before → whole_value len ps ≡ None → before.failure ≡ None
+      → ReadsStoredChunk known_codecs form before selection r → AnswersBy memory_or_fault (Holds form.type) r (apart_read zeros form len ps selection) → pieces_state handle ≡ after_reading r before → r ≡ Ok held
       → IsOkAnd (planned_places form selection) (IsPlanSeen known_codecs form plan) → IfOk told (λ told. AreOfLackedOrKept handle (ranges_kept plan) told.items) → IfErr told (λ error. error ≡ OutOfMemory) → AnswersPartLacking form len ps selection told
   answered_tells before handle held (Err error) plan told sound is none quiet reads exact left answered said h m = absurd (cc)
   answered_tells before handle held (Ok other) plan (Err error) sound is none quiet reads exact left answered said h m = λ silent. absurd (let wants : true ≡ false = sym (ap memory m) ∙ silent in cc)
   answered_tells before handle held (Ok other) plan (Ok told) sound is none quiet reads exact left answered said h m =
       read_due handle plan told.items sound (still_made (ok_held other) len ps before (pieces_state handle) is left) none (ap (λ (s : StorageState). s.failure) left ∙ quiet)
-      (selected form.type other (bounds_of selection form.sizes) reads.indexer_first) (are_read _ (apart_read form len ps selection) exact) said h
+      (selected form.type other (bounds_of selection form.sizes) reads.indexer_first) (are_read _ (apart_read zeros form len ps selection) exact) said h
     where
       ok_held : Held → Result Held CodecError
       ok_held held = Ok held
 
   -- and behind a read that failed
-  pub failed_tells : (before : StorageState) (handle : PiecesHandle) (r : Result Held CodecError) (error : CodecError) (failure : StorageError) (plan : Option (Vec ByteSpan Global)) (told : Result (Vec ℕ Global) CodecError) → IsSoundForm form → IsMade len ps before → whole_value len ps ≡ None
+  pub failed_tells : {E : Type 0} (before : StorageState) (handle : PiecesHandle E) (r : Result Held CodecError) (error : CodecError) (failure : StorageError) (plan : Option (Vec ByteSpan Global)) (told : Result (Vec ℕ Global) CodecError) → IsSoundForm form → IsMade zeros len ps before → whole_value len ps ≡ None
       → ReadsStoredChunk known_codecs form before selection r → pieces_state handle ≡ after_reading r before → r ≡ Err error → error ≡ Storage failure
       → IsOkAnd (planned_places form selection) (IsPlanSeen known_codecs form plan) → IfOk told (λ told. AreOfLackedOrKept handle (ranges_kept plan) told.items) → IfErr told (λ error. error ≡ OutOfMemory) → AnswersPartLacking form len ps selection told
   failed_tells before handle r error failure plan (Err other) sound is none reads left fails storage said h m = λ silent. absurd (let wants : true ≡ false = sym (ap memory m) ∙ silent in cc)
   failed_tells before handle r error failure plan (Ok told) sound is none reads left fails storage said h m =
       let fault_is : is_fault r ≡ true = ap is_fault fails ∙ ap fault storage in
-      let lacks = made_lacks form len ps before selection (is_fault r) is none (λ _. surely_read form form before before selection r refl refl reads) fault_is in
+      let lacks = made_lacks zeros form len ps before selection (is_fault r) is none (λ _. surely_read form form before before selection r refl refl reads) fault_is in
       failed_due handle plan failure told.items sound (still_made r len ps before (pieces_state handle) is left) (has_failed r error failure before (pieces_state handle) left fails storage) lacks said h
 
   -- what a handle kept where no decoder is made
-  unmade_due : (handle : PiecesHandle) (ranges : List ByteSpan) (failure : StorageError) (told : List ℕ) → IsMade len ps (pieces_state handle) → (pieces_state handle).failure ≡ Some failure → LacksByte form len ps selection
+  unmade_due : {E : Type 0} (handle : PiecesHandle E) (ranges : List ByteSpan) (failure : StorageError) (told : List ℕ) → IsMade zeros len ps (pieces_state handle) → (pieces_state handle).failure ≡ Some failure → LacksByte zeros form len ps selection
       → (asks_in_part form.chain.bytes_to_bytes form.chain.array_to_bytes ≡ true → true ≡ false) → AreKept handle ranges → told ≡ range_numbers ranges → (lacking : List ByteSpan) × AreLackingTo form len ps selection lacking × (told ≡ range_numbers lacking)
   unmade_due handle ranges failure told is failed lacks whole kept e = (
     ranges,
@@ -435,13 +435,13 @@ module _ (form : HeaderForm) (len : ℕ) (ps : List PlainPiece) (selection : Sel
 -- ---- by a decoder that is made for it
 
 -- where none is made
-pub unmade_answered : {T : Type 0} (outcome : Result T (Refused PiecesHandle)) (form : HeaderForm) (len : ℕ) (ps : List PlainPiece) (selection : Selection) (before : StorageState) (handle : PiecesHandle) (error : CodecError) (made : Result T CodecError) (r : Result (Vec ℕ Global) CodecError) → IsMade len ps before → whole_value len ps ≡ None
+pub unmade_answered : {E T : Type 0} (outcome : Result T (Refused (PiecesHandle E))) (form : HeaderForm) (len : ℕ) (ps : List PlainPiece) (selection : Selection) (before : StorageState) (handle : PiecesHandle E) (error : CodecError) (made : Result T CodecError) (r : Result (Vec ℕ Global) CodecError) → IsMade zeros len ps before → whole_value len ps ≡ None
     → pieces_state handle ≡ after_reading made before → made ≡ Err error → (asks_in_part form.chain.bytes_to_bytes form.chain.array_to_bytes ≡ true → fault error ≡ false) → AnswersKept error handle r
     → Excused (memory_or_fault error) (source_made known_codecs known_reads form before.value ≡ Err error) → AnswersPartLacking form len ps selection r
 unmade_answered outcome form len ps selection before handle error made (Ok told) is none left fails quiet h stopped =
     let storage = is_storage error h.0 in
     let whole : asks_in_part form.chain.bytes_to_bytes form.chain.array_to_bytes ≡ true → true ≡ false = λ asks. sym h.0 ∙ quiet asks in
-    let lacks = made_lacks form len ps before selection true is none (λ asks. record { refused = λ _. whole asks; sure = λ _. whole asks }) refl in
+    let lacks = made_lacks zeros form len ps before selection true is none (λ asks. record { refused = λ _. whole asks; sure = λ _. whole asks }) refl in
     unmade_due form len ps selection handle h.1 storage.0 told.items (still_made made len ps before (pieces_state handle) is left) (has_failed made error storage.0 before (pieces_state handle) left fails storage.1) lacks whole h.2 h.3
 unmade_answered outcome form len ps selection before handle error made (Err cause) is none left fails quiet h stopped = λ wants.
     let k = h wants in
@@ -452,7 +452,7 @@ unmade_answered outcome form len ps selection before handle error made (Err caus
     chunk_error e = Err e
 
 -- where one is made over the handle
-pub made_answered : (chunk form : HeaderForm) (given over : PiecesHandle) (selection : Selection) (r : Result (Vec ℕ Global) CodecError) (source : Source) → form ≡ chunk → pieces_state over ≡ pieces_state given → source_made known_codecs known_reads chunk (pieces_state given).value ≡ Ok source
+pub made_answered : {E : Type 0} (chunk form : HeaderForm) (given over : PiecesHandle E) (selection : Selection) (r : Result (Vec ℕ Global) CodecError) (source : Source) → form ≡ chunk → pieces_state over ≡ pieces_state given → source_made known_codecs known_reads chunk (pieces_state given).value ≡ Ok source
     → AnswersMade form over selection r → AnswersOver chunk given selection r
 made_answered chunk form given over selection r source same states made h = λ sound len ps is.
     let can : is_ok (source_made known_codecs known_reads form (pieces_state over).value) ≡ true =
@@ -487,20 +487,20 @@ whole_due form type len ps value stored selection held told apart whole same h n
   record {
     all = refl;
     some = λ some. absurd (cc);
-    none = λ _. are_read _ (apart_read form len ps selection) (whole_read form type len ps value stored selection (Ok held) apart whole same h);
+    none = λ _. are_read _ (apart_read zeros form len ps selection) (whole_read zeros form type len ps value stored selection (Ok held) apart whole same h);
     planned = λ numbers are bound n. sym (ap (λ (b : Bool). list_any (λ other. other == n) numbers && b) (whole_lacks len n ps value whole) ∙ and-false (list_any (λ other. other == n) numbers));
   },
   none,
 )
 
 pub whole_refused : (form : HeaderForm) (type : ElementType) (len : ℕ) (ps : List PlainPiece) (value : List ℕ) (stored : Option (List ℕ)) (selection : Selection) (error : CodecError) → are_apart len 0 ps ≡ true → whole_value len ps ≡ Some value → stored ≡ Some value
-    → AnswersBy memory (Holds type) (Err error) (form_read form stored selection) → fault error ≡ false → Excused (memory error) (apart_read form len ps selection ≡ Err error)
+    → AnswersBy memory (Holds type) (Err error) (form_read form stored selection) → fault error ≡ false → Excused (memory error) (apart_read zeros form len ps selection ≡ Err error)
 whole_refused form type len ps value stored selection error apart whole same h quiet =
-    excused_less (memory error) (fault error) (apart_read form len ps selection ≡ Err error) quiet (whole_read form type len ps value stored selection (Err error) apart whole same h)
+    excused_less (memory error) (fault error) (apart_read zeros form len ps selection ≡ Err error) quiet (whole_read zeros form type len ps value stored selection (Err error) apart whole same h)
 
 -- an error of the plan is one of the read
-pub plan_stopped : (form : HeaderForm) (len : ℕ) (ps : List PlainPiece) (selection : Selection) (state : StorageState) (source : Source) (e : CodecError) → IsMade len ps state → source_made known_codecs known_reads form state.value ≡ Ok source
-    → Excused (memory e) (planned_places form selection ≡ Err e) → Excused (memory e) (apart_read form len ps selection ≡ Err e)
+pub plan_stopped : (form : HeaderForm) (len : ℕ) (ps : List PlainPiece) (selection : Selection) (state : StorageState) (source : Source) (e : CodecError) → IsMade zeros len ps state → source_made known_codecs known_reads form state.value ≡ Ok source
+    → Excused (memory e) (planned_places form selection ≡ Err e) → Excused (memory e) (apart_read zeros form len ps selection ≡ Err e)
 plan_stopped form len ps selection state source e is made h = λ wants. plan_stops form len ps selection state source e is made (h wants)
 
 -- ---- of a header
@@ -511,7 +511,7 @@ sound_form text header reads =
     record { mappings = s.mappings; positive = s.positive }
 
 module _ (text : List ℕ) (len : ℕ) (ranges fetched : List ℕ) (tuples : ℕ) (numbers : List ℕ) (header : Header) (selection : Selection) (pieces : List PlainPiece) (reads : header_given text ≡ Ok header) (means : selection_given (length header.sizes) tuples numbers ≡ Ok selection) (given : pieces_given ranges fetched ≡ Ok pieces) where
-  of_pieces : pieces_read text len ranges fetched tuples numbers ≡ (codec_call_answer (apart_read (header_form header) len pieces selection) >>= typed header.data_type)
+  of_pieces : pieces_read zeros text len ranges fetched tuples numbers ≡ (codec_call_answer (apart_read zeros (header_form header) len pieces selection) >>= typed header.data_type)
   of_pieces = rw (reads, means, given) refl
 
   pub all_due : (told : List ℕ) → (lacking : List ByteSpan) × AreLackingTo (header_form header) len pieces selection lacking × (told ≡ range_numbers lacking)
@@ -523,8 +523,8 @@ module _ (text : List ℕ) (len : ℕ) (ranges fetched : List ℕ) (tuples : ℕ
   )
 
   -- an error of the chunk's read is the one that is due
-  pub all_refused : (error : CodecError) → Excused (memory error) (apart_read (header_form header) len pieces selection ≡ Err error) → Excused (memory error) (pieces_read text len ranges fetched tuples numbers ≡ Err (of_codec error))
-  all_refused error h = λ wants. of_pieces ∙ elements_not_due header.data_type error (apart_read (header_form header) len pieces selection) (h wants)
+  pub all_refused : (error : CodecError) → Excused (memory error) (apart_read zeros (header_form header) len pieces selection ≡ Err error) → Excused (memory error) (pieces_read zeros text len ranges fetched tuples numbers ≡ Err (of_codec error))
+  all_refused error h = λ wants. of_pieces ∙ elements_not_due header.data_type error (apart_read zeros (header_form header) len pieces selection) (h wants)
 
 -- ---- returned
 

@@ -11,7 +11,7 @@ use Rattle.zarrs_json.specs.KnownBytesCodec.{known_codecs, known_reads}
 use Rattle.zarrs_json.specs.Header.{Header, HeaderForm, header_form}
 use Rattle.zarrs_lent_handles.specs.Joined.{have_number}
 use Rattle.zarrs_lent_handles.specs.Lacking.{are_all_lacking, are_of_failure, is_lacking}
-use Rattle.zarrs_lent_handles.specs.Pieces.{PlainPiece}
+use Rattle.zarrs_lent_handles.specs.Pieces.{PlainPiece, zeros}
 use Rattle.zarrs_lent_handles.specs.PiecesHandle.{HandleLacks, are_unsure, made_state, pieces_state}
 use Rattle.zarrs_lent_handles.specs.declared.pieces_handle.PiecesHandle.{PiecesHandle}
 use Rattle.zarrs_codec_chain.specs.ChunkSource.{source_made}
@@ -29,8 +29,8 @@ use Rattle.zarrs_c_calls.specs.declared.fetched.Fetched.{Fetched}
 -- There are ranges where a byte is lacking, and none where the read is answered. They come in order, each has a byte, and between one and the next is at least one; the value has each of their bytes, and no piece has one. Where the read of the selection plans its bytes, and the value has them, the ranges have all of these that are lacking, and no others.
 pub record AreLackingTo (form : HeaderForm) (len : ℕ) (pieces : List PlainPiece) (selection : Selection) (lacking : List ByteSpan) : Type 0 where
   pub all : are_all_lacking len pieces lacking ≡ true
-  pub some : nat_lt 0 (length lacking) ≡ true → LacksByte form len pieces selection
-  pub none : lacking ≡ [] → is_ok (apart_read form len pieces selection) ≡ true
+  pub some : nat_lt 0 (length lacking) ≡ true → LacksByte zeros form len pieces selection
+  pub none : lacking ≡ [] → is_ok (apart_read zeros form len pieces selection) ≡ true
   pub planned : (planned : List ℕ) → ArePlanned known_codecs form selection planned → All (λ number. number < len) planned
       → (number : ℕ) → have_number lacking number ≡ (list_any (λ other. other == number) planned && is_lacking len pieces number)
 
@@ -48,7 +48,7 @@ pub record IsLackingOf (text : List ℕ) (len : ℕ) (ranges fetched : List ℕ)
 abbrev pub TellsLacking : List ℕ → ℕ → List ℕ → List ℕ → ℕ → List ℕ → ℕ → List ℕ → List ℕ → ℕ → ℕ → Type 0
 TellsLacking text len ranges fetched tuples numbers code old new needed_old needed_new =
     ((lacking : List ByteSpan) × IsLackingOf text len ranges fetched tuples numbers lacking × ToldBytes (range_numbers lacking) code old new needed_new)
-    ⊎ (IsRefusal (pieces_read text len ranges fetched tuples numbers) code × (new ≡ old) × (needed_new ≡ needed_old))
+    ⊎ (IsRefusal (pieces_read zeros text len ranges fetched tuples numbers) code × (new ≡ old) × (needed_new ≡ needed_old))
 
 -- ---- before they are returned
 
@@ -56,12 +56,12 @@ TellsLacking text len ranges fetched tuples numbers code old new needed_old need
 abbrev pub AnswersLacking : List ℕ → Fetched → ℕ → List ℕ → Result (Vec ℕ Global) Cause → Type 0
 AnswersLacking text fetched tuples numbers (Ok told) =
     (lacking : List ByteSpan) × IsLackingOf text fetched.len fetched.ranges.now fetched.bytes.now tuples numbers lacking × (told.items ≡ range_numbers lacking)
-AnswersLacking text fetched tuples numbers (Err cause) = Excused (cause_memory cause) (pieces_read text fetched.len fetched.ranges.now fetched.bytes.now tuples numbers ≡ Err cause)
+AnswersLacking text fetched tuples numbers (Err cause) = Excused (cause_memory cause) (pieces_read zeros text fetched.len fetched.ranges.now fetched.bytes.now tuples numbers ≡ Err cause)
 
 -- the same of a chunk of which there are pieces
 abbrev pub AnswersPartLacking : HeaderForm → ℕ → List PlainPiece → Selection → Result (Vec ℕ Global) CodecError → Type 0
 AnswersPartLacking form len pieces selection (Ok told) = (lacking : List ByteSpan) × AreLackingTo form len pieces selection lacking × (told.items ≡ range_numbers lacking)
-AnswersPartLacking form len pieces selection (Err error) = Excused (memory error) (apart_read form len pieces selection ≡ Err error)
+AnswersPartLacking form len pieces selection (Err error) = Excused (memory error) (apart_read zeros form len pieces selection ≡ Err error)
 
 -- No size of the form is zero, and its array-to-array codecs are mappings.
 pub record IsSoundForm (form : HeaderForm) : Type 0 where
@@ -69,36 +69,36 @@ pub record IsSoundForm (form : HeaderForm) : Type 0 where
   pub positive : All (λ size. 0 < size) form.sizes
 
 -- The handle is on a value of so many bytes of which these pieces are at hand, and not the whole value in one of them.
-pub record IsOver (handle : PiecesHandle) (len : ℕ) (pieces : List PlainPiece) : Type 0 where
+pub record IsOver {E : Type 0} (handle : PiecesHandle E) (len : ℕ) (pieces : List PlainPiece) : Type 0 where
   pub made : Ok (pieces_state handle) ≡ made_state len pieces
   pub in_part : whole_value len pieces ≡ None
 
 -- the same, where these are the pieces of the handle
-abbrev pub AnswersOver : HeaderForm → PiecesHandle → Selection → Result (Vec ℕ Global) CodecError → Type 0
+abbrev pub AnswersOver : {E : Type 0} → HeaderForm → PiecesHandle E → Selection → Result (Vec ℕ Global) CodecError → Type 0
 AnswersOver form handle selection result =
     IsSoundForm form → (len : ℕ) (pieces : List PlainPiece) → IsOver handle len pieces → AnswersPartLacking form len pieces selection result
 
 -- the same, where a decoder over the handle can be made
-abbrev pub AnswersMade : HeaderForm → PiecesHandle → Selection → Result (Vec ℕ Global) CodecError → Type 0
+abbrev pub AnswersMade : {E : Type 0} → HeaderForm → PiecesHandle E → Selection → Result (Vec ℕ Global) CodecError → Type 0
 AnswersMade form handle selection result =
     is_ok (source_made known_codecs known_reads form (pieces_state handle).value) ≡ true → AnswersOver form handle selection result
 
 -- Bytes that the value has and that aren't sure, as ranges; there are some just where a call of the handle has failed.
-pub record AreKept (handle : PiecesHandle) (ranges : List ByteSpan) : Type 0 where
+pub record AreKept {E : Type 0} (handle : PiecesHandle E) (ranges : List ByteSpan) : Type 0 where
   pub unsure : are_unsure (pieces_state handle) ranges ≡ true
   pub failed : are_of_failure (pieces_state handle).failure ranges ≡ true
 
 -- Those of the asked bytes that the handle lacks, where it lacks one; else the ranges that it kept.
-abbrev pub IsLackedOrKept : PiecesHandle → List ByteSpan → List ByteSpan → Type 0
+abbrev pub IsLackedOrKept : {E : Type 0} → PiecesHandle E → List ByteSpan → List ByteSpan → Type 0
 IsLackedOrKept handle asked ranges =
     (HandleLacks handle asked ranges × (nat_lt 0 (length ranges) ≡ true))
     ⊎ (HandleLacks handle asked [] × AreKept handle ranges)
 
 -- the numbers of the ranges that a handle lacks of those that are asked for, or else kept
-abbrev pub AreOfLackedOrKept : PiecesHandle → List ByteSpan → List ℕ → Type 0
+abbrev pub AreOfLackedOrKept : {E : Type 0} → PiecesHandle E → List ByteSpan → List ℕ → Type 0
 AreOfLackedOrKept handle asked told = (ranges : List ByteSpan) × IsLackedOrKept handle asked ranges × (told ≡ range_numbers ranges)
 
 -- the numbers of the ranges that a handle kept whose failure an error is, or an error that is none
-abbrev pub AnswersKept : CodecError → PiecesHandle → Result (Vec ℕ Global) CodecError → Type 0
+abbrev pub AnswersKept : {E : Type 0} → CodecError → PiecesHandle E → Result (Vec ℕ Global) CodecError → Type 0
 AnswersKept error handle (Ok told) = (fault error ≡ true) × (ranges : List ByteSpan) × AreKept handle ranges × (told.items ≡ range_numbers ranges)
 AnswersKept error handle (Err cause) = Excused (memory cause) ((fault error ≡ false) × (error ≡ cause))

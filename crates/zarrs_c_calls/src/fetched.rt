@@ -1,29 +1,31 @@
 //! Reading a chunk of which pieces are at hand, before the elements are returned to C.
-ghost use Rattle.std.specs.Prelude.{◌≡◌, ◌-◌, IfOk, length, true};
+ghost use Rattle.std.specs.Prelude.{◌≡◌, ◌-◌, ℕ, IfOk, List, Some, false, length, true};
 ghost use Rattle.std.specs.Option.{option_map};
-ghost use Rattle.zarrs_chunk.specs.Answer.{is_fault, memory_or_fault, seen, Answers, AnswersBy};
+ghost use Rattle.zarrs_chunk.specs.Answer.{is_fault, memory, memory_or_fault, seen, Answers, AnswersBy};
 ghost use Rattle.zarrs_chunk.specs.Indexer.{selection_of};
 ghost use Rattle.zarrs_array_bytes.specs.Tight.{IsTight};
-ghost use Rattle.zarrs_array_bytes.specs.Validity.{Holds};
 ghost use Rattle.zarrs_json.specs.HeaderRead.{header_seen};
+ghost use Rattle.zarrs_lent_handles.specs.Elsewhere.{own_bytes};
 ghost use Rattle.zarrs_lent_handles.specs.Pieces.{pieces_seen};
-ghost use Rattle.zarrs_lent_handles.specs.PiecesHandle.{pieces_state};
 ghost use Rattle.zarrs_c_calls.specs.Codes.{cause_memory};
-ghost use Rattle.zarrs_c_calls.specs.Fetched.{front_bytes, memory_or_lack, pieces_in, pieces_given as pieces_of, pieces_read, LacksWhereAnswered, ReadsFetchedAlike, ReadsSurelyInPart};
-ghost use Rattle.zarrs_c_calls.specs.LackingByte.{apart_read, whole_value as whole_of, LacksByte};
+ghost use Rattle.zarrs_c_calls.specs.Fetched.{front_bytes, memory_or_lack, pieces_in, pieces_given as pieces_of, pieces_read, LacksWhereAnswered, ReadsApart, ReadsFetchedAlike, ReadsSurelyInPart};
+ghost use Rattle.zarrs_c_calls.specs.LackingByte.{whole_value as whole_of, LacksByte};
 ghost use Rattle.zarrs_c_calls.specs.Reads.{form_seen, ReadsForm};
 ghost use Rattle.zarrs_c_calls.specs.Told.{HoldsThese};
 
 use crate::calls::form_given;
 use crate::cause::Cause;
+use crate::from_elements::{FromElements, handed_on};
 use crate::part_reads::read_part;
 use crate::selection::selection_given;
 use std::alloc::Global;
+use std::marker::Brand;
 use zarrs_array_bytes::ArrayBytes;
 use zarrs_chunk::{CodecError, Indexer};
+use zarrs_codec::BytesPartialDecoderTraits;
 use zarrs_codec_chain::CodecChainPartialTraits;
 use zarrs_json::ChunkHeader;
-use zarrs_lent_handles::{LentHandle, Piece, PiecesHandle};
+use zarrs_lent_handles::{Elsewhere, LentHandle, Piece, PiecesHandle};
 
 /// The bytes of a range at the front of those that are left.
 fn bytes_of<'a>(start: u64, end: u64, left: &'a [u8]) -> Result<&'a [u8], Cause>
@@ -63,16 +65,16 @@ pub(crate) fn pieces_given<'a>(
 }
 
 /// The elements that an indexer selects, by a decoder that is made for this call.
-fn read_pieces_part(
+fn read_handle<H: BytesPartialDecoderTraits + Drop>(
     alloc: Global,
     form: &ChunkHeader,
-    handle: PiecesHandle<'_>,
+    handle: H,
     indexer: &Indexer,
 ) -> Result<ArrayBytes<'static>, CodecError>
-    ensures answer { ReadsForm memory_or_fault form.now (pieces_state handle.entry).value
+    ensures answer { ReadsForm memory_or_fault form.now (H.state handle).value
         indexer.now result }
     ensures tight { IfOk result (IsTight (header_seen form.now).data_type) }
-    ensures sure { ReadsSurelyInPart form.now handle.entry indexer.now result }
+    ensures sure { ReadsSurelyInPart form.now (H.state handle) indexer.now result }
 {
     let chain = &form.chain;
     match chain.partial_decoder(
@@ -85,6 +87,36 @@ fn read_pieces_part(
         Err(refused) => Err(refused.error),
         Ok(mut decoder) => decoder.partial_decode(alloc, indexer),
     }
+}
+
+/// The same, handed on.
+fn read_over<H: BytesPartialDecoderTraits + Drop, T: FromElements>(
+    alloc: Global,
+    form: &ChunkHeader,
+    handle: H,
+    indexer: &Indexer,
+) -> Result<T, CodecError>
+    ensures answer { ReadsForm memory_or_fault form.now (H.state handle).value
+        indexer.now (seen T.held result) }
+    ensures tight { IfOk (seen T.held result) (IsTight (header_seen form.now).data_type) }
+    ensures sure { ReadsSurelyInPart form.now (H.state handle) indexer.now
+        (seen T.held result) }
+{
+    handed_on(read_handle(alloc, form, handle, indexer))
+}
+
+/// The same of a value that is lent, of which no byte is lacking.
+fn read_whole<T: FromElements>(
+    alloc: Global,
+    form: &ChunkHeader,
+    value: &[u8],
+    indexer: &Indexer,
+) -> Result<T, CodecError>
+    ensures answer { ReadsForm memory form.now (Some value.now) indexer.now (seen T.held result) }
+    ensures tight { IfOk (seen T.held result) (IsTight (header_seen form.now).data_type) }
+    ensures no_fault { is_fault (seen T.held result) ≡ false }
+{
+    handed_on(read_part(alloc, form, LentHandle::new(Some(value)), indexer))
 }
 
 /// The whole value, where the first of pieces that stand apart has all of its bytes.
@@ -101,26 +133,26 @@ pub(crate) fn whole_value<'a>(len: u64, pieces: &[Piece<'a>]) -> Option<&'a [u8]
     }
 }
 
-/// The elements that an indexer selects of a value that has these pieces. Where they are the whole
-/// value it is read itself, so that no byte is lacking.
-fn read_apart(
+/// The elements that an indexer selects of the value that has these pieces, and the bytes of `E`
+/// elsewhere. Where the pieces are the whole value it is read itself, so that no byte is lacking.
+fn read_apart<E: Elsewhere, T: FromElements>(
     alloc: Global,
     form: &ChunkHeader,
     len: u64,
     pieces: Vec<Piece<'_>>,
     indexer: &Indexer,
-) -> Result<ArrayBytes<'static>, CodecError>
-    ensures answer { AnswersBy memory_or_fault (Holds form.now.data_type) result
-        (apart_read (form_seen form.now) len (pieces_in pieces.entry) (selection_of indexer.now)) }
-    ensures tight { IfOk result (IsTight (header_seen form.now).data_type) }
-    ensures lacking { is_fault result ≡ true
-        → LacksByte (form_seen form.now) len (pieces_in pieces.entry) (selection_of indexer.now) }
+) -> Result<T, CodecError>
+    ensures answer { ReadsApart E.elsewhere form.now len pieces.entry indexer.now
+        (seen T.held result) }
+    ensures tight { IfOk (seen T.held result) (IsTight (header_seen form.now).data_type) }
+    ensures lacking { is_fault (seen T.held result) ≡ true → LacksByte E.elsewhere
+        (form_seen form.now) len (pieces_in pieces.entry) (selection_of indexer.now) }
 {
     let whole = whole_value(len, pieces.as_slice());
-    let handle = PiecesHandle::new(len, pieces)?;
+    let handle = PiecesHandle::<E>::new(len, pieces)?;
     match whole {
-        Some(value) => read_part(alloc, form, LentHandle::new(Some(value)), indexer),
-        None => read_pieces_part(alloc, form, handle, indexer),
+        Some(value) => read_whole(alloc, form, value, indexer),
+        None => read_over(alloc, form, handle, indexer),
     }
 }
 
@@ -132,7 +164,8 @@ pub(crate) struct Fetched<'a> {
     pub(crate) bytes: &'a [u8],
 }
 
-/// The selected elements of a value of which pieces were fetched.
+/// The selected elements of a value of which pieces were fetched, and which has the bytes of `value`
+/// elsewhere, whichever these are.
 pub(crate) fn read_fetched(
     alloc: Global,
     text: &[u8],
@@ -140,14 +173,22 @@ pub(crate) fn read_fetched(
     tuples: u64,
     numbers: &[u64],
 ) -> Result<ArrayBytes<'static>, Cause>
-    ensures answer { AnswersBy memory_or_lack HoldsThese result (pieces_read text.now
-        fetched.now.len fetched.now.ranges.now fetched.now.bytes.now tuples numbers.now) }
+    ghost value: { List ℕ }
+    ensures answer { AnswersBy memory_or_lack HoldsThese result (pieces_read (own_bytes value)
+        text.now fetched.now.len fetched.now.ranges.now fetched.now.bytes.now tuples numbers.now) }
     ensures alike { ReadsFetchedAlike text.now fetched.now tuples numbers.now result }
-    ensures lacking { LacksWhereAnswered text.now fetched.now tuples numbers.now result }
+    ensures lacking { LacksWhereAnswered (own_bytes value) text.now fetched.now tuples numbers.now
+        result }
 {
     let form = form_given(alloc, text)?;
     let indexer = selection_given(alloc, &form, tuples, numbers)?;
     let pieces = pieces_given(alloc, fetched.ranges, fetched.bytes)?;
-    let elements = read_apart(alloc, &form, fetched.len, pieces, &indexer)?;
+    let elements = read_apart::<Brand, ArrayBytes<'static>>(
+        alloc,
+        &form,
+        fetched.len,
+        pieces,
+        &indexer,
+    )?;
     Ok(elements)
 }

@@ -18,6 +18,7 @@ mod edits;
 mod encode;
 mod error_name;
 mod fetched;
+mod from_elements;
 mod given;
 mod lacking;
 pub mod laws;

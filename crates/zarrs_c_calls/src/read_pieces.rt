@@ -1,4 +1,5 @@
 //! The call `zarrs_read_pieces`.
+ghost use Rattle.std.specs.Prelude.{ℕ, List};
 ghost use Rattle.zarrs_c_calls.specs.Buffers.{room};
 ghost use Rattle.zarrs_c_calls.specs.Fetched.{TellsPieces};
 
@@ -12,8 +13,9 @@ use std::alloc::Global;
 /// were fetched: each is a start and an end, they come in order, between one and the next there is
 /// a byte, and `fetched` has their bytes, joined.
 ///
-/// Where all bytes of the ranges that `zarrs_planned_ranges` returns are among them, the answer is
-/// that of `zarrs_read`, for every value that has these bytes there. The selection is that of
+/// For every value that has these bytes there, the answer is that of `zarrs_read`, or `Storage`
+/// where a byte is needed that isn't among them. Where all bytes of the ranges that
+/// `zarrs_planned_ranges` returns are among them, it is that of `zarrs_read`. The selection is that of
 /// `zarrs_read`, and the elements are returned as by `zarrs_decode`. Errors, the first that holds,
 /// `OutOfMemory` aside: those of `zarrs_check`; `Argument` or `Overflow` of the selection;
 /// `Argument` where the ranges aren't pairs or have other bytes than are fetched;
@@ -33,8 +35,9 @@ pub fn zarrs_read_pieces(
     bytes: &mut [u8],
     needed: &mut Sizes,
 ) -> u32
+    ghost value: { List ℕ }
     // Wide: a caller's three buffers and their counts, before and after.
-    ensures told { TellsPieces text.now len ranges.now fetched.now tuples numbers.now result
+    ensures told { TellsPieces text.now len ranges.now fetched.now tuples numbers.now value result
         (room masks.old offsets.old bytes.old needed.old)
         (room masks.new offsets.new bytes.new needed.new) }
 {

@@ -54,7 +54,7 @@ pub use zarrs_codec::{
 };
 pub use zarrs_crc32c::{CRC32C, Crc32cCodec, Crc32cMaker};
 pub use zarrs_data_type::{Components, DataType, Endianness, FillValue, HasComponents};
-pub use zarrs_lent_handles::{LentHandle, Piece, PiecesHandle, join_ranges};
+pub use zarrs_lent_handles::{Elsewhere, LentHandle, Piece, PiecesHandle, join_ranges};
 pub use zarrs_metadata::{
     BytesCodecConfiguration, BytesCodecConfigurationV1, Configuration, MetadataV3,
     OptionalCodecConfiguration, OptionalCodecConfigurationV1, PackBitsCodecConfiguration,

@@ -12,7 +12,7 @@ use Rattle.zarrs_codec.proofs.Fences.{first_true, second_true, range_passes}
 use Rattle.zarrs_lent_handles.specs.Joined.{has_number, have_number, ranges_apart, filled}
 use Rattle.zarrs_lent_handles.specs.Lacking.{gaps_from, is_lacking, AddsLacking, AreLacking, LacksOne, are_all_lacking}
 use Rattle.zarrs_lent_handles.specs.declared.piece.Piece.{Piece}
-use Rattle.zarrs_lent_handles.specs.Pieces.{PlainPiece, pieces_seen, piece_with, piece_has_byte, are_apart, is_at_hand, value_of_pieces, HaveFrom}
+use Rattle.zarrs_lent_handles.specs.Pieces.{PlainPiece, pieces_seen, piece_with, piece_has_byte, are_apart, is_at_hand, value_around, HaveFrom}
 use Rattle.zarrs_lent_handles.proofs.JoinLemmas.{span, filled_same}
 use Rattle.zarrs_lent_handles.specs.PiecesHandle.{are_unsure, is_unsure}
 use Rattle.zarrs_lent_handles.proofs.PieceLemmas.{none_below, value_length}
@@ -168,9 +168,9 @@ and_true : (a : Bool) → (a && true) ≡ a
 and_true true = refl
 and_true false = refl
 
-one_unsure : (len : ℕ) (ps : List PlainPiece) (state : StorageState) (n : ℕ) → state.value ≡ Some (value_of_pieces len ps) → state.sure ≡ Some (is_at_hand ps) → is_unsure state n ≡ is_lacking len ps n
-one_unsure len ps state n v s = rw (v, s, value_length len ps, and_true (is_at_hand ps n)) refl
+one_unsure : (elsewhere : ℕ → ℕ) (len : ℕ) (ps : List PlainPiece) (state : StorageState) (n : ℕ) → state.value ≡ Some (value_around elsewhere len ps) → state.sure ≡ Some (is_at_hand ps) → is_unsure state n ≡ is_lacking len ps n
+one_unsure elsewhere len ps state n v s = rw (v, s, value_length elsewhere len ps, and_true (is_at_hand ps n)) refl
 
-pub all_unsure : (len : ℕ) (ps : List PlainPiece) (ranges : List ByteSpan) (state : StorageState) → state.value ≡ Some (value_of_pieces len ps) → state.sure ≡ Some (is_at_hand ps) → are_all_lacking len ps ranges ≡ true → are_unsure state ranges ≡ true
-all_unsure len ps ranges state v s h =
-    both_true (first_true _ _ h) (all_alike (is_unsure state) (is_lacking len ps) (range_indices ranges) (λ n. one_unsure len ps state n v s) ∙ second_true (ranges_apart 0 ranges) _ h)
+pub all_unsure : (elsewhere : ℕ → ℕ) (len : ℕ) (ps : List PlainPiece) (ranges : List ByteSpan) (state : StorageState) → state.value ≡ Some (value_around elsewhere len ps) → state.sure ≡ Some (is_at_hand ps) → are_all_lacking len ps ranges ≡ true → are_unsure state ranges ≡ true
+all_unsure elsewhere len ps ranges state v s h =
+    both_true (first_true _ _ h) (all_alike (is_unsure state) (is_lacking len ps) (range_indices ranges) (λ n. one_unsure elsewhere len ps state n v s) ∙ second_true (ranges_apart 0 ranges) _ h)

@@ -1,3 +1,4 @@
+pub mod ElsewhereLemmas
 pub mod JoinLemmas
 pub mod LackingLemmas
 pub mod PieceLemmas

@@ -7,7 +7,7 @@ use Rattle.std.proofs.Math.Seq.{take-length}
 use Rattle.std.proofs.lemmas.List.Edits.{get_or-between, length-between}
 use Rattle.std.proofs.lemmas.List.FromFn.{get_or-map-range_with_len, length-map-range_with_len}
 use Rattle.zarrs_lent_handles.specs.declared.piece.Piece.{Piece}
-use Rattle.zarrs_lent_handles.specs.Pieces.{PlainPiece, piece_seen, pieces_seen, piece_with, are_apart, byte_at, is_at_hand, value_of_pieces, HaveFrom}
+use Rattle.zarrs_lent_handles.specs.Pieces.{PlainPiece, piece_seen, pieces_seen, piece_with, are_apart, is_at_hand, byte_around, value_around, HaveFrom}
 use Rattle.zarrs_codec.proofs.Fences.{range_passes}
 
 -- no piece has a byte before the first one
@@ -39,23 +39,23 @@ pub ended : (len free s : ℕ) (ps : List PlainPiece) (p : PlainPiece) → are_a
 ended len free s [] p apart is = cc
 ended len free s (q ∷ ps) p apart is = grind (arith, nat_tests, none_below len (q.start + length q.bytes + 1) (q.start + length q.bytes) ps, none_below len (q.start + length q.bytes + 1) s ps, ended len (q.start + length q.bytes + 1) s ps p, has_it ps s p)
 
-pub value_length : (len : ℕ) (ps : List PlainPiece) → length (value_of_pieces len ps) ≡ len
-value_length len ps = length-map-range_with_len (byte_at ps) 0 len
+pub value_length : (elsewhere : ℕ → ℕ) (len : ℕ) (ps : List PlainPiece) → length (value_around elsewhere len ps) ≡ len
+value_length elsewhere len ps = length-map-range_with_len (byte_around elsewhere ps) 0 len
 
 -- the bytes of a range are those of the piece that has its first one, up to the piece's end
-pub part_is : (len s e : ℕ) (ps : List PlainPiece) (p : PlainPiece) → are_apart len 0 ps ≡ true → piece_with ps s ≡ Some p → s ≤ e → e ≤ len → e ≤ p.start + length p.bytes
-    → between (s - p.start) (s - p.start + (e - s)) p.bytes ≡ between s e (value_of_pieces len ps)
-part_is len s e ps p apart is order inside held =
+pub part_is : (elsewhere : ℕ → ℕ) (len s e : ℕ) (ps : List PlainPiece) (p : PlainPiece) → are_apart len 0 ps ≡ true → piece_with ps s ≡ Some p → s ≤ e → e ≤ len → e ≤ p.start + length p.bytes
+    → between (s - p.start) (s - p.start + (e - s)) p.bytes ≡ between s e (value_around elsewhere len ps)
+part_is elsewhere len s e ps p apart is order inside held =
     let at : (p.start ≤ s) × (s - p.start < length p.bytes) = has_it ps s p is in
     let size : length (between (s - p.start) (s - p.start + (e - s)) p.bytes) ≡ s - p.start + (e - s) - (s - p.start) = length-between p.bytes (s - p.start) (s - p.start + (e - s)) (omega (arith, at)) in
-    let wanted : length (between s e (value_of_pieces len ps)) ≡ e - s = length-between (value_of_pieces len ps) s e (rw (value_length len ps) inside) in
-    ext_get_or 0 (between (s - p.start) (s - p.start + (e - s)) p.bytes) (between s e (value_of_pieces len ps)) (omega (arith, size, wanted)) (λ i l.
+    let wanted : length (between s e (value_around elsewhere len ps)) ≡ e - s = length-between (value_around elsewhere len ps) s e (rw (value_length elsewhere len ps) inside) in
+    ext_get_or 0 (between (s - p.start) (s - p.start + (e - s)) p.bytes) (between s e (value_around elsewhere len ps)) (omega (arith, size, wanted)) (λ i l.
     get_or-between p.bytes (s - p.start) (s - p.start + (e - s)) i 0 (omega (arith, size, l))
     ∙ byte i (omega (arith, size, l))
-    ∙ sym (get_or-map-range_with_len (byte_at ps) 0 len (s + i) (s + i) 0 (omega (arith, size, l)) (omega arith))
-    ∙ sym (get_or-between (value_of_pieces len ps) s e i 0 (omega (arith, size, l))))
+    ∙ sym (get_or-map-range_with_len (byte_around elsewhere ps) 0 len (s + i) (s + i) 0 (omega (arith, size, l)) (omega arith))
+    ∙ sym (get_or-between (value_around elsewhere len ps) s e i 0 (omega (arith, size, l))))
   where
-    byte : (i : ℕ) → i < e - s → get_or p.bytes (s - p.start + i) 0 ≡ byte_at ps (s + i)
+    byte : (i : ℕ) → i < e - s → get_or p.bytes (s - p.start + i) 0 ≡ byte_around elsewhere ps (s + i)
     byte i l =
         let at : (p.start ≤ s) × (s - p.start < length p.bytes) = has_it ps s p is in
         let place : s + i - p.start ≡ s - p.start + i = omega (arith, at) in
@@ -67,10 +67,10 @@ passes test a zero k all above below = absurd (omega arith)
 passes test a (suc n) k all above below = grind (arith, nat_tests, passes test (a + 1) n k)
 
 -- all bytes of a value
-pub whole_value : (len : ℕ) (ps : List PlainPiece) → between 0 len (value_of_pieces len ps) ≡ value_of_pieces len ps
-whole_value len ps =
-    let e : len - 0 ≡ length (value_of_pieces len ps) = omega (arith, value_length len ps) in
-    ap (λ n. take n (value_of_pieces len ps)) e ∙ take-length (value_of_pieces len ps)
+pub whole_value : (elsewhere : ℕ → ℕ) (len : ℕ) (ps : List PlainPiece) → between 0 len (value_around elsewhere len ps) ≡ value_around elsewhere len ps
+whole_value elsewhere len ps =
+    let e : len - 0 ≡ length (value_around elsewhere len ps) = omega (arith, value_length elsewhere len ps) in
+    ap (λ n. take n (value_around elsewhere len ps)) e ∙ take-length (value_around elsewhere len ps)
 
 -- the pieces before one that begins at a byte or before it don't have the byte
 pub skipped : (len free k n : ℕ) (ps : List PlainPiece) (d : PlainPiece) → are_apart len free ps ≡ true → k < length ps → (get_or ps k d).start ≤ n → piece_with (drop k ps) n ≡ piece_with ps n

@@ -1,6 +1,6 @@
 -- What is read of a span of a value is read of the value, at ranges that are moved.
-use Rattle.std.proofs.Common.{◌≡◌, ℕ, zero, suc, ◌+◌, ◌-◌, ◌≤◌, nat_le, ◌&&◌, Bool, true, false, Option, Some, None, List, [], ◌∷◌, ◌++◌, length, take, drop, map, Result, Ok, Err, arith, refl, ap, sym, subst, ◌∙◌}
-use Rattle.std.specs.List.{list_all, range_with_len, flat_map, between}
+use Rattle.std.proofs.Common.{◌≡◌, ℕ, zero, suc, ◌+◌, ◌-◌, ◌≤◌, nat_le, ◌&&◌, Bool, true, false, Option, Some, None, List, [], ◌∷◌, ◌++◌, length, take, drop, Result, Ok, Err, arith, refl, ap, sym, ◌∙◌}
+use Rattle.std.specs.List.{list_all, range_with_len, between}
 use Rattle.std.specs.Option.{option_map}
 use Rattle.std.proofs.lemmas.Bool.Decides.{nat_tests}
 use Rattle.std.proofs.lemmas.List.{append-nil, drop-take, drop-drop, length-drop, length-take-le}
@@ -9,13 +9,13 @@ use Rattle.zarrs_chunk.proofs.Inside.{from_le_test, le_test}
 use Rattle.std.proofs.lemmas.List.Folds.{list_all-append}
 use Rattle.zarrs_chunk.specs.declared.codec_error.CodecError.{CodecError}
 use Rattle.zarrs_chunk.specs.declared.codec_error.CodecError.TheVariants.{InvalidByteRange}
-use Rattle.zarrs_codec.specs.ByteRanges.{range_indices, bytes_in_ranges, read_value, read_ranges}
+use Rattle.zarrs_codec.specs.ByteRanges.{range_indices, bytes_in_ranges, read_ranges}
 use Rattle.zarrs_codec.specs.ByteSpan.{ByteSpan}
 use Rattle.zarrs_codec.specs.StorageState.{StorageState, after_reading, are_sure, value_indices}
 use Rattle.zarrs_codec.specs.Lent.{Lent, whole_reference}
 use Rattle.std.specs.Borrow.{GName}
 use Rattle.zarrs_codec.proofs.Fences.{second_true, first_true}
-use Rattle.zarrs_lent_handles.specs.SpanHandle.{spanned, is_span_of, moved_range, moved_ranges, span_state, span_reference, without_failures}
+use Rattle.zarrs_lent_handles.specs.SpanHandle.{spanned, is_span_of, moved_ranges, span_state, span_reference, without_failures}
 
 abbrev ends_within : ℕ → ByteSpan → Bool
 ends_within len range = nat_le range.end len

@@ -1,4 +1,5 @@
 -- Handles on bytes that are lent.
+pub mod Elsewhere
 pub mod Joined
 pub mod Lacking
 pub mod LentHandle

@@ -67,22 +67,34 @@ pub record HaveFrom (len number : ℕ) (pieces near : List PlainPiece) : Type 0 
 
 -- ---- values that have the pieces
 
--- the byte of this number in a piece
-abbrev pub byte_in : Option PlainPiece → ℕ → ℕ
-byte_in None number = 0
-byte_in (Some piece) number = get_or piece.bytes (number - piece.start) 0
+-- the byte of this number in a piece; elsewhere the byte that stands there
+abbrev pub byte_in : (ℕ → ℕ) → Option PlainPiece → ℕ → ℕ
+byte_in elsewhere None number = elsewhere number
+byte_in elsewhere (Some piece) number = get_or piece.bytes (number - piece.start) 0
+
+-- the byte of this number, where these bytes stand that aren't at hand
+abbrev pub byte_around : (ℕ → ℕ) → List PlainPiece → ℕ → ℕ
+byte_around elsewhere pieces number = byte_in elsewhere (piece_with pieces number) number
+
+-- the value of so many bytes that has these pieces, and these bytes elsewhere
+abbrev pub value_around : (ℕ → ℕ) → ℕ → List PlainPiece → List ℕ
+value_around elsewhere len pieces = map (byte_around elsewhere pieces) (range_with_len 0 len)
+
+-- the same of pieces as they are given
+abbrev pub value_of : (ℕ → ℕ) → ℕ → List Piece → List ℕ
+value_of elsewhere len pieces = value_around elsewhere len (pieces_seen pieces)
+
+-- zero at each number
+abbrev pub zeros : ℕ → ℕ
+zeros _ = 0
 
 -- the byte of this number; zero where it isn't at hand
 abbrev pub byte_at : List PlainPiece → ℕ → ℕ
-byte_at pieces number = byte_in (piece_with pieces number) number
+byte_at pieces = byte_around zeros pieces
 
 -- the value of so many bytes that has these pieces, and zeros elsewhere
 abbrev pub value_of_pieces : ℕ → List PlainPiece → List ℕ
-value_of_pieces len pieces = map (byte_at pieces) (range_with_len 0 len)
-
--- the same of pieces as they are given
-abbrev pub value_of : ℕ → List Piece → List ℕ
-value_of len pieces = value_of_pieces len (pieces_seen pieces)
+value_of_pieces len pieces = value_around zeros len pieces
 
 -- the value has so many bytes, and each that is at hand is the piece's
 pub record HasPieces (len : ℕ) (pieces : List PlainPiece) (value : List ℕ) : Type 0 where

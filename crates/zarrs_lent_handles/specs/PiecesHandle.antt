@@ -10,36 +10,44 @@ use Rattle.zarrs_codec.specs.ByteSpan.{ByteSpan}
 use Rattle.zarrs_lent_handles.specs.Joined.{ranges_apart}
 use Rattle.zarrs_lent_handles.specs.Lacking.{AreLacking, ranges_kept}
 use Rattle.zarrs_lent_handles.specs.LentHandle.{read_state}
-use Rattle.zarrs_lent_handles.specs.Pieces.{PlainPiece, pieces_seen, value_of_pieces, is_at_hand, are_apart}
+use Rattle.zarrs_lent_handles.specs.Pieces.{PlainPiece, pieces_seen, value_around, zeros, is_at_hand, are_apart}
 use Rattle.zarrs_lent_handles.specs.declared.pieces_handle.PiecesHandle.{PiecesHandle}
 
--- The state of a handle over pieces. The value has the pieces' bytes, and zeros elsewhere. The bytes of the pieces are sure, and a read of any other one fails: so no answer rests on the zeros.
-abbrev pub pieces_state : PiecesHandle → StorageState
-pieces_state handle =
-    read_state (Some (value_of_pieces handle.len (pieces_seen handle.pieces.items))) (is_at_hand (pieces_seen handle.pieces.items)) handle.faults handle.failure
+-- The state of a handle over pieces, whose value has the pieces' bytes, and these elsewhere. The bytes of the pieces are sure, and a read of any other one fails.
+abbrev pub state_around : {E : Type 0} → (ℕ → ℕ) → PiecesHandle E → StorageState
+state_around elsewhere handle =
+    read_state (Some (value_around elsewhere handle.len (pieces_seen handle.pieces.items))) (is_at_hand (pieces_seen handle.pieces.items)) handle.faults handle.failure
 
--- the state of a handle that is made over pieces, or the error
-abbrev pub made_state : ℕ → List PlainPiece → Result StorageState CodecError
-made_state len pieces = do
+-- the state of a handle that is made over pieces, with these bytes elsewhere, or the error
+abbrev pub made_around : (ℕ → ℕ) → ℕ → List PlainPiece → Result StorageState CodecError
+made_around elsewhere len pieces = do
   _ ← demand (are_apart len 0 pieces) InvalidByteRange
-  Ok (read_state (Some (value_of_pieces len pieces)) (is_at_hand pieces) 0 None)
+  Ok (read_state (Some (value_around elsewhere len pieces)) (is_at_hand pieces) 0 None)
+
+-- the same with zeros elsewhere
+abbrev pub pieces_state : {E : Type 0} → PiecesHandle E → StorageState
+pieces_state handle = state_around zeros handle
+
+-- and of one that is made, or the error
+abbrev pub made_state : ℕ → List PlainPiece → Result StorageState CodecError
+made_state len pieces = made_around zeros len pieces
 
 -- what is read of the handle are sure bytes: all with these numbers are
-abbrev pub ReadsSure : {T : Type 0} → PiecesHandle → List ℕ → Result T CodecError → Type 0
+abbrev pub ReadsSure : {E T : Type 0} → PiecesHandle E → List ℕ → Result T CodecError → Type 0
 ReadsSure handle numbers result = OnOk result (are_sure (pieces_state handle).sure numbers ≡ true)
 
 -- ---- what a read lacks
 
 -- what the last of a handle's calls lacked that failed; none where none has
-abbrev pub lacking_ranges : PiecesHandle → List ByteSpan
+abbrev pub lacking_ranges : {E : Type 0} → PiecesHandle E → List ByteSpan
 lacking_ranges handle = ranges_kept handle.lacking
 
 -- the ranges have those bytes of the asked ones that a handle's value has and no piece
-abbrev pub HandleLacks : PiecesHandle → List ByteSpan → List ByteSpan → Type 0
+abbrev pub HandleLacks : {E : Type 0} → PiecesHandle E → List ByteSpan → List ByteSpan → Type 0
 HandleLacks handle asked ranges = AreLacking handle.len (pieces_seen handle.pieces.items) asked ranges
 
 -- A read of these ranges that fails keeps those of their bytes that are lacking. Any other leaves what was kept.
-pub record KeepsLacking {T : Type 0} (asked : List ByteSpan) (before after : PiecesHandle) (result : Result T CodecError) : Type 0 where
+pub record KeepsLacking {E T : Type 0} (asked : List ByteSpan) (before after : PiecesHandle E) (result : Result T CodecError) : Type 0 where
   pub failed : is_fault result ≡ true → HandleLacks before asked (lacking_ranges after)
   pub kept : is_fault result ≡ false → lacking_ranges after ≡ lacking_ranges before
 

@@ -7,6 +7,7 @@ ghost use Rattle.zarrs_codec.specs.StorageState.{value_indices};
 ghost use Rattle.zarrs_lent_handles.specs.Lacking.{LacksOne};
 ghost use Rattle.zarrs_lent_handles.specs.Pieces.{piece_has_byte, piece_with as first_with, are_apart as stand_apart, numbers_of, piece_seen, pieces_seen, value_of, HaveFrom, IsInPiece, OnlyAtHand, SureIfAtHand};
 
+use crate::elsewhere::Elsewhere;
 use std::alloc::Global;
 use zarrs_chunk::{CodecError, StorageError};
 use zarrs_codec::{ByteRange, append_piece, room_for};
@@ -81,11 +82,16 @@ const NOT_AT_HAND: CodecError = CodecError::Storage(StorageError { code: 0 });
 
 /// A range's bytes, where a piece has them all.
 #[tactic(auto, using(crate::proofs::PieceLemmas::value_length))]
-fn part_of<'a>(len: u64, pieces: &[Piece<'a>], range: &ByteRange) -> Result<&'a [u8], CodecError>
+fn part_of<'a, E: Elsewhere>(
+    len: u64,
+    pieces: &[Piece<'a>],
+    range: &ByteRange,
+) -> Result<&'a [u8], CodecError>
     requires apart { stand_apart len 0 (pieces_seen pieces.now) ≡ true }
-    ensures inside { IfOk result (λ part. IsPieceOf (value_of len pieces.now) range.now part.now) }
+    ensures inside { IfOk result (λ part. IsPieceOf (value_of E.elsewhere len pieces.now)
+        range.now part.now) }
     ensures outside { IfErr result (λ error. Excused (fault error)
-        (EndsOutside (value_of len pieces.now) range.now error)) }
+        (EndsOutside (value_of E.elsewhere len pieces.now) range.now error)) }
     ensures sure { SureIfAtHand pieces.now (numbers_of range.now) result }
     ensures at_hand { OnlyAtHand pieces.now (numbers_of range.now) result }
     ensures lacks { is_fault result ≡ true
@@ -111,7 +117,7 @@ fn part_of<'a>(len: u64, pieces: &[Piece<'a>], range: &ByteRange) -> Result<&'a 
 }
 
 /// The ranges' bytes, joined in order.
-pub(crate) fn gather(
+pub(crate) fn gather<E: Elsewhere>(
     alloc: Global,
     len: u64,
     pieces: &[Piece<'_>],
@@ -119,14 +125,14 @@ pub(crate) fn gather(
 ) -> Result<Vec<u8>, CodecError>
     requires apart { stand_apart len 0 (pieces_seen pieces.now) ≡ true }
     ensures answer { AnswersItems memory_or_fault result
-        (read_value (value_of len pieces.now) ranges.now) }
+        (read_value (value_of E.elsewhere len pieces.now) ranges.now) }
     ensures sure { SureIfAtHand pieces.now (range_indices ranges.now) result }
     ensures at_hand { OnlyAtHand pieces.now (range_indices ranges.now) result }
     ensures lacks { is_fault result ≡ true → LacksOne len (pieces_seen pieces.now) ranges.now }
 {
     let mut bytes = Vec::with_capacity(alloc, room_for(len, ranges))?;
     for range in ranges {
-        append_piece(&mut bytes, part_of(len, pieces, range)?)?;
+        append_piece(&mut bytes, part_of::<E>(len, pieces, range)?)?;
     }
     Ok(bytes)
 }
@@ -143,15 +149,19 @@ pub(crate) fn whole_range(len: u64) -> ByteRange
 
 /// The whole value, where all of its bytes are at hand.
 #[tactic(auto, using(crate::proofs::PieceLemmas::value_length, crate::proofs::PieceLemmas::whole_value))]
-pub(crate) fn whole(alloc: Global, len: u64, pieces: &[Piece<'_>]) -> Result<Vec<u8>, CodecError>
+pub(crate) fn whole<E: Elsewhere>(
+    alloc: Global,
+    len: u64,
+    pieces: &[Piece<'_>],
+) -> Result<Vec<u8>, CodecError>
     requires apart { stand_apart len 0 (pieces_seen pieces.now) ≡ true }
-    ensures answer { AnswersItems memory_or_fault result (Ok (value_of len pieces.now)) }
-    ensures sure { SureIfAtHand pieces.now (value_indices (Some (value_of len pieces.now))) result }
-    ensures at_hand { OnlyAtHand pieces.now (value_indices (Some (value_of len pieces.now))) result }
+    ensures answer { AnswersItems memory_or_fault result (Ok (value_of E.elsewhere len pieces.now)) }
+    ensures sure { SureIfAtHand pieces.now (value_indices (Some (value_of E.elsewhere len pieces.now))) result }
+    ensures at_hand { OnlyAtHand pieces.now (value_indices (Some (value_of E.elsewhere len pieces.now))) result }
     ensures lacks { is_fault result ≡ true
         → LacksOne len (pieces_seen pieces.now) (record { start = 0; end = len } ∷ []) }
 {
-    let part = part_of(len, pieces, &whole_range(len))?;
+    let part = part_of::<E>(len, pieces, &whole_range(len))?;
     let bytes = Vec::from_slice(alloc, part)?;
     Ok(bytes)
 }

@@ -8,9 +8,11 @@ ghost use Rattle.zarrs_codec.specs.HandleCalls.{NeverFailsIf, ReadsBytes};
 ghost use Rattle.zarrs_codec.specs.StorageState.{after_reading, value_indices, value_is_sure};
 ghost use Rattle.zarrs_lent_handles.specs.Pieces.{are_apart as stand_apart, pieces_seen};
 
+use crate::elsewhere::Elsewhere;
 use crate::lacking::find_lacking;
 use crate::piece::{Piece, are_apart, gather, whole, whole_range};
 use std::alloc::Global;
+use std::marker::{Brand, PhantomData};
 use zarrs_chunk::{CodecError, StorageError};
 use zarrs_codec::{ByteRange, BytesPartialDecoderTraits};
 
@@ -19,26 +21,31 @@ use zarrs_codec::{ByteRange, BytesPartialDecoderTraits};
 /// Reads of the pieces' bytes never fail, but for lack of memory; a read of any other byte answers
 /// `Storage` with the code 0, and keeps what was lacking. As pieces stand apart, a range whose
 /// bytes are all at hand lies in one.
+///
+/// Its contracts speak of the value that has the bytes of `E` where no piece is. So what is proved
+/// over a handle with any `E` holds of each value that has the pieces.
 #[derive(Drop)]
-pub struct PiecesHandle<'a> {
+pub struct PiecesHandle<'a, E = Brand> {
     len: u64,
     pieces: Vec<Piece<'a>>,
     faults: u64,
     failure: Option<StorageError>,
     lacking: Option<Vec<ByteRange>>,
+    of: PhantomData<E>,
     ghost apart: { stand_apart len 0 (pieces_seen pieces.items) ≡ true },
     ghost lack: { are_all_lacking len (pieces_seen pieces.items) (ranges_kept lacking) ≡ true },
     ghost failed: { are_of_failure failure (ranges_kept lacking) ≡ true },
 }
 
-impl<'a> PiecesHandle<'a> {
-    ghost use Rattle.zarrs_lent_handles.specs.PiecesHandle.{are_unsure, lacking_ranges, made_state, pieces_state, HandleLacks, KeepsLacking};
+impl<'a, E: Elsewhere> PiecesHandle<'a, E> {
+    ghost use Rattle.zarrs_lent_handles.specs.PiecesHandle.{are_unsure, lacking_ranges, made_around, state_around, HandleLacks, KeepsLacking};
 
     /// A handle over these pieces of a value of `len` bytes. Errors: `InvalidByteRange` where they
     /// don't come in order, with at least a byte between one and the next, or one ends behind the
     /// value.
-    pub fn new(len: u64, pieces: Vec<Piece<'a>>) -> Result<PiecesHandle<'a>, CodecError>
-        ensures answer { seen pieces_state result ≡ made_state len (pieces_seen pieces.entry.items) }
+    pub fn new(len: u64, pieces: Vec<Piece<'a>>) -> Result<PiecesHandle<'a, E>, CodecError>
+        ensures answer { seen (state_around E.elsewhere) result
+            ≡ made_around E.elsewhere len (pieces_seen pieces.entry.items) }
     {
         if !are_apart(len, pieces.as_slice()) {
             return Err(CodecError::InvalidByteRange);
@@ -49,6 +56,7 @@ impl<'a> PiecesHandle<'a> {
             faults: 0,
             failure: None,
             lacking: None,
+            of: PhantomData,
         })
     }
 
@@ -57,8 +65,8 @@ impl<'a> PiecesHandle<'a> {
     /// among them that the value has and no piece. None where no call has failed.
     pub fn lacking(&self) -> &[ByteRange]
         ensures value { result.now ≡ lacking_ranges self.now }
-        ensures unsure { are_unsure (pieces_state self.now) result.now ≡ true }
-        ensures failed { are_of_failure (pieces_state self.now).failure result.now ≡ true }
+        ensures unsure { are_unsure (state_around E.elsewhere self.now) result.now ≡ true }
+        ensures failed { are_of_failure (state_around E.elsewhere self.now).failure result.now ≡ true }
     {
         match &self.lacking {
             None => &[],
@@ -93,7 +101,7 @@ impl<'a> PiecesHandle<'a> {
         ensures answered { Answers memory (λ bytes. bytes) result (seen Some answer) }
         ensures len { self.new.len ≡ self.old.len }
         ensures pieces { self.new.pieces ≡ self.old.pieces }
-        ensures left { pieces_state self.new ≡ after_reading result (pieces_state self.old) }
+        ensures left { state_around E.elsewhere self.new ≡ after_reading result (state_around E.elsewhere self.old) }
         ensures lacking { KeepsLacking asked.now self.old self.new result }
     {
         match answer {
@@ -110,11 +118,11 @@ impl<'a> PiecesHandle<'a> {
     }
 }
 
-impl<'a> BytesPartialDecoderTraits for PiecesHandle<'a> {
+impl<'a, E: Elsewhere> BytesPartialDecoderTraits for PiecesHandle<'a, E> {
     ghost use Rattle.std.specs.Prelude.{true, [], ◌∷◌};
-    ghost use Rattle.zarrs_lent_handles.specs.PiecesHandle.{pieces_state, whole_span, KeepsLacking, ReadsSure};
+    ghost use Rattle.zarrs_lent_handles.specs.PiecesHandle.{state_around, whole_span, KeepsLacking, ReadsSure};
 
-    ghost state = { pieces_state };
+    ghost state = { state_around E.elsewhere };
 
     ghost lent = { λ _. [] };
 
@@ -143,26 +151,26 @@ impl<'a> BytesPartialDecoderTraits for PiecesHandle<'a> {
         alloc: Global,
         ranges: &[ByteRange],
     ) -> Result<Option<Vec<u8>>, CodecError>
-        ensures answer { ReadsBytes result (read_ranges (pieces_state self.old).value ranges.now) }
-        ensures sure { NeverFailsIf (ranges_are_sure (pieces_state self.old) ranges.now) result }
+        ensures answer { ReadsBytes result (read_ranges (state_around E.elsewhere self.old).value ranges.now) }
+        ensures sure { NeverFailsIf (ranges_are_sure (state_around E.elsewhere self.old) ranges.now) result }
         ensures at_hand { ReadsSure self.old (range_indices ranges.now) result }
-        ensures left { pieces_state self.new ≡ after_reading result (pieces_state self.old) }
+        ensures left { state_around E.elsewhere self.new ≡ after_reading result (state_around E.elsewhere self.old) }
         ensures lacking { KeepsLacking ranges.now self.old self.new result }
     {
-        let answer = gather(alloc, self.len, self.pieces.as_slice(), ranges);
+        let answer = gather::<E>(alloc, self.len, self.pieces.as_slice(), ranges);
         self.counted(alloc, ranges, answer)
     }
 
     /// The whole value, where all of its bytes are at hand.
     fn decode(&mut self, alloc: Global) -> Result<Option<Vec<u8>>, CodecError>
-        ensures answer { ReadsBytes result (Ok (pieces_state self.old).value) }
-        ensures sure { NeverFailsIf (value_is_sure (pieces_state self.old)) result }
-        ensures at_hand { ReadsSure self.old (value_indices (pieces_state self.old).value) result }
-        ensures left { pieces_state self.new ≡ after_reading result (pieces_state self.old) }
-        ensures lacking { KeepsLacking (whole_span (pieces_state self.old).value ∷ [])
+        ensures answer { ReadsBytes result (Ok (state_around E.elsewhere self.old).value) }
+        ensures sure { NeverFailsIf (value_is_sure (state_around E.elsewhere self.old)) result }
+        ensures at_hand { ReadsSure self.old (value_indices (state_around E.elsewhere self.old).value) result }
+        ensures left { state_around E.elsewhere self.new ≡ after_reading result (state_around E.elsewhere self.old) }
+        ensures lacking { KeepsLacking (whole_span (state_around E.elsewhere self.old).value ∷ [])
             self.old self.new result }
     {
-        let answer = whole(alloc, self.len, self.pieces.as_slice());
+        let answer = whole::<E>(alloc, self.len, self.pieces.as_slice());
         self.counted(alloc, &[whole_range(self.len)], answer)
     }
 

@@ -1,4 +1,5 @@
 use Rattle.std.proofs.Common.{ℕ, List, inl, inr, refl, subst, rules}
+use Rattle.zarrs_lent_handles.specs.Pieces.{zeros}
 use Rattle.zarrs_c_calls.specs.Fetched.{pieces_read}
 use Rattle.zarrs_c_calls.specs.Told.{ToldBytes}
 use Rattle.zarrs_c_calls.proofs.RangesLacking.{code_refused}
@@ -13,5 +14,5 @@ returns-in-Ok c =
 
 pub returns-in-Err : goal.returns-in-Err
 returns-in-Err c =
-    let due = pieces_read c.args.text.now c.args.len c.args.ranges.now c.args.fetched.now c.args.tuples c.args.numbers.now in
+    let due = pieces_read zeros c.args.text.now c.args.len c.args.ranges.now c.args.fetched.now c.args.tuples c.args.numbers.now in
     record { told = inr (code_refused c.in-Err.cause due c.cause_code.result c.in-Err.ensures.answer c.cause_code.ensures.value, refl, refl) }

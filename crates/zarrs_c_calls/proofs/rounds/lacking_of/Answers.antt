@@ -1,6 +1,7 @@
 use Rattle.std.proofs.Common.{Err, refl}
 use Rattle.zarrs_chunk.specs.Indexer.{selection_of}
 use Rattle.zarrs_codec_chain.specs.PartialDecoder.{decoder_form, decoder_source, handle_of, made}
+use Rattle.zarrs_lent_handles.specs.Pieces.{zeros}
 use Rattle.zarrs_lent_handles.specs.PiecesHandle.{pieces_state}
 use Rattle.zarrs_c_calls.specs.Reads.{form_seen}
 use Rattle.zarrs_c_calls.proofs.FetchedLemmas.{made_is}
@@ -11,7 +12,7 @@ pub returns-in-Err : goal.returns-in-Err
 returns-in-Err c = record {
   answer = λ sound len ps over.
       let before = pieces_state c.args.handle in
-      unmade_answered c.partial_decoder.result (form_seen c.args.form.now) len ps (selection_of c.args.indexer.now) before c.in-Err.refused.handle c.in-Err.refused.error (made (Err c.in-Err.refused)) c.lacking_made.result (made_is len ps before over.made) over.in_part
+      unmade_answered c.partial_decoder.result (form_seen c.args.form.now) len ps (selection_of c.args.indexer.now) before c.in-Err.refused.handle c.in-Err.refused.error (made (Err c.in-Err.refused)) c.lacking_made.result (made_is zeros len ps before over.made) over.in_part
       c.in-Err.ensures.handed_left refl c.in-Err.ensures.no_fault_if_in_part c.lacking_made.ensures.answer c.in-Err.ensures.answer;
 }
 

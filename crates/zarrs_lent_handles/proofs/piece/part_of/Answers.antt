@@ -7,7 +7,7 @@ use Rattle.zarrs_lent_handles.proofs.PieceLemmas.{has_it, part_is, ended, passes
 use Rattle.zarrs_lent_handles.proofs.piece.part_of.Goals as goal
 
 pub returns-then-count-piece-clause-sure : goal.returns-then-count-piece-clause-sure
-returns-then-count-piece-clause-sure c = λ all.
+returns-then-count-piece-clause-sure g c = λ all.
     let is : piece_with (pieces_seen c.args.pieces.now) c.start-start.result ≡ Some (piece_seen c.in-Some.piece) = sym c.piece_near.ensures.found ∙ ap (option_map piece_seen) c.in-Some.is in
     let end : ℕ = c.in-Some.piece.start + length c.in-Some.piece.bytes.now in
     let inside = has_it (pieces_seen c.args.pieces.now) c.start-start.result (piece_seen c.in-Some.piece) is in
@@ -18,23 +18,23 @@ returns-then-count-piece-clause-sure c = λ all.
     cc (at, none)
 
 pub returns-clause-inside : goal.returns-clause-inside
-returns-clause-inside c =
+returns-clause-inside g c =
     let is : piece_with (pieces_seen c.args.pieces.now) c.start-start.result ≡ Some (piece_seen c.in-Some.piece) = sym c.piece_near.ensures.found ∙ ap (option_map piece_seen) c.in-Some.is in
     let inside = has_it (pieces_seen c.args.pieces.now) c.start-start.result (piece_seen c.in-Some.piece) is in
-    let same = part_is c.args.len c.start-start.result c.end-end.result (pieces_seen c.args.pieces.now) (piece_seen c.in-Some.piece) c.requires.apart is
+    let same = part_is g.E.Elsewhere.elsewhere c.args.len c.start-start.result c.end-end.result (pieces_seen c.args.pieces.now) (piece_seen c.in-Some.piece) c.requires.apart is
     (omega (arith, c.start-start.ensures.value, c.end-end.ensures.value, c.end-end.ensures.ordered)) c.if-end-len.false
     (omega (arith, inside.0, inside.1, c.if-count-piece.false, c.start-start.ensures.value, c.end-end.ensures.value, c.end-end.ensures.ordered)) in
-    rw (← c.start-start.ensures.value, ← c.end-end.ensures.value) (same, grind (arith, nat_tests, value_length c.args.len (pieces_seen c.args.pieces.now), c.if-end-len.false))
+    rw (← c.start-start.ensures.value, ← c.end-end.ensures.value) (same, grind (arith, nat_tests, value_length g.E.Elsewhere.elsewhere c.args.len (pieces_seen c.args.pieces.now), c.if-end-len.false))
 
 pub returns-clause-at_hand : goal.returns-clause-at_hand
-returns-clause-at_hand c =
+returns-clause-at_hand g c =
     let is : piece_with (pieces_seen c.args.pieces.now) c.start-start.result ≡ Some (piece_seen c.in-Some.piece) = sym c.piece_near.ensures.found ∙ ap (option_map piece_seen) c.in-Some.is in
     let inside = has_it (pieces_seen c.args.pieces.now) c.start-start.result (piece_seen c.in-Some.piece) is in
     rw (← c.start-start.ensures.value, ← c.end-end.ensures.value) (range_at_hand c.args.len c.start-start.result c.end-end.result (pieces_seen c.args.pieces.now) (piece_seen c.in-Some.piece) c.requires.apart is
     (omega (arith, inside.0, inside.1, c.if-count-piece.false, c.start-start.ensures.value, c.end-end.ensures.value, c.end-end.ensures.ordered)))
 
 pub returns-then-count-piece-clause-lacks : goal.returns-then-count-piece-clause-lacks
-returns-then-count-piece-clause-lacks c = λ _.
+returns-then-count-piece-clause-lacks g c = λ _.
     let ps = pieces_seen c.args.pieces.now in
     let range = c.args.range.now in
     let is : piece_with ps c.start-start.result ≡ Some (piece_seen c.in-Some.piece) = sym c.piece_near.ensures.found ∙ ap (option_map piece_seen) c.in-Some.is in

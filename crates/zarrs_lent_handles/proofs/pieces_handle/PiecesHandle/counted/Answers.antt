@@ -7,10 +7,10 @@ use Rattle.zarrs_lent_handles.proofs.LackingLemmas.{all_lacking, some_lacking}
 use Rattle.zarrs_lent_handles.proofs.pieces_handle.PiecesHandle.counted.Goals as goal
 
 pub invariant_of-self-clause-apart : goal.invariant_of-self-clause-apart
-invariant_of-self-clause-apart c = c.args.self.now.apart
+invariant_of-self-clause-apart g c = c.args.self.now.apart
 
 pub invariant_of-self-clause-lack : goal.invariant_of-self-clause-lack
-invariant_of-self-clause-lack c =
+invariant_of-self-clause-lack g c =
     let len = c.args.self.now.len in
     let asked = c.args.asked.now in
     let lacking = c.in_ok-lacking-in-Err-Storage.lacking.items in
@@ -18,7 +18,7 @@ invariant_of-self-clause-lack c =
     (subst (λ (ps : List Piece). AreLacking len (pieces_seen ps) asked lacking) c.as_slice.ensures.value c.in_ok-lacking-in-Err-Storage.ensures.lacking)
 
 pub invariant_of-self-clause-failed : goal.invariant_of-self-clause-failed
-invariant_of-self-clause-failed c =
+invariant_of-self-clause-failed g c =
     let len = c.args.self.now.len in
     let asked = c.args.asked.now in
     let lacking = c.in_ok-lacking-in-Err-Storage.lacking.items in

@@ -1,8 +1,8 @@
-use Rattle.std.proofs.Common.{◌≡◌, true, ap, sym, ◌∙◌}
+use Rattle.std.proofs.Common.{ap, sym, ◌∙◌}
 use Rattle.zarrs_codec.specs.ByteSpan.{ByteSpan}
 use Rattle.zarrs_codec.specs.StorageState.{are_sure}
 use Rattle.zarrs_codec.specs.ByteRanges.{range_indices}
-use Rattle.std.proofs.Common.{List, [], ◌∷◌}
+use Rattle.std.proofs.Common.{[], ◌∷◌}
 use Rattle.zarrs_lent_handles.proofs.SpanLemmas.{span_whole}
 use Rattle.zarrs_lent_handles.proofs.span_handle.SpanHandleBytesPartialDecoderTraits.decode.Goals as goal
 

@@ -1,7 +1,4 @@
-use Rattle.std.proofs.Common.{◌≡◌, true, false, ap, sym, subst, ◌∙◌, List, Result, Option, Vec, ℕ, Global}
-use Rattle.std.specs.Option.{option_map}
-use Rattle.zarrs_chunk.specs.Answer.{Answers, memory_or_fault}
-use Rattle.zarrs_chunk.specs.declared.codec_error.CodecError.{CodecError}
+use Rattle.std.proofs.Common.{ap, sym, subst, ◌∙◌, List}
 use Rattle.zarrs_codec.specs.ByteRanges.{range_indices, read_ranges}
 use Rattle.zarrs_codec.specs.ByteSpan.{ByteSpan}
 use Rattle.zarrs_codec.specs.HandleCalls.{ReadsBytes}
