@@ -147,3 +147,96 @@ def test_names_end_with_a_zero_where_there_is_room():
         name = ctypes.create_string_buffer(b"." * room, room)
         assert library.zarrs_error_name(18, name, room, ctypes.byref(needed)) == code
         assert name.raw == text and needed.value == 8
+
+
+TRANSPOSED = transpose([1, 0])
+SHARD = {"name": "sharding_indexed", "configuration": {"chunk_shape": [2, 5], "codecs": [LITTLE], "index_codecs": [LITTLE]}}
+
+
+@pytest.mark.parametrize(
+    "codecs, is_in_place",
+    [
+        ([LITTLE], True),
+        ([TRANSPOSED, BIG], True),
+        ([LITTLE, "crc32c"], False),
+        ([LITTLE, GZIP], False),
+        ([SHARD], False),
+        ([{**SHARD, "configuration": {**SHARD["configuration"], "codecs": [LITTLE, GZIP]}}], False),
+    ],
+)
+def test_many_edits_leave_what_one_after_another_leaves(codecs, is_in_place, rng):
+    chain = Chain(codecs, (4, 5), "int16", 7)
+    value = chain.encode(chunk_of("int16"))
+    for _ in range(20):
+        picked = [SELECTIONS[at] for at in rng.integers(0, len(SELECTIONS), rng.integers(0, 6))]
+        edits = [(one, rng.integers(0, 99, np.shape(chain.read(None, one))).astype("i2")) for one in picked] + [(1, 5)]
+        for stored in (value, None):
+            beside = stored
+            for selection, elements in edits:
+                beside = chain.write(beside, selection, elements)
+            same(chain.write_many(stored, edits), beside)
+        mine = value.copy()
+        if is_in_place:
+            beside = value
+            for selection, elements in edits:
+                beside = chain.write(beside, selection, elements)
+            assert chain.write_many(mine, iter(edits), out=mine) is mine
+            same(mine, beside)
+        else:
+            with pytest.raises(z.NotInPlace):
+                chain.write_many(mine, edits, out=mine)
+            same(mine, value)
+    same(chain.write_many(value, []), value)
+    same(chain.decode(chain.write_many(None, [])), np.full((4, 5), 7, "i2"))
+
+
+def test_many_edits_of_texts_and_of_absent_elements():
+    texts = Chain([VLEN], (5,), "string")
+    value = texts.write_many(None, [(np.s_[1:3], ["a", "bc"]), ([[4], [1]], "é")])
+    assert texts.decode(value).tolist() == ["", "é", "bc", "", "é"]
+    with pytest.raises(z.NotInPlace, match="by codec 0, 'zarrs.vlen'"):
+        texts.write_many(value, [(0, "a")], out=value)
+    counts = Chain([optional(LITTLE)], (3,), {"optional": "int32"})
+    value = counts.write_many(None, [(0, 1), (np.s_[1:], [2, None]), (0, None)])
+    assert counts.decode(value).tolist() == [None, 2, None]
+    with pytest.raises(z.NotInPlace):
+        counts.write_many(value, [(0, 1)], out=value)
+
+
+def test_many_edits_of_which_one_is_refused():
+    """Before any is made."""
+    chain = Chain([LITTLE], (4, 5), "int16")
+    value = chain.encode(chunk_of("int16"))
+    for refusal, edit in (
+        (z.OutOfBounds, ([[4, 0]], 1)),
+        (IndexError, ((4, 0), 1)),
+        (ValueError, (0, [1, 2])),
+        (z.InvalidElement, (0, 1 << 20)),
+    ):
+        mine = value.copy()
+        with pytest.raises(refusal):
+            chain.write_many(mine, [(0, 3), edit], out=mine)
+        same(mine, value)
+    with pytest.raises(ValueError, match="out is the value itself"):
+        chain.write_many(value, [], out=value.copy())
+    with pytest.raises(ValueError, match="may be written"):
+        chain.write_many(b"", [], out=b"")
+    with pytest.raises(z.NotInPlace, match="^39 bytes, where 40 are due, by codec 0, 'bytes'$"):
+        chain.write_many(mine := bytearray(39), [(0, 1)], out=mine)
+
+
+@pytest.mark.parametrize("length", [0, 30, 39, 41, 60])
+def test_many_edits_of_values_of_another_length(length):
+    """As one after another, or refused as the first."""
+    chain = Chain([LITTLE], (4, 5), "int16", 7)
+    value = np.arange(length, dtype="u1")
+    edits = [(np.s_[1], 3), ([[3, 4], [0, 1]], [5, 6])]
+    try:
+        beside = value
+        for selection, elements in edits:
+            beside = chain.write(beside, selection, elements)
+    except z.Refused as error:
+        with pytest.raises(type(error)):
+            chain.write_many(value, edits)
+    else:
+        same(chain.write_many(value, edits), beside)

@@ -169,6 +169,15 @@ def test_the_lines_that_compile_a_program(line, tmp_path):
     assert run.stdout.endswith("window: 6 7 10 11\n")
 
 
+@pytest.mark.skipif(shutil.which("cc") is None or not (MADE.parent / "libzarrs_codecs.a").is_file(), reason="no compiler, or no library")
+def test_the_c_example_of_rounds_prints_what_its_page_says(tmp_path):
+    words = ["-std=c99", "-Wall", "-Wextra", "-Werror", "-Iinclude", "examples/c/rounds.c", "bindings/out/libzarrs_codecs.a"]
+    subprocess.run(["cc", *words, "-o", tmp_path / "rounds"], cwd=TOP, check=True)
+    run = subprocess.run([tmp_path / "rounds", tmp_path / "shard"], capture_output=True, text=True, check=True)
+    page = (TOP / "examples/README.md").read_text().partition("## `c/rounds.c")[2].partition("\n## ")[0]
+    assert run.stdout == "".join(f"{line}\n" for line in re.findall("^    (.*)$", page, re.MULTILINE))
+
+
 @pytest.mark.skipif(shutil.which("readelf") is None, reason="no readelf is installed")
 def test_a_program_asks_for_the_library_by_its_number():
     said = subprocess.run(["readelf", "-d", _library.library._name], capture_output=True, text=True, check=True).stdout

@@ -177,10 +177,10 @@ ROUNDS_OF_SHARDS = [
     ("read whole inside", sharded(2, [LITTLE, "crc32c"]), np.s_[1:3], [[[128, 384]], [[0, 16]]]),
     ("a shard inside", sharded(8, [sharded(2, [LITTLE])]), np.s_[1:3], [[[320, 384]], [[16, 80]], [[2, 6]]]),
     (
-        "two shards inside, one after the other",
+        "two shards inside, at once",
         sharded(8, [sharded(2, [LITTLE])]),
         np.s_[7:9],
-        [[[320, 384]], [[16, 80]], [[14, 16]], [[96, 160]], [[80, 82]]],
+        [[[320, 384]], [[16, 80], [96, 160]], [[14, 16], [80, 82]]],
     ),
     (
         "shards inside, read whole",
@@ -193,7 +193,7 @@ ROUNDS_OF_SHARDS = [
 
 @pytest.mark.parametrize("name, codec, selection, due", ROUNDS_OF_SHARDS)
 def test_rounds_of_shards(name, codec, selection, due, monkeypatch):
-    """The index, and then what all inner chunks are read by, at once; shards inside go so one after the other."""
+    """The index, and then what all inner chunks are read by, at once; of shards inside their indexes come first."""
     rounds = rounds_of(monkeypatch)
     numbers = np.arange(1, 33, dtype="<i2")
     chain = Chain([codec], (32,), "int16", 0)
@@ -349,6 +349,99 @@ def test_values_that_are_too_short(rng):
         with pytest.raises(zarrs_codecs.InvalidByteRange):
             chain.read_from(io.BytesIO(value[:length]), np.s_[:3, 1:3])
     chain.read_from(io.BytesIO(value[:44]), np.s_[:3, 1:3])
+
+
+OPTIONAL = {"name": "zarrs.optional", "configuration": {"mask_codecs": ["packbits"], "data_codecs": [LITTLE]}}
+NUMBERS = np.arange(1, 9, dtype="<i2")
+
+
+@pytest.mark.parametrize(
+    "codecs, kind, array",
+    [
+        ([LITTLE], "int16", NUMBERS),
+        ([LITTLE, "crc32c"], "int16", NUMBERS),
+        ([OPTIONAL], {"optional": "int16"}, np.ma.masked_array(NUMBERS, NUMBERS % 3 == 0)),
+        ([VLEN], "string", np.array(list("abcdefgh"), object)),
+        (["vlen-utf8"], "string", np.array(list("abcdefgh"), object)),
+        ([sharded(2, [LITTLE])], "int16", NUMBERS),
+        ([sharded(2, [LITTLE], index_location="start")], "int16", NUMBERS),
+        ([sharded(4, [sharded(2, [LITTLE])])], "int16", NUMBERS),
+    ],
+)
+def test_values_that_are_too_short_are_refused_as_reads_refuse_them(codecs, kind, array):
+    """By the same exception, which says the same of the value's length, the codec and the inner chunk."""
+    chain = Chain(codecs, (8,), kind)
+    value = chain.encode(array)
+    refused = 0
+    for length in range(value.size):
+        try:
+            chain.read(value[:length], np.s_[1:6])
+        except zarrs_codecs.Refused as error:
+            with pytest.raises(type(error)) as found:
+                chain.read_from(io.BytesIO(value[:length]), np.s_[1:6])
+            assert str(found.value) == str(error) and found.value.codec == error.codec is not None
+            refused += 1
+    assert refused > 8
+
+
+@pytest.mark.parametrize(
+    "codecs, kind", [(["packbits"], "bool"), ([transpose([1, 0]), "packbits"], "int4"), ([transpose([1, 0]), LITTLE], "int16")]
+)
+def test_planned_reads_of_short_values_are_refused_as_reads_are(codecs, kind, rng):
+    """Wherever the value ends among the planned bytes."""
+    chain = Chain(codecs, (12, 10), kind)
+    value = chain.encode(some(rng, kind, chain.dtype, (12, 10)))
+    for _ in range(30):
+        for selection in (some_region(rng, (12, 10)), some_rows(rng, (12, 10), 8)):
+            short = value[: rng.integers(0, value.size)]
+            try:
+                found = chain.read(short, selection)
+            except zarrs_codecs.Refused as error:
+                with pytest.raises(type(error)) as refused:
+                    chain.read_from(io.BytesIO(short), selection)
+                assert str(refused.value) == str(error)
+            else:
+                same(chain.read_from(io.BytesIO(short), selection), found)
+
+
+def test_places_outside_are_named():
+    chain, shards = (Chain(codecs, (8,), "int16") for codecs in ([LITTLE], [sharded(2, [LITTLE])]))
+    for each in (chain, shards):
+        value = each.encode(NUMBERS)
+        for call in (
+            lambda: each.read_from(io.BytesIO(value), [[0], [8]]),
+            lambda: each.read(value, [[7], [-9]]),
+            lambda: each.read(None, [[7], [8]]),
+            lambda: each.planned_ranges([[7], [8]]),
+            lambda: each.write(value, [[7], [8]], 1),
+        ):
+            with pytest.raises(zarrs_codecs.OutOfBounds) as found:
+                call()
+            assert str(found.value) == "row 1 of the list is outside of (8,)" and found.value.codec is None
+
+
+def test_a_file_that_fails_in_the_middle():
+    """What it raises is raised, and nothing is kept of it."""
+
+    class Failing(io.BytesIO):
+        calls = 0
+
+        def readinto(self, buffer):
+            self.calls += 1
+            if self.calls == self.turn:
+                raise ConnectionResetError("the line is cut")
+            return super().readinto(buffer)
+
+    for codec in (LITTLE, sharded(2, [LITTLE]), sharded(4, [sharded(2, [LITTLE])])):
+        chain = Chain([codec], (8,), "int16")
+        file = Failing(chain.encode(NUMBERS))
+        file.turn = 0
+        chain.read_from(file, np.s_[1:6])
+        for turn in range(1, file.calls + 1):
+            file.calls, file.turn = 0, turn
+            with pytest.raises(ConnectionResetError, match="the line is cut"):
+                chain.read_from(file, np.s_[1:6])
+            same(chain.read_from(file, np.s_[1:6]), NUMBERS[1:6])
 
 
 def test_a_file_that_is_cut_while_it_is_read():

@@ -88,6 +88,7 @@ ARRAYS = {
     "shards": (sharded([2, 3], [LITTLE, "crc32c"], [LITTLE, "crc32c"]), "int32", 0),
     "shards of texts": (sharded([2, 3], [VLEN], index_location="start"), "string", ""),
     "shards of gzip": (sharded([2, 3], [LITTLE, GZIP]), "int32", 0),
+    "shards in shards": (sharded([2, 6], sharded([1, 3], [LITTLE]), index_location="start"), "int32", 0),
 }
 
 
@@ -136,12 +137,12 @@ def test_at_most_three_calls_of_a_chunk(name, rng, tmp_path, monkeypatch):
         chunks = len({*np.arange(11)[index[0]].reshape(-1) // 4}) * len({*np.arange(14)[index[1]].reshape(-1) // 6})
         found, calls = store.calls_of(lambda: array[index])
         alike(found, expected[index])
-        most = {"texts": 3, "shards": 2, "shards of texts": 2, "shards of gzip": 2}.get(name, 1)
+        most = {"texts": 3, "shards in shards": 3, "shards": 2, "shards of texts": 2, "shards of gzip": 2}.get(name, 1)
         assert len(calls) <= most * chunks
     assert len(store.calls_of(lambda: array[9:, 13])[1]) == 0
 
 
-@pytest.mark.parametrize("name, first", [("texts", 2), ("shards", 1), ("shards of texts", 1)])
+@pytest.mark.parametrize("name, first", [("texts", 2), ("shards", 1), ("shards in shards", 2), ("shards of texts", 1)])
 @pytest.mark.parametrize("make", ["folder", Ranging])
 def test_an_index_and_offsets_are_kept(name, first, make, rng, tmp_path, monkeypatch):
     """They are read once, as long as the file is the same and there is room for them."""
@@ -226,8 +227,10 @@ def test_a_store_that_fails(name, rng, tmp_path):
     array = Array("bucket/a", store=store)
     for how, error in (("less", EOFError), ("raises", ConnectionError), ("answers", ConnectionError)):
         store.how = how
-        with pytest.raises(error):
+        with pytest.raises(error) as raised:
             array[0, 0]
+        said = "the file ended while it was read" if how == "less" else "away"
+        assert str(raised.value) == f"{said}, in bucket/a/c/0/0"
 
 
 def test_files_that_are_not_there(rng, tmp_path):

@@ -34,7 +34,10 @@ def _naming(path: str) -> Iterator[None]:
     except EOFError as error:
         raise EOFError(f"{error}, in {path}") from error
     except OSError as error:
-        if error.filename is None:
+        if error.errno is None:
+            # with a file's name it would leave out what it says
+            error.args = (f"{error}, in {path}", *error.args[1:])
+        elif error.filename is None:
             error.filename = path
         raise
 

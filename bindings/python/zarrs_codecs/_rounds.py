@@ -50,6 +50,36 @@ class Fetched:
         new = Pieces(lacking, self.source.pieces(lacking))
         self._pieces = _merged(self._pieces, new) if self.size else new
 
+    def bytes_of(self, begin: int, end: int) -> AnyArray | None:
+        """The bytes of a range, where all of them are there."""
+        if begin == end:
+            return self._pieces.bytes[:0]
+        begins, ends = self._pieces.ranges.T
+        at = int(np.searchsorted(begins, np.uint64(begin), "right")) - 1
+        if at < 0 or end > ends[at]:
+            return None
+        place = int((ends[:at] - begins[:at]).sum()) + begin - int(begins[at])
+        return self._pieces.bytes[place : place + end - begin]
+
+    def without(self, ranges: Ranges) -> Ranges:
+        """The bytes of ranges that aren't there, in ranges of which none touches the next. The given ones are in the order
+        of their first bytes, and may overlap."""
+        begins, ends = (listed(column) for column in self._pieces.ranges.T)
+        found, piece, behind = [], 0, 0
+        for first, end in listed(ranges):
+            begin, behind = max(first, behind), max(behind, end)
+            while piece < len(ends) and ends[piece] <= begin:
+                piece += 1
+            at = piece
+            while begin < end:
+                if at == len(begins) or begins[at] >= end:
+                    found.append((begin, end))
+                    break
+                if begin < begins[at]:
+                    found.append((begin, begins[at]))
+                begin, at = ends[at], at + 1
+        return _joined(np.array(found, np.uint64).reshape(-1, 2))
+
     def missing(self) -> Ranges:
         """The ranges of all bytes that aren't there."""
         begins, ends = self._pieces.ranges.T
@@ -70,20 +100,32 @@ class Fetched:
         return self.length, *counted(ranges, ranges.size), *counted(fetched, fetched.size)
 
 
-def with_whole_inside(codecs: list[Any]) -> list[Any] | None:
-    """These codecs with a checksum behind those of a shard's inner chunks, by which a read of them lacks all of their
-    bytes; None where there is no shard, or one inside it."""
-    found = copied(json_of(codecs))
-    for codec in found:
+def _inside_shard(codecs: list[Any]) -> list[Any] | None:
+    """The codecs of a shard's inner chunks, as they stand in these; None where there is no shard."""
+    for codec in codecs:
         if name_of(codec) == "sharding_indexed":
             said = codec.get("configuration") if isinstance(codec, dict) else None
             inner = said.get("codecs") if isinstance(said, dict) else None
             # one that is skipped may have none
-            if not isinstance(inner, list) or any(name_of(one) == "sharding_indexed" for one in inner):
-                return None
-            inner.append("crc32c")
-            return found
+            return inner if isinstance(inner, list) else None
     return None
+
+
+def has_shards_inside(codecs: list[Any]) -> bool:
+    """Whether these codecs have a shard whose inner chunks are shards."""
+    inner = _inside_shard(codecs)
+    return inner is not None and any(name_of(one) == "sharding_indexed" for one in inner)
+
+
+def with_whole_inside(codecs: list[Any]) -> list[Any] | None:
+    """These codecs with a checksum behind those of a shard's inner chunks, by which a read of them lacks all of their
+    bytes; None where there is no shard."""
+    found = copied(json_of(codecs))
+    inner = _inside_shard(found)
+    if inner is None:
+        return None
+    inner.append("crc32c")
+    return found
 
 
 def _merged(*parts: Pieces) -> Pieces:

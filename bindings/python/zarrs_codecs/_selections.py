@@ -11,6 +11,7 @@ import numpy as np
 from ._buffers import lent, start
 from ._library import BOX
 from ._types import AnyArray, Shape
+from .refusals import OutOfBounds
 
 # Boxes of fewer elements than these that are apart from each other are read as rows, so many at a time.
 _FEW_TOGETHER = 256
@@ -43,6 +44,10 @@ class Rows:
 
     def closed(self, item_size: int = 1, gap: int | None = None) -> "Rows":
         """The same: there is nothing between the elements."""
+        return self
+
+    def without_gaps(self) -> "Rows":
+        """The same."""
         return self
 
     def parts(self, limit: int) -> Iterator["Rows"]:
@@ -94,6 +99,10 @@ class Box:
                 on_axes[axis] = range(one.start, one[-1] + 1)
             between *= len(on_axes[axis])
         return Box(on_axes, _stepped(self.after, steps))
+
+    def without_gaps(self) -> "Box | Rows":
+        """The same elements in the same order, as rows where there are elements between those that are meant."""
+        return Rows(self._rows()) if self.has_gaps else self
 
     def parts(self, limit: int) -> Iterator["Box | Rows"]:
         """Selections without gaps and of so many elements at most, whose answers, one behind another, are
@@ -210,6 +219,15 @@ def as_places(said: Any) -> AnyArray:
         raise IndexError(f"lists of places of several lengths: {error}") from error
 
 
+def _check_inside(rows: AnyArray, shape: Shape) -> None:
+    """Raises `OutOfBounds` where an element's indices are outside, as the library does, and says which."""
+    sizes = np.array(shape, np.uint64)
+    outside = (rows < 0) | (rows.astype(np.uint64) >= sizes)
+    if outside.any():
+        row = int(outside.any(axis=1).argmax())
+        raise OutOfBounds(f"row {row} of the list is outside of {shape}")
+
+
 def _rows(selection: Any, shape: Shape) -> Rows:
     rows = as_places(selection)
     if rows.size == 0:
@@ -220,6 +238,7 @@ def _rows(selection: Any, shape: Shape) -> Rows:
         raise IndexError(f"indices are rows of {len(shape)} integers")
     if rows.dtype.kind == "i" and (rows < 0).any():
         rows = np.where(rows < 0, rows + np.array(shape), rows)
+    _check_inside(rows, shape)
     rows = np.ascontiguousarray(rows, np.uint64)
     return Rows(rows if rows.flags.aligned else rows.copy())
 
@@ -230,8 +249,7 @@ Selection = Box | Rows
 def select(selection: Any, shape: Shape) -> Selection:
     """The selection of a basic index, or of a list or array of elements' indices, a row for each.
 
-    Raises `IndexError` or `TypeError` where it is neither; whether the elements of a list are in the chunk,
-    the library says.
+    Raises `IndexError` or `TypeError` where it is neither, and `OutOfBounds` where an element of a list is outside.
     """
     if isinstance(selection, (list, np.ndarray)):
         return _rows(selection, shape)

@@ -71,14 +71,13 @@ def has_pythons(codecs: Any) -> bool:
 
 
 def array_chain(codecs: Any, shape: Sequence[int], data_type: Any, fill_value: Any = None) -> Chain:
-    """The chain of an array's chunks. Python cuts shards whose inner chunks the library asks for one after the other,
-    since each of these calls may go to a store that is far away."""
+    """The chain of an array's chunks. Python cuts shards whose inner chunks hold texts that the library asks for one after
+    the other, since each of these calls may go to a store that is far away."""
     chain = Chain(codecs, shape, data_type, fill_value)
-    if chain._is_composed or not is_sharded(chain.codecs):
+    parts = None if chain._is_composed else chain._cut
+    if parts is None or chain._has_shards_inside or parts._chunk._is_planned or parts._chunk._is_read_whole:
         return chain
-    parts = ShardedChain(chain.codecs, shape, data_type, fill_value)
-    inner = parts._chunk
-    return chain if inner._is_planned or inner._is_read_whole else parts
+    return parts
 
 
 def say_inner_chunk(error: Refused, chain: Chain, source: Source, selection: Any) -> None:
@@ -420,6 +419,9 @@ class ShardedChain(Chain):
         select(selection, self.shape)
 
     def _edit(self, value: Any, meant: Selection, elements: AnyArray) -> None:
+        raise NotInPlace("NotInPlace")
+
+    def _edit_many(self, value: Any, edits: list[tuple[Selection, AnyArray]]) -> None:
         raise NotInPlace("NotInPlace")
 
     def _write(self, inner: Any, meant: Selection, elements: AnyArray) -> Bytes:

@@ -84,7 +84,7 @@ class Array:
     `store` is an object that opens files by `store.open(path)`, whose paths begin with `folder`: each file has
     `seek`, and `readinto` or `read`, and one that isn't there is a `FileNotFoundError` or a `KeyError`, as
     `zipfile.ZipFile` has it. Where it has `info` and `cat_ranges`, as fsspec's file systems have, all ranges of a
-    chunk that a read needs are fetched by one call: at most three of a chunk, and what `info` tells must differ
+    round of `Chain.read_from` are fetched by one call, and what `info` tells must differ
     where a file was changed, else nothing of it is kept. Such an array isn't written: `io.UnsupportedOperation` is
     raised.
 

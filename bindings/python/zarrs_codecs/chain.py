@@ -7,7 +7,7 @@ import math
 import reprlib
 from collections.abc import Callable, Iterable, Iterator, Sequence
 from functools import cached_property, partial, wraps
-from typing import Any, Concatenate, NamedTuple, ParamSpec, TypeVar
+from typing import TYPE_CHECKING, Any, Concatenate, NamedTuple, ParamSpec, TypeVar
 
 import numpy as np
 import numpy.typing as npt
@@ -18,15 +18,18 @@ from ._bytes_codecs import hint, split
 from ._data_types import DataType
 from ._data_types import data_type as data_type_of
 from ._data_types import zarrs_own
-from ._elements import given, held, put, spread, takes, told, told_into, told_many
+from ._elements import empty, given, held, put, spread, takes, told, told_into, told_many
 from ._files import PART_BYTES, File, Held, Source
 from ._header import Header, copied, json_of
 from ._library import SHORT, EditSize, checked, library
 from ._locating import OF_CODECS, OF_VALUES, locate, locate_stored
-from ._rounds import Fetched, with_whole_inside
+from ._rounds import Fetched, has_shards_inside, with_whole_inside
 from ._selections import Selection, select
 from ._types import AnyArray, Bytes, Shape, sizes_of
-from .refusals import InvalidConfiguration, NotInPlace, Refused, Storage, Syntax, UnknownName
+from .refusals import InvalidConfiguration, NotInPlace, OutOfBounds, Refused, Storage, Syntax, UnknownName
+
+if TYPE_CHECKING:
+    from ._sharding import ShardedChain
 
 # How many bytes of an answer are read from a file at a time: a quarter of it, between these. Some three
 # times as many are held beside it.
@@ -185,13 +188,14 @@ class Chain:
         """
         return copy.deepcopy(self._named[1])
 
-    def _locate_stored(self, error: Refused, value: Any) -> None:
-        """Puts into a refusal of the library's value which codec it is of; of one of another length, which is due."""
+    def _locate_stored(self, error: Refused, value: Any, length: int | None = None) -> None:
+        """Puts into a refusal of the library's value which codec it is of; of one of another length, which is due. The
+        length is given where the value, or a part of it, isn't at hand."""
         if error.codec is not None or type(error).__name__ not in OF_VALUES:
             return
         locate_stored(error, self._said.checked, self._inner_list, value)
         kind, size = self.representation
-        length = None if value is None else memoryview(value).nbytes
+        length = length if value is None else memoryview(value).nbytes
         if kind == "fixed" and length not in (None, size) and type(error).__name__ in _OF_LENGTHS:
             error.args = (f"{length} bytes, where {size} are due",)
 
@@ -208,10 +212,10 @@ class Chain:
 
     @contextlib.contextmanager
     def _saying_inner_chunk(self, source: Source, selection: Any) -> Iterator[None]:
-        """A refusal of a read of this value says which inner chunk of a shard it is of."""
+        """A refusal of a read of this value says which inner chunk of a shard it is of, but for one of the selection."""
         try:
             yield
-        except Storage:
+        except (Storage, OutOfBounds):
             raise
         except Refused as error:
             from ._sharding import say_inner_chunk
@@ -473,8 +477,38 @@ class Chain:
         self._edit(value, meant, elements)
         return value
 
-    def _edit(self, value: Any, meant: Selection, elements: AnyArray) -> None:
-        """Writes elements that the type holds into the value itself."""
+    @_naming
+    def write_many(self, value: Any, edits: Iterable[tuple[Any, ArrayLike]], out: Any = None) -> Any:
+        """The value that is left by a list of edits, one after another: each is a selection and its elements, as `write`
+        takes them. Where `out` is given it is the value itself, as there. Where the codecs write a part of a value all
+        edits are made by one call, in a third of the time that a call for each takes. Raises what `write` does, before an
+        edit is made; but `OutOfMemory`, behind which the edits before the one that lacks it stay in `out`.
+
+        >>> chain = Chain(["bytes"], (2, 3), "uint8", 9)
+        >>> chain.decode(chain.write_many(None, [(np.s_[:, 1], [7, 8]), ([[0, 0], [1, 2]], 5)]))
+        array([[5, 7, 9],
+               [9, 8, 5]], dtype=uint8)
+        """
+        chosen = [(select(selection, self.shape), held(self._type, array)) for selection, array in edits]
+        if out is not None:
+            if out is not value:
+                raise ValueError("out is the value itself, where it is given")
+            self._edit_many(value, chosen)
+            return value
+        if value is None:
+            nothing = select(np.empty((0, len(self.shape)), np.int64), self.shape)
+            value = self._write(None, nothing, empty(self._type, (0,)))
+        mine = np.frombuffer(value, np.uint8).copy()
+        try:
+            self._edit_many(mine, chosen)
+        except NotInPlace:
+            for meant, elements in chosen:
+                mine = self._write(self._inner(mine), meant, elements)
+        return mine
+
+    def _check_in_place(self, value: Any) -> None:
+        """Raises `NotInPlace` where codecs of Python stand behind the others, and `ValueError` of another buffer than may
+        be written."""
         if self._outer:
             refused = NotInPlace("NotInPlace")
             refused.codec = len(self._inner_list), self._outer[0].name
@@ -482,6 +516,31 @@ class Chain:
         view = memoryview(value)
         if view.readonly or not view.c_contiguous:
             raise ValueError("out is a buffer in one piece that may be written")
+
+    def _edit_many(self, value: Any, edits: list[tuple[Selection, AnyArray]]) -> None:
+        """Writes elements that the type holds into the value itself, edit by edit."""
+        self._check_in_place(value)
+        if not self._type.is_plain:
+            refused = NotInPlace("NotInPlace")
+            self._locate_stored(refused, value)
+            raise refused
+        arrays = [spread(self._type, elements, meant.shape, meant.after).reshape(-1) for meant, elements in edits]
+        given_numbers = [meant.without_gaps().numbers() for meant, _ in edits]
+        each = zip(given_numbers, arrays, strict=True)
+        sizes = np.array([(tuples, many.size, array.nbytes) for (tuples, many), array in each], np.uint64)
+        numbers = np.concatenate([many for _, many in given_numbers] or [np.empty(0, np.uint64)])
+        joined = np.concatenate(arrays or [np.empty(0, self.dtype)])
+        done = ctypes.c_size_t()
+        lists = *counted(sizes, len(sizes)), *counted(numbers, numbers.size), *lent(joined), ctypes.byref(done)
+        try:
+            checked(library.zarrs_edit(self._header, self._length, *lent(value), *lists))
+        except Refused as error:
+            self._locate_stored(error, value)
+            raise
+
+    def _edit(self, value: Any, meant: Selection, elements: AnyArray) -> None:
+        """Writes elements that the type holds into the value itself."""
+        self._check_in_place(value)
         chosen = meant.closed()
         new = self._read(value, chosen) if meant.has_gaps else None
         spread_out = spread(self._type, elements, chosen.shape, chosen.after, new)
@@ -545,10 +604,13 @@ class Chain:
         has are held beside it, and at most some 3 MiB. Where the plan is None it goes in rounds, of which
         each fetches what the one before it lacked: over texts of `zarrs.vlen` first how long the offsets
         are, then the offsets, then the texts that are selected; over `sharding_indexed` the index, then what
-        is needed of all inner chunks at once, of texts those inner chunks whole; over other codecs the whole
-        value. That is three rounds at most (four of numbers in a thousand inner chunks of a few bytes each),
-        but over shards in shards, which go one after the other, and behind eight rounds the rest at once. Of a slice with a step it leaves out what is between two places
-        where that's 16 KiB or more. Raises `EOFError` where the file is cut meanwhile.
+        is needed of all inner chunks at once, of texts those inner chunks whole; over shards in shards the
+        indexes of all inner shards in between; over other codecs the whole value. That is three rounds at most,
+        one more for each further level of shards in shards, and four of numbers in a thousand inner chunks of
+        a few bytes each. Behind an array-to-array codec shards in shards go one after the other, and behind eight
+        rounds those that are needed come whole. Each range is a read of the file by itself. Of a slice with a
+        step it leaves out what is between two places where that's 16 KiB or more. Raises what `read` does of
+        such a value, what the file raises, and `EOFError` where it is cut meanwhile.
 
         >>> import io
         >>> Chain(["bytes"], (4,), "uint8").read_from(io.BytesIO(b"abcd"), slice(1, 3))
@@ -559,9 +621,17 @@ class Chain:
     @_naming
     def _read_fetched(self, fetched: Fetched, selection: Any, out: AnyArray | None) -> AnyArray:
         """The same of a value of which something may be there."""
-        source = fetched.source
         if self._outer:
-            return self.read(source.whole(), selection, out)
+            return self.read(fetched.source.whole(), selection, out)
+        try:
+            return self._read_source(fetched, selection, out)
+        except Refused as error:
+            self._locate_stored(error, fetched.bytes_of(0, fetched.length), fetched.length)
+            raise
+
+    def _read_source(self, fetched: Fetched, selection: Any, out: AnyArray | None) -> AnyArray:
+        """The same of a chain that the library runs alone."""
+        source = fetched.source
         if not self._is_planned:
             return self._read_in_rounds(fetched, selection, out)
         chosen = select(selection, self.shape).closed(self.dtype.itemsize, _GAP_BYTES)
@@ -575,55 +645,81 @@ class Chain:
     def _read_in_rounds(self, fetched: Fetched, selection: Any, out: AnyArray | None) -> AnyArray:
         """The elements of a selection, by as many rounds as it takes, up to a number."""
         chosen = select(selection, self.shape).closed()
-        numbers = chosen.arguments()
         rounds = 0
-        while True:
-            lacking = self._lacking_in_round(rounds, fetched.arguments(), numbers)
-            if lacking.size:
-                if rounds == self._most_rounds:
-                    lacking = fetched.missing()
-                fetched.fetch(lacking)
-            call = partial(
-                library.zarrs_read_pieces, self._header, self._length, *fetched.arguments(), *numbers
-            )
-            try:
-                with self._saying_inner_chunk(fetched.source, selection):
+        with self._saying_inner_chunk(fetched.source, selection):
+            while True:
+                lacking = self._lacking_in_round(rounds, fetched, chosen)
+                if lacking.size:
+                    fetched.fetch(lacking)
+                arguments = *fetched.arguments(), *chosen.arguments()
+                call = partial(library.zarrs_read_pieces, self._header, self._length, *arguments)
+                try:
                     elements = told(self._type, call, chosen.shape, fetched.size + 64)
-            except Storage:
-                if not lacking.size:
-                    raise
-                rounds += 1
-                continue
-            return put(elements if chosen.after is None else elements[chosen.after], out)
+                    break
+                except Storage:
+                    if not lacking.size:
+                        raise
+                    rounds += 1
+        return put(elements if chosen.after is None else elements[chosen.after], out)
 
     @cached_property
     def _whole_inside(self) -> bytes | None:
-        """The header of such chunks whose inner chunks are read whole; None where they are no shards, or have shards
-        inside."""
+        """The header of such chunks whose inner chunks are read whole; None where they are no shards."""
         codecs = with_whole_inside(self._inner_list)
         return None if codecs is None else self._said.text(json_of(codecs))
+
+    @cached_property
+    def _cut(self) -> "ShardedChain | None":
+        """The same chunks as Python cuts them, where the chain is a shard alone."""
+        from ._sharding import ShardedChain, is_sharded
+
+        if self._outer or not is_sharded(self._inner_list):
+            return None
+        return ShardedChain(self._inner_list, self.shape, self.data_type, self.fill_value)
+
+    @cached_property
+    def _has_shards_inside(self) -> bool:
+        """Whether a codec is a shard whose inner chunks are shards."""
+        return has_shards_inside(self._inner_list)
 
     @property
     def _most_rounds(self) -> int:
         """How many rounds fetch what they lack, before one that fetches all that isn't there. Over a thousand inner chunks
         of a few bytes each lack one after the other, also where they are read whole."""
-        if self._whole_inside is None:
+        if self._whole_inside is None or self._has_shards_inside:
             return _MOST_ROUNDS
         return _FEW_ROUNDS + self._type.is_plain
 
-    def _lacking_in_round(
-        self, rounds: int, given_pieces: tuple[Any, ...], numbers: tuple[Any, ...]
-    ) -> npt.NDArray[np.uint64]:
-        """What a round fetches, behind so many: what the read lacks. It lacks one inner chunk after the other where these
-        hold texts, or so many short ranges are needed of them: then what it lacks if they are read whole."""
-        is_whole = rounds >= _FEW_ROUNDS or not self._type.is_plain
-        if is_whole and self._whole_inside is not None:
-            # one that is refused so may be read by itself
-            with contextlib.suppress(Refused):
-                lacking = self._lacking(given_pieces, numbers, self._whole_inside)
-                if lacking.size:
-                    return lacking
-        return self._lacking(given_pieces, numbers)
+    def _lacking_in_round(self, rounds: int, fetched: Fetched, chosen: Selection) -> npt.NDArray[np.uint64]:
+        """What a round fetches, behind so many: what the read lacks, of all inner chunks that it lacks something of."""
+        numbers = chosen.arguments()
+        lacking = self._lacking(fetched.arguments(), numbers)
+        if not lacking.size:
+            return lacking
+        is_last = rounds == self._most_rounds
+        if is_last and not self._has_shards_inside:
+            return fetched.missing()
+        # what is refused so may be read by itself
+        with contextlib.suppress(Refused):
+            together = self._lacking_together(rounds, fetched, chosen)
+            if together is not None and together.size:
+                return together
+        return fetched.missing() if is_last else lacking
+
+    def _lacking_together(
+        self, rounds: int, fetched: Fetched, chosen: Selection
+    ) -> npt.NDArray[np.uint64] | None:
+        """What the read lacks of all inner chunks at once; None where the library tells that by itself. It tells one inner
+        chunk after the other where these hold shards or texts, or so many short ranges are needed of them: then
+        what the shards inside are asked for, or what it lacks if inner chunks are read whole."""
+        if self._has_shards_inside and self._cut is not None and rounds < self._most_rounds:
+            from ._nested import lacking_inside
+
+            return lacking_inside(self._cut, chosen, fetched)
+        is_whole = rounds >= (_MOST_ROUNDS if self._has_shards_inside else _FEW_ROUNDS) or not self._type.is_plain
+        if self._whole_inside is None or not is_whole:
+            return None
+        return self._lacking(fetched.arguments(), chosen.arguments(), self._whole_inside)
 
     def _lacking(
         self, given_pieces: tuple[Any, ...], numbers: tuple[Any, ...], header: bytes | None = None
@@ -641,8 +737,8 @@ class Chain:
             part_bytes = min(max(part_bytes // 4, _LEAST_PART_BYTES), _PART_BYTES)
         for part in chosen.parts(max(part_bytes // self.dtype.itemsize, 1)):
             ranges: Any = self._planned(part)
-            # that the others end behind the value, the library says
-            ranges = ranges[ranges[:, 1] <= length]
+            # that some end behind the value, the library says, once it has what there is of them
+            ranges = np.minimum(ranges[ranges[:, 0] < length], np.uint64(length))
             fetched = source.pieces(ranges)
             pieces = (length, start(ranges), ranges.size, start(fetched), fetched.size)
             call = partial(

@@ -207,7 +207,7 @@ class OutOfBounds(Refused, IndexError):
     >>> from zarrs_codecs import Chain
     >>> Chain(["bytes"], (2,), "uint8").read(b"ab", [2])
     Traceback (most recent call last):
-    zarrs_codecs.refusals.OutOfBounds: OutOfBounds
+    zarrs_codecs.refusals.OutOfBounds: row 0 of the list is outside of (2,)
     """
 
 
