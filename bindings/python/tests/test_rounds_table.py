@@ -1,4 +1,4 @@
-"""The table of docs/IN_PART.md is what reads ask for."""
+"""The table of docs/IN_PART.md is what reads ask for, and of numbers what the formats say that they need."""
 
 import io
 from pathlib import Path
@@ -85,3 +85,57 @@ def test_rows(monkeypatch):
             due[name].append(told(rounds))
     said = rows_of_the_page()
     assert {name: said.get(name) for name in due} == due
+
+
+def masks_of(places, size, codec, index=0, at_end=True):
+    """The bytes that a shard's index takes, and those that numbers of two bytes at these places take behind it, of inner
+    chunks of this size that are all stored, one behind the other; of a chunk that is no shard those of its numbers."""
+    row, column = places
+    length = size * size * 2 + (4 if codec == "crc32c" else 0)
+    count = (SIZE // size) ** 2
+    begin = (row // size * (SIZE // size) + column // size) * length + (0 if at_end else index)
+    inside = (column % size * size + row % size) if codec == "transpose" else (row % size * size + column % size)
+    first, needed = np.zeros(count * length + index, bool), np.zeros(count * length + index, bool)
+    first[slice(count * length, None) if at_end else slice(index)] = True
+    for at in range(length) if codec == "crc32c" else (inside * 2, inside * 2 + 1):
+        needed[begin + at] = True
+    return [first, needed] if index else [needed]
+
+
+def masks_of_shards(places):
+    """The same of shards of 64x64 with inner chunks of 16x16, each index of 16 entries and a checksum."""
+    row, column = places
+    inner = 16 * 512
+    begin = (row // 64 * 4 + column // 64) * (inner + 260)
+    number = row % 64 // 16 * 4 + column % 64 // 16
+    masks = [np.zeros(16 * (inner + 260) + 260, bool) for _ in range(3)]
+    masks[0][-260:] = True
+    for at in range(260):
+        masks[1][begin + inner + at] = True
+    for at in range(2):
+        masks[2][begin + number * 512 + (row % 16 * 16 + column % 16) * 2 + at] = True
+    return masks
+
+
+def told_of(masks):
+    edges = [np.flatnonzero(np.diff(np.concatenate(([0], mask, [0])))).reshape(-1, 2).tolist() for mask in masks]
+    return told(edges)
+
+
+def test_rows_of_numbers_by_the_formats():
+    index = 64 * 16 + 4
+    due = {
+        "`bytes`": lambda places: masks_of(places, SIZE, "bytes"),
+        "`transpose`, `bytes`": lambda places: masks_of(places, SIZE, "transpose"),
+        "`bytes`, `crc32c`": lambda places: masks_of(places, SIZE, "crc32c"),
+        "shard of `bytes`": lambda places: masks_of(places, 32, "bytes", index),
+        "the same, its index in front": lambda places: masks_of(places, 32, "bytes", index, False),
+        "shard of `transpose`, `bytes`": lambda places: masks_of(places, 32, "transpose", index),
+        "shard of `bytes`, `crc32c`": lambda places: masks_of(places, 32, "crc32c", index),
+        "shard in a shard, from Python": masks_of_shards,
+    }
+    window = np.mgrid[WINDOW].reshape(2, -1)
+    said = rows_of_the_page()
+    for name, masks in due.items():
+        both = masks(window), masks(np.transpose(POINTS))
+        assert said[name] == [f"{both[0][0].size:,}", *(told_of(each) for each in both)], name
