@@ -1,12 +1,14 @@
 -- Regions that make few runs.
-use Rattle.std.proofs.Common.{◌^◌, ◌≡◌, ◌==◌, ◌+◌, ◌<◌, ◌≤◌, ℕ, zero, suc, true, List, [], ◌∷◌, length, map, take, arith, refl, ap, ◌∙◌, sym, subst, get_or, ◌-◌, ◌*◌}
+use Rattle.std.proofs.Common.{◌^◌, ◌≡◌, ◌==◌, ◌+◌, ◌++◌, ◌<◌, ◌≤◌, ℕ, zero, suc, Bool, true, List, [], ◌∷◌, length, map, take, arith, refl, ap, ◌∙◌, sym, subst, get_or, ◌-◌, ◌*◌}
+use Rattle.std.specs.Prelude.{nat_le}
 use Rattle.std.specs.List.{All, range_with_len}
-use Rattle.std.proofs.lemmas.Bool.{eqb-true}
+use Rattle.std.proofs.lemmas.Bool.{eqb-true, le-leb}
+use Rattle.std.proofs.lemmas.List.{length-append, length-map}
 use Rattle.zarrs_chunk.specs.ChunkShape.{product}
 use Rattle.zarrs_chunk.specs.Region.{Region}
 use Rattle.zarrs_chunk.specs.Tuples.{is_box_inside}
 use Rattle.zarrs_chunk.specs.Levels.{box_places}
-use Rattle.zarrs_chunk.specs.Rows.{AreBoxRuns}
+use Rattle.zarrs_chunk.specs.Rows.{row_at, AreBoxRuns}
 use Rattle.zarrs_chunk.specs.Runs.{EndWithin}
 use Rattle.zarrs_chunk.proofs.Inside.{is_box_inside-lengths}
 use Rattle.std.proofs.lemmas.List.FromFn.{get_or-range_with_len, length-range_with_len}
@@ -16,13 +18,15 @@ use Rattle.zarrs_array_to_array.specs.declared.array_to_array_codec.ArrayToArray
 use Rattle.zarrs_array_to_array.proofs.CoordinateMaps.{kept_places}
 use Rattle.zarrs_array_bytes.specs.Elements.{elements}
 use Rattle.zarrs_array_bytes.proofs.UpdatedLemmas.{length-elements}
+use Rattle.zarrs_bytes.specs.ReadingCalls.{consecutive_runs}
+use Rattle.zarrs_bytes.proofs.ConsecutiveRuns.{runs_of_places}
 use Rattle.zarrs_array_regions.specs.FewRuns.{HasRegionRuns, TakesFew}
 use Rattle.zarrs_array_regions.proofs.RegionRuns.{region_fits}
 use Rattle.zarrs_array_regions.proofs.WindowCalls.{few_places}
 use Rattle.zarrs_array_regions.specs.Windows.{TakesRegion, window_of, window_places, last_window}
 use Rattle.zarrs_array_to_array.specs.Orders.{permuted}
 use Rattle.zarrs_array_to_array.proofs.Orders.{each_entry}
-use Rattle.zarrs_array_regions.specs.OrderedRuns.{fronts_over, AreAxes, HasRoom}
+use Rattle.zarrs_array_regions.specs.OrderedRuns.{fronts_over, ordered_places, AreAxes, HasRoom}
 use Rattle.zarrs_array_regions.proofs.OrderedRows.{fronts_last, last_room}
 use Rattle.zarrs_chunk.specs.declared.rows.Row.{Row}
 
@@ -54,13 +58,17 @@ region_runs_there codecs sizes region S T L runs count same are = record {
   apart = are.apart;
 }
 
+pub moved_places : (order sizes : List ℕ) (region : Region) (axes shape starts lengths : List ℕ) → axes ≡ order → shape ≡ sizes → starts ≡ region.starts → lengths ≡ region.lengths → ordered_places axes shape starts lengths ≡ window_places (last_window (transpose order ∷ []) (window_of sizes region))
+moved_places order sizes region axes shape starts lengths a s b l =
+    ap (λ (xs : List ℕ). box_places (permuted xs shape) (permuted xs starts) (permuted xs lengths)) a
+    ∙ ap (λ (xs : List ℕ). box_places (permuted order xs) (permuted order starts) (permuted order lengths)) s
+    ∙ ap (λ (xs : List ℕ). box_places (permuted order sizes) (permuted order xs) (permuted order lengths)) b
+    ∙ ap (λ (xs : List ℕ). box_places (permuted order sizes) (permuted order region.starts) (permuted order xs)) l
+
 pub moved_runs_there : (order sizes : List ℕ) (region : Region) (axes shape starts lengths : List ℕ) (runs : List (ℕ × ℕ)) → axes ≡ order → shape ≡ sizes → starts ≡ region.starts → lengths ≡ region.lengths → product (permuted axes shape) ≡ product sizes
     → AreBoxRuns (permuted axes shape) (permuted axes starts) (permuted axes lengths) runs → HasRegionRuns (transpose order ∷ []) sizes region runs
 moved_runs_there order sizes region axes shape starts lengths runs a s b l count are = region_runs_there (transpose order ∷ []) sizes region (permuted axes shape) (permuted axes starts) (permuted axes lengths) runs count
-    (ap (λ (xs : List ℕ). box_places (permuted xs shape) (permuted xs starts) (permuted xs lengths)) a
-    ∙ ap (λ (xs : List ℕ). box_places (permuted order xs) (permuted order starts) (permuted order lengths)) s
-    ∙ ap (λ (xs : List ℕ). box_places (permuted order sizes) (permuted order xs) (permuted order lengths)) b
-    ∙ ap (λ (xs : List ℕ). box_places (permuted order sizes) (permuted order region.starts) (permuted order xs)) l) are
+    (moved_places order sizes region axes shape starts lengths a s b l) are
 
 -- the order that leaves each axis where it is
 pub own_order : (xs : List ℕ) (n : ℕ) → length xs ≡ n → permuted (range_with_len 0 n) xs ≡ xs
@@ -96,11 +104,33 @@ module _ (sizes : List ℕ) (region : Region) (inside : is_box_inside sizes regi
   pub own_count : product (permuted axes shape) ≡ product sizes
   own_count = ap product sizes_are
 
-  pub own_runs_there : (runs : List (ℕ × ℕ)) → AreBoxRuns (permuted axes shape) (permuted axes starts) (permuted axes lengths) runs → HasRegionRuns [] sizes region runs
-  own_runs_there runs are = region_runs_there [] sizes region (permuted axes shape) (permuted axes starts) (permuted axes lengths) runs own_count
-      (ap (λ (xs : List ℕ). box_places xs (permuted axes starts) (permuted axes lengths)) sizes_are
+  pub own_places : ordered_places axes shape starts lengths ≡ window_places (window_of sizes region)
+  own_places =
+      ap (λ (xs : List ℕ). box_places xs (permuted axes starts) (permuted axes lengths)) sizes_are
       ∙ ap (λ (xs : List ℕ). box_places sizes xs (permuted axes lengths)) starts_are
-      ∙ ap (λ (xs : List ℕ). box_places sizes region.starts xs) lengths_are) are
+      ∙ ap (λ (xs : List ℕ). box_places sizes region.starts xs) lengths_are
+
+  pub own_runs_there : (runs : List (ℕ × ℕ)) → AreBoxRuns (permuted axes shape) (permuted axes starts) (permuted axes lengths) runs → HasRegionRuns [] sizes region runs
+  own_runs_there runs are = region_runs_there [] sizes region (permuted axes shape) (permuted axes starts) (permuted axes lengths) runs own_count own_places are
+
+-- ---- how many there are
+
+-- runs of a box are all the runs of its places
+counted : (sizes starts lengths : List ℕ) (runs : List (ℕ × ℕ)) → AreBoxRuns sizes starts lengths runs → length (consecutive_runs (box_places sizes starts lengths)) ≡ length runs
+counted sizes starts lengths runs are = ap length (sym (runs_of_places (box_places sizes starts lengths) runs are.filled are.apart are.places))
+
+pub one_few : (sizes starts lengths : List ℕ) (before runs : List (ℕ × ℕ)) (run : ℕ × ℕ) → before ≡ [] → runs ≡ before ++ run ∷ [] → AreBoxRuns sizes starts lengths runs → true ≡ nat_le (length (consecutive_runs (box_places sizes starts lengths))) 15
+one_few sizes starts lengths before runs run none is are =
+    let one : length (consecutive_runs (box_places sizes starts lengths)) ≡ 1 = counted sizes starts lengths runs are ∙ ap length (is ∙ ap (λ (rs : List (ℕ × ℕ)). rs ++ run ∷ []) none) in
+    sym (le-leb (length (consecutive_runs (box_places sizes starts lengths))) 15 (omega (arith, one)))
+
+pub rows_few : (sizes starts lengths : List ℕ) (row : Row) (fronts : List ℕ) (before : List (ℕ × ℕ)) (done : Bool) → AreBoxRuns sizes starts lengths (before ++ map (row_at row) fronts) → done ≡ nat_le (length before + length fronts) 15
+    → done ≡ nat_le (length (consecutive_runs (box_places sizes starts lengths))) 15
+rows_few sizes starts lengths row fronts before done are e =
+    e ∙ ap (λ n. nat_le n 15) (sym (
+    counted sizes starts lengths (before ++ map (row_at row) fronts) are
+    ∙ length-append before (map (row_at row) fronts)
+    ∙ ap (λ n. length before + n) (length-map fronts (row_at row))))
 
 -- ---- one axis before the last one
 

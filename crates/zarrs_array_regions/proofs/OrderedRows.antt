@@ -1,8 +1,8 @@
 -- Rows of a region, behind fronts that are made axis by axis.
-use Rattle.std.proofs.Common.{◌≡◌, ◌==◌, Bool, ℕ, zero, suc, ◌+◌, ◌*◌, ◌-◌, ◌<◌, ◌≤◌, ◌^◌, true, List, [], ◌∷◌, ◌++◌, length, get_or, map, take, drop, arith, refl, ap, ◌∙◌, sym, subst}
-use Rattle.std.specs.Prelude.{min}
+use Rattle.std.proofs.Common.{◌≡◌, ◌==◌, Bool, ℕ, zero, suc, ◌+◌, ◌*◌, ◌-◌, ◌<◌, ◌≤◌, ◌^◌, true, false, List, [], ◌∷◌, ◌++◌, length, get_or, map, take, drop, arith, refl, ap, ◌∙◌, sym, subst}
+use Rattle.std.specs.Prelude.{min, nat_le}
 use Rattle.std.specs.List.{All, flat_map, range_with_len}
-use Rattle.std.proofs.lemmas.List.{append-nil, map-append, append_assoc, length-take, drop_all, take_more, take_rest, take-map, drop-map, take-append-drop}
+use Rattle.std.proofs.lemmas.List.{append-nil, map-append, append_assoc, length-append, length-map, length-take, drop_all, take_more, take_rest, take-map, drop-map, take-append-drop}
 use Rattle.std.proofs.Math.Nat.{mul-le-mul_right, mul_assoc}
 use Rattle.std.proofs.lemmas.List.Concat.{flat_map-append}
 use Rattle.zarrs_chunk.specs.ChunkShape.{product}
@@ -14,7 +14,8 @@ use Rattle.zarrs_chunk.proofs.Inside.{is_box_inside-at, is_box_inside-lengths}
 use Rattle.zarrs_chunk.proofs.Products.{product_positive, product_positive-drop, product_drop}
 use Rattle.zarrs_chunk.proofs.WholeAxes.{positive_whole, product_drop-le, all_whole, one_filled}
 use Rattle.zarrs_chunk.proofs.Apart.{AreApart-one}
-use Rattle.std.proofs.lemmas.Bool.{and_from, and_parts, eqb-true}
+use Rattle.zarrs_chunk.proofs.Consecutive.{range-append}
+use Rattle.std.proofs.lemmas.Bool.{and_from, and_parts, eqb-true, leb-true, leb-false, le-leb, lt-leb}
 use Rattle.std.proofs.lemmas.List.Elements.{All-map, All-tail, All-take, All-push}
 use Rattle.zarrs_array_to_array.specs.Orders.{permuted}
 use Rattle.zarrs_array_bytes.proofs.UpdateSteps.{range_more}
@@ -51,6 +52,38 @@ fronts_more row runs order sizes starts lengths first count =
     ap (λ ns. map (row_at row) (flat_map f ns)) (range_more first count)
     ∙ ap (map (row_at row)) (flat_map-append f here ((first + count) ∷ []))
     ∙ map-append (row_at row) (flat_map f here) (flat_map f ((first + count) ∷ []))))
+
+-- so many of them, and no more of fewer fronts
+fronts_count : (order sizes starts lengths : List ℕ) (first count more : ℕ)
+    → length (fronts_over order sizes starts lengths (range_with_len first (count + more))) ≡ length (fronts_over order sizes starts lengths (range_with_len first count)) + length (fronts_over order sizes starts lengths (range_with_len (first + count) more))
+fronts_count order sizes starts lengths first count more =
+    let f : ℕ → List ℕ = λ front. map (number_behind front (permuted order sizes)) (box_tuples (permuted order starts) (permuted order lengths)) in
+    ap (λ ns. length (flat_map f ns)) (range-append first count more)
+    ∙ ap length (flat_map-append f (range_with_len first count) (range_with_len (first + count) more))
+    ∙ length-append (flat_map f (range_with_len first count)) (flat_map f (range_with_len (first + count) more))
+
+-- rows that were put had room
+rows_count : (row : Row) (before runs : List (ℕ × ℕ)) (fronts : List ℕ) → runs ≡ before ++ map (row_at row) fronts → length runs ≡ length before + length fronts
+rows_count row before runs fronts is = ap length is ∙ length-append before (map (row_at row) fronts) ∙ ap (λ n. length before + n) (length-map fronts (row_at row))
+
+pub rows_put : (row : Row) (before runs : List (ℕ × ℕ)) (fronts : List ℕ) (limit : ℕ) → runs ≡ before ++ map (row_at row) fronts → nat_le (length before + length fronts) limit ≡ true → length runs ≤ limit
+rows_put row before runs fronts limit is room = omega (arith, rows_count row before runs fronts is, leb-true (length before + length fronts) limit room)
+
+pub rows_room : (row : Row) (before runs : List (ℕ × ℕ)) (fronts : List ℕ) (limit : ℕ) → runs ≡ before ++ map (row_at row) fronts → length runs ≤ limit → true ≡ nat_le (length before + length fronts) limit
+rows_room row before runs fronts limit is few = sym (le-leb (length before + length fronts) limit (omega (arith, rows_count row before runs fronts is, few)))
+
+-- where there is no room for the rows of the next front, there is none for those of all fronts
+pub fronts_lack : (row : Row) (before runs : List (ℕ × ℕ)) (order sizes starts lengths : List ℕ) (first index all limit : ℕ) → runs ≡ before ++ map (row_at row) (fronts_over order sizes starts lengths (range_with_len first index)) → index < all
+    → nat_le (length runs + length (fronts_over order sizes starts lengths ((first + index) ∷ []))) limit ≡ false → nat_le (length before + length (fronts_over order sizes starts lengths (range_with_len first all))) limit ≡ false
+fronts_lack row before runs order sizes starts lengths first index all limit is less full =
+    let F : ℕ → ℕ → ℕ = λ from count. length (fronts_over order sizes starts lengths (range_with_len from count)) in
+    let put : length runs ≡ length before + F first index = rows_count row before runs (fronts_over order sizes starts lengths (range_with_len first index)) is in
+    let whole : index + (1 + (all - index - 1)) ≡ all = omega (arith, less) in
+    let parts : F first all ≡ F first index + (F (first + index) 1 + F (first + index + 1) (all - index - 1)) =
+    ap (F first) (sym whole) ∙ fronts_count order sizes starts lengths first index (1 + (all - index - 1))
+    ∙ ap (λ n. F first index + n) (fronts_count order sizes starts lengths (first + index) 1 (all - index - 1)) in
+    let over = leb-false (length runs + F (first + index) 1) limit full in
+    lt-leb (length before + F first all) limit (omega (arith, put, parts, over))
 
 -- with no axis left the front is the number
 pub fronts_none : (order sizes starts lengths : List ℕ) (front : ℕ) → length order < 1 → fronts_over order sizes starts lengths (front ∷ []) ≡ range_with_len front 1

@@ -1,5 +1,5 @@
 -- Regions that make few runs, and what stands there.
-use Rattle.std.specs.Prelude.{◌≡◌, ℕ, ◌<◌, ◌^◌, ◌++◌, Bool, true, List, [], ◌∷◌, map, Result, Ok}
+use Rattle.std.specs.Prelude.{◌≡◌, ℕ, ◌<◌, ◌^◌, ◌++◌, ◌&&◌, nat_le, Bool, true, false, List, [], ◌∷◌, length, map, Result, Ok}
 use Rattle.arrayvec.specs.ArrayVec.{ArrayVec}
 use Rattle.zarrs_chunk.specs.Answer.{GivesBy}
 use Rattle.zarrs_chunk.specs.ChunkShape.{product}
@@ -12,7 +12,8 @@ use Rattle.zarrs_data_type.specs.Element.{Chunk}
 use Rattle.zarrs_data_type.specs.ElementType.{ElementType}
 use Rattle.zarrs_array_bytes.specs.Held.{Held}
 use Rattle.zarrs_array_bytes.specs.Validity.{Holds}
-use Rattle.zarrs_array_to_array.specs.ArrayToArrayCodec.{ArrayMapping}
+use Rattle.zarrs_array_to_array.specs.ArrayToArrayCodec.{ArrayMapping, transpose, reshape, squeeze}
+use Rattle.zarrs_bytes.specs.ReadingCalls.{consecutive_runs}
 use Rattle.zarrs_array_regions.specs.Parts.{FitsRegion, held_elements, part_encoded}
 use Rattle.zarrs_array_regions.specs.Windows.{window_of, window_places, window_elements, last_window, encoded_elements}
 
@@ -26,6 +27,23 @@ pub record HasRegionRuns (codecs : List ArrayMapping) (sizes : List ℕ) (region
   pub filled : AreFilled runs
   pub below : EndWithin (product sizes) runs
   pub apart : AreApart runs
+
+-- how many runs the places of the region's last window are in, each run as long as it can be
+abbrev pub region_run_count : List ArrayMapping → List ℕ → Region → ℕ
+region_run_count codecs sizes region = length (consecutive_runs (window_places (last_window codecs (window_of sizes region))))
+
+-- there is no codec, or one transposition alone
+abbrev pub transpose_at_most : List ArrayMapping → Bool
+transpose_at_most [] = true
+transpose_at_most (transpose order ∷ []) = true
+transpose_at_most (transpose order ∷ (next ∷ codecs)) = false
+transpose_at_most (reshape dims ∷ codecs) = false
+transpose_at_most (squeeze ∷ codecs) = false
+
+-- A region of a chunk of these sizes has few runs: it goes through no codec or one transposition, the chunk has eight axes at most, and the region's last window fifteen runs at most.
+abbrev pub has_few_runs : List ArrayMapping → List ℕ → Region → Bool
+has_few_runs codecs sizes region =
+    transpose_at_most codecs && nat_le (length sizes) 8 && nat_le (region_run_count codecs sizes region) 15
 
 -- there is no codec, or one that fits the region
 abbrev pub FitsOne : List ArrayMapping → Region → Type 0

@@ -1,14 +1,16 @@
 //! The runs of a region that makes few, which take no memory.
-ghost use Rattle.std.specs.Prelude.{◌≡◌, ◌<◌, ◌≤◌, ◌^◌, ◌+◌, ◌*◌, ◌∷◌, [], true, length, map, All};
+ghost use Rattle.std.specs.Prelude.{◌≡◌, ◌<◌, ◌≤◌, ◌^◌, ◌+◌, ◌*◌, ◌∷◌, [], true, length, map, nat_le, All};
 ghost use Rattle.std.specs.List.{range_with_len};
+ghost use Rattle.arrayvec.specs.ArrayVec.{array_vec_len};
 ghost use Rattle.zarrs_chunk.specs.ChunkShape.{product};
 ghost use Rattle.zarrs_chunk.specs.Rows.{AreBoxRuns};
 ghost use Rattle.zarrs_chunk.specs.Tuples.{is_box_inside};
 ghost use Rattle.zarrs_array_to_array.specs.ArrayToArrayCodec.{transpose};
 ghost use Rattle.zarrs_array_to_array.specs.Mapping.{mapping_of};
 ghost use Rattle.zarrs_array_to_array.specs.Orders.{permuted};
-ghost use Rattle.zarrs_array_regions.specs.FewRuns.{PutsRows, HasRegionRuns, TakesFew};
-ghost use Rattle.zarrs_array_regions.specs.OrderedRuns.{fronts_over, AreAxes, HasRoom};
+ghost use Rattle.zarrs_bytes.specs.ReadingCalls.{consecutive_runs};
+ghost use Rattle.zarrs_array_regions.specs.FewRuns.{PutsRows, HasRegionRuns, TakesFew, region_run_count, has_few_runs};
+ghost use Rattle.zarrs_array_regions.specs.OrderedRuns.{fronts_over, ordered_places, AreAxes, HasRoom};
 ghost use Rattle.zarrs_array_regions.specs.Windows.{TakesRegion};
 
 use crate::ordered_runs::{count_elements, last_row, outer_axes};
@@ -29,6 +31,7 @@ fn put_rows(out: &mut FewRuns, first: u64, count: u64, row: Row) -> bool
     requires start { row.start ≤ row.step }
     requires step { 0 < row.step }
     ensures appended { PutsRows row (range_with_len first count) out.old out.new result }
+    ensures count { result ≡ nat_le (array_vec_len out.old + count) 15 }
 {
     if count > out.remaining_capacity() as u64 {
         return false;
@@ -51,8 +54,11 @@ fn put_fronts(
 ) -> bool
     requires axes { AreAxes order.now sizes.now starts.now lengths.now }
     requires room { HasRoom front order.now sizes.now row }
+    requires len { array_vec_len out.old ≤ 15 }
     ensures appended { PutsRows row (fronts_over order.now sizes.now
         starts.now lengths.now (front ∷ [])) out.old out.new result }
+    ensures count { result ≡ nat_le (array_vec_len out.old + length (fronts_over order.now sizes.now
+        starts.now lengths.now (front ∷ []))) 15 }
 {
     match order {
         [] => put_rows(out, front, 1, row),
@@ -89,6 +95,8 @@ fn put_ordered(
     requires fits { product (permuted order.now sizes.now) < 2 ^ 64 }
     ensures places { result ≡ true → AreBoxRuns (permuted order.now sizes.now)
         (permuted order.now starts.now) (permuted order.now lengths.now) out.new.items }
+    ensures count { result ≡ nat_le (length (consecutive_runs (ordered_places order.now
+        sizes.now starts.now lengths.now))) 15 }
 {
     let axes = outer_axes(order, sizes, starts, lengths);
     if axes == 0 {
@@ -117,6 +125,8 @@ fn put_transposed(
     requires filled { 0 < product region.now.lengths }
     ensures runs { result ≡ true
         → HasRegionRuns (transpose codec.now ∷ []) shape.now region.now out.new.items }
+    ensures count { result
+        ≡ nat_le (region_run_count (transpose codec.now ∷ []) shape.now region.now) 15 }
 {
     put_ordered(
         out,
@@ -137,6 +147,7 @@ fn put_own(out: &mut FewRuns, shape: &ChunkShape, region: &ArraySubset) -> bool
     requires counted { product shape.now < 2 ^ 64 }
     requires filled { 0 < product region.now.lengths }
     ensures runs { result ≡ true → HasRegionRuns [] shape.now region.now out.new.items }
+    ensures count { result ≡ nat_le (region_run_count [] shape.now region.now) 15 }
 {
     let axes: [usize; FEW] = [0, 1, 2, 3, 4, 5, 6, 7];
     let sizes = shape.as_slice();
@@ -162,6 +173,7 @@ pub fn few_region_runs(
     requires empty { out.old.items ≡ [] }
     requires region { TakesRegion (map mapping_of codecs.now) shape.now region.now }
     requires filled { 0 < product region.now.lengths }
+    ensures value { result ≡ has_few_runs (map mapping_of codecs.now) shape.now region.now }
     ensures few { result ≡ true → TakesFew (map mapping_of codecs.now) shape.now region.now }
     ensures runs { result ≡ true
         → HasRegionRuns (map mapping_of codecs.now) shape.now region.now out.new.items }

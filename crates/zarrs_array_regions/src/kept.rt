@@ -1,7 +1,8 @@
 //! Where a region goes through array-to-array codecs as a region.
-ghost use Rattle.std.specs.Prelude.{◌≡◌, [], map, IfSome, option_map};
+ghost use Rattle.std.specs.Prelude.{◌≡◌, [], map, IfSome, Some, option_map};
 ghost use Rattle.std.specs.List.{list_all};
 ghost use Rattle.zarrs_chunk.specs.Indexer.{selection_of};
+ghost use Rattle.zarrs_chunk.specs.Region.{Region};
 ghost use Rattle.zarrs_array_to_array.specs.Mapping.{mapping_of};
 ghost use Rattle.zarrs_array_regions.specs.KeptRegions.{keeps_places as keeps_places_of, keeps_regions as keeps_regions_of, is_filled as is_filled_of, kept_region as kept_region_of, IsKept};
 
@@ -79,6 +80,8 @@ pub fn kept_region<'i>(
 pub fn filled_box<'i>(shape: &ChunkShape, indexer: &'i Indexer) -> Option<&'i ArraySubset>
     ensures filled { IfSome result
         (λ region. IsKept [] shape.now (selection_of indexer.now) region.now) }
+    ensures only { (region : Region) → IsKept [] shape.now (selection_of indexer.now) region
+        → option_map (λ found. found.now) result ≡ Some region }
 {
     let Indexer::Subset(region) = indexer else {
         return None;

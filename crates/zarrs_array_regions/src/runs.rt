@@ -1,5 +1,5 @@
 //! The runs of a region where array-to-array codecs take it, and its elements as they stand there.
-ghost use Rattle.std.specs.Prelude.{◌≡◌, ◌<◌, ◌^◌, ◌∷◌, [], Ok, length, map, IfOk, IfSome};
+ghost use Rattle.std.specs.Prelude.{◌≡◌, ◌<◌, ◌≤◌, ◌^◌, ◌∷◌, [], ℕ, List, Ok, length, map, IfOk, IfSome, IfNone};
 ghost use Rattle.zarrs_chunk.specs.Answer.{seen};
 ghost use Rattle.zarrs_chunk.specs.ChunkShape.{product};
 ghost use Rattle.zarrs_chunk.specs.Runs.{places_in, AreFilled, EndWithin, AreApart};
@@ -26,6 +26,9 @@ pub(crate) const FEW: usize = 8;
 /// The one codec, where it is a transposition of few axes.
 pub(crate) fn few_axes(codecs: &[ArrayToArrayCodec]) -> Option<&TransposeCodec>
     ensures only { IfSome result (λ codec. map mapping_of codecs.now ≡ transpose codec.now ∷ []) }
+    ensures few { IfSome result (λ codec. length codec.now ≤ 8) }
+    ensures others { IfNone result ((order : List ℕ)
+        → map mapping_of codecs.now ≡ transpose order ∷ [] → 8 < length order) }
 {
     match codecs {
         [ArrayToArrayCodec::Transpose(codec)] if codec.order().len() <= FEW => Some(codec),

@@ -79,11 +79,11 @@ reached_next shape sizes place before axis rest number inside chunks elements d 
     }
 
 -- an inner chunk is no larger than the chunk, and there are no more inner chunks than elements
-record AreWithin (shape sizes : List ℕ) : Type 0 where
+pub record AreWithin (shape sizes : List ℕ) : Type 0 where
   pub elements : product shape ≤ product sizes
   pub chunks : inner_chunk_count shape sizes ≤ product sizes
 
-are_within : (shape sizes : List ℕ) → is_divided shape sizes ≡ true → All (λ part. 0 < part) shape → All (λ size. 0 < size) sizes → AreWithin shape sizes
+pub are_within : (shape sizes : List ℕ) → is_divided shape sizes ≡ true → All (λ part. 0 < part) shape → All (λ size. 0 < size) sizes → AreWithin shape sizes
 are_within shape sizes d p q =
     let count = cut_count shape sizes d in
     let one = product_positive shape p in

@@ -10,4 +10,6 @@ pub mod GroupSteps
 pub mod Grouping
 pub mod Orders
 pub mod OneGroup
+pub mod InnerCells
+pub mod InnerStarts
 pub mod TuplesOfPlaces

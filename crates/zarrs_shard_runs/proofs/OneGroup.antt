@@ -7,46 +7,50 @@ use Rattle.zarrs_chain_meaning.specs.sharding.InnerChunks.{inner_chunk_count}
 use Rattle.zarrs_chunk.specs.ChunkShape.{product}
 use Rattle.zarrs_chunk.specs.Runs.{AreFilled, EndWithin, joined_runs}
 use Rattle.zarrs_shard_runs.specs.CutRuns.{cell, cells_at}
-use Rattle.zarrs_shard_runs.specs.GroupedRuns.{AreGroups, IsOneGroup, IsReadingOrder, group}
+use Rattle.zarrs_shard_runs.specs.GroupedRuns.{AreGroups, IsOneGroup, IsReadingOrder}
 use Rattle.zarrs_shard_runs.specs.Groups.{AreRising, cells_of_groups}
 use Rattle.zarrs_shard_runs.specs.PlacesInside.{groups_of}
 use Rattle.zarrs_shard_runs.specs.declared.grouped_runs.InnerRuns.{InnerRuns}
 use Rattle.zarrs_shard_runs.proofs.Grouping.{cells_in, groups_again, groups_agree, groups_are_cells}
 use Rattle.zarrs_shard_runs.proofs.Orders.{order_kept}
 
-module _ {shape sizes places : List ℕ} {it : InnerRuns} (one : IsOneGroup shape sizes places it) where
+-- all places, of which there are some, are these places of the inner chunk of this number
+module _ (shape sizes places : List ℕ) (number : ℕ) (moved : List ℕ) (cells : map (cell shape sizes) places ≡ cells_at number moved) (some : 0 < length places) (low : number < inner_chunk_count shape sizes) where
   abbrev found : List (ℕ × List ℕ)
-  found = group it ∷ []
+  found = (number, moved) ∷ []
 
   cells_are : cells_of_groups found ≡ map (cell shape sizes) places
-  cells_are = append-nil (cells_at it.number (joined_runs it.runs.items)) ∙ sym one.cells
+  cells_are = append-nil (cells_at number moved) ∙ sym cells
 
-  counted : length (joined_runs it.runs.items) ≡ length places
-  counted =
-      sym (length-map (joined_runs it.runs.items) (λ (place : ℕ). (it.number, place)))
-      ∙ ap length (sym one.cells)
+  pub moved_count : length moved ≡ length places
+  moved_count =
+      sym (length-map moved (λ (place : ℕ). (number, place)))
+      ∙ ap length (sym cells)
       ∙ length-map places (cell shape sizes)
 
   rises : AreRising 0 found
-  rises = (omega arith, (let same = counted in let some = one.some in omega (arith, same, some)), tt)
+  rises = (omega arith, (let same = moved_count in omega (arith, same, some)), tt)
 
-  groups_are : found ≡ groups_of shape sizes places
+  pub groups_are : found ≡ groups_of shape sizes places
   groups_are =
       let count = inner_chunk_count shape sizes in
-      let low = one.number in
-      sym (groups_again count 0 found rises (All-cons (λ (it : ℕ × List ℕ). it.0 < 0 + count) (group it) [] (omega (arith, low)) (All-nil (λ (it : ℕ × List ℕ). it.0 < 0 + count))))
+      sym (groups_again count 0 found rises (All-cons (λ (it : ℕ × List ℕ). it.0 < 0 + count) (number, moved) [] (omega (arith, low)) (All-nil (λ (it : ℕ × List ℕ). it.0 < 0 + count))))
       ∙ groups_agree (cells_of_groups found) (map (cell shape sizes) places) 0 count (λ number l. ap (cells_in number) cells_are)
       ∙ sym (groups_are_cells shape sizes places (range_with_len 0 count))
 
+  pub order_is : IsReadingOrder shape sizes places (range_with_len 0 (length places))
+  order_is = order_kept shape sizes places found cells_are groups_are
+
+module _ {shape sizes places : List ℕ} {it : InnerRuns} (one : IsOneGroup shape sizes places it) where
   pub one_group : AreGroups shape sizes places (it ∷ [])
   one_group = record {
-    groups = groups_are;
+    groups = groups_are shape sizes places it.number (joined_runs it.runs.items) one.cells one.some one.number;
     filled = All-cons (λ (it : InnerRuns). AreFilled it.runs.items) it [] one.filled (All-nil (λ (it : InnerRuns). AreFilled it.runs.items));
     inside = All-cons (λ (it : InnerRuns). EndWithin (product shape) it.runs.items) it [] one.inside (All-nil (λ (it : InnerRuns). EndWithin (product shape) it.runs.items));
   }
 
   pub one_order : IsReadingOrder shape sizes places (range_with_len 0 (length places))
-  one_order = order_kept shape sizes places found cells_are groups_are
+  one_order = order_is shape sizes places it.number (joined_runs it.runs.items) one.cells one.some one.number
 
 -- the same with the slices that the code has
 pub one_of : (shape sizes parts others places : List ℕ) (it : InnerRuns) → parts ≡ shape → others ≡ sizes → IsOneGroup parts others places it → IsOneGroup shape sizes places it

@@ -5,6 +5,7 @@ pub mod BlockRows
 pub mod GroupedRuns
 pub mod Groups
 pub mod RunSelection
+pub mod InnerBox
 pub use Rattle.zarrs_chunk.specs.Answer
 pub use Rattle.zarrs_chunk.specs.Runs
 pub use Rattle.zarrs_chunk.specs.Selection
