@@ -25,7 +25,7 @@ use Rattle.zarrs_chain_meaning.specs.CodecMeaning.{chain_representation}
 use Rattle.zarrs_chain_meaning.specs.PlainChain.{PlainCodec}
 use Rattle.zarrs_chain_meaning.specs.Meaning.{Meaning}
 use Rattle.zarrs_bytes.proofs.Coding.{bind_ok, ok}
-use Rattle.zarrs_codec_chain.specs.ChunkRead.{IsReadPlan, encoded_places, form_in_place, places_in_order, planned_places, planned_region, reads_places, standing_places}
+use Rattle.zarrs_codec_chain.specs.ChunkRead.{IsReadPlan, encoded_places, form_in_place, planned_places, planned_region, reads_places, standing_places}
 use Rattle.zarrs_chain_meaning.specs.ChunkForm.{ChunkForm}
 use Rattle.zarrs_data_type.specs.Form.{form_of}
 use Rattle.zarrs_codec_chain.specs.CodecPart.{IsCodecPlan, codec_rests_on, Part}
@@ -41,6 +41,7 @@ use Rattle.zarrs_c_calls.specs.Plans.{Planned, places_planned}
 use Rattle.zarrs_c_calls.proofs.HeaderLemmas.{header_sound}
 use Rattle.zarrs_c_calls.proofs.PlanLemmas.{plan_by, with_header}
 use Rattle.zarrs_lent_handles.proofs.LackingLemmas.{each_passes}
+use Rattle.std.specs.Option.{option_map_or}
 
 -- ---- places in another order
 
@@ -118,7 +119,7 @@ module _ (made : List ByteSpan) (test : ℕ → Bool) where
   module _ (form : ChunkForm KnownBytesCodec) (selection : Selection) (are : All IsMapping form.chain.array_to_array) (positive : All (λ size. 0 < size) form.sizes) where
     -- the selected places, where these are planned in their order
     ordered_passes : (planned : Option Region) → planned_region form selection ≡ planned → (sizes meant : List ℕ) → encoded_places form.type form.chain.array_to_array form.sizes selection ≡ Ok meant
-        → IsCodecPlan form.chain.array_to_bytes (form_of sizes form.type form.fill) (places_in_order form.chain.array_to_array form.sizes planned meant) made → Passing (codec_rests_on known_codecs form.chain.array_to_bytes sizes form.type form.fill None meant)
+        → IsCodecPlan form.chain.array_to_bytes (form_of sizes form.type form.fill) (option_map_or (standing_places form.chain.array_to_array form.sizes) planned meant) made → Passing (codec_rests_on known_codecs form.chain.array_to_bytes sizes form.type form.fill None meant)
     ordered_passes None p sizes meant e plan = codec_passes form.chain.array_to_bytes sizes form.type form.fill meant plan
     ordered_passes (Some region) p sizes meant e plan =
         let own = in_place (form_in_place form) _ region p in
@@ -127,12 +128,12 @@ module _ (made : List ByteSpan) (test : ℕ → Bool) where
         let standing : List ℕ = standing_places form.chain.array_to_array form.sizes region in
         let order = planned_are_meant KnownBytesCodec form selection meant standing chain_is positive e (standing_is form selection region meant p e) in
         subst (λ (p : Part KnownBytesCodec). Passing (p.rests_on known_codecs sizes form.type form.fill None meant)) (sym codec_is.does)
-        (moved_passes form.type meant standing order.same (subst (λ (p : Part KnownBytesCodec). p.IsPlanned sizes form.type form.fill standing made) codec_is.does plan))
+        (moved_passes form.type meant standing order.0 (subst (λ (p : Part KnownBytesCodec). p.IsPlanned sizes form.type form.fill standing made) codec_is.does plan))
 
     pub form_passes : (places : List ℕ) → planned_places form selection ≡ Ok (Some places) → IsReadPlan known_codecs form (Some made) (Some places)
         → (numbers : List ℕ) × ArePlanned known_codecs form selection numbers × (list_all test numbers ≡ list_all test (range_indices made))
     form_passes places is plan =
-        chain_passes (reads_places form.chain.bytes_to_bytes form.chain.array_to_bytes) (places_in_order form.chain.array_to_array form.sizes (planned_region form selection)) form.chain.array_to_bytes form.type form.fill (encoded_places form.type form.chain.array_to_array form.sizes selection) (taken_form known_codecs form.chain form.sizes form.type form.fill) places
+        chain_passes (reads_places form.chain.bytes_to_bytes form.chain.array_to_bytes) (option_map_or (standing_places form.chain.array_to_array form.sizes) (planned_region form selection)) form.chain.array_to_bytes form.type form.fill (encoded_places form.type form.chain.array_to_array form.sizes selection) (taken_form known_codecs form.chain form.sizes form.type form.fill) places
         (ordered_passes (planned_region form selection) refl) is plan
 
 -- ---- of a header

@@ -1,6 +1,6 @@
 -- The ranges that a read of pieces lacks.
 use Rattle.std.proofs.Common.{◌≡◌, ℕ, suc, ◌-◌, ◌<◌, ◌==◌, ◌&&◌, ◌||◌, nat_lt, not, Bool, true, false, if◌then◌else◌, Option, Some, None, List, [], ◌∷◌, length, Vec, Global, Result, Ok, Err, IsOkAnd, IfOk, IfErr, inl, inr, refl, sym, ap, ◌∙◌, subst, arith, lt-ltb}
-use Rattle.std.specs.Prelude.{is_ok}
+use Rattle.std.specs.Prelude.{is_ok, option_map}
 use Rattle.std.specs.List.{All, list_all, list_any, range_with_len}
 use Rattle.std.specs.Cmp.Derive.{both_true}
 use Rattle.std.proofs.lemmas.Bool.{leb-true}
@@ -31,7 +31,7 @@ use Rattle.zarrs_lent_handles.specs.declared.pieces_handle.PiecesHandle.{PiecesH
 use Rattle.zarrs_lent_handles.proofs.LackingLemmas.{all_alike, all_lacking, each_passes}
 use Rattle.zarrs_lent_handles.proofs.PieceLemmas.{passes, value_length}
 use Rattle.zarrs_chain_meaning.specs.Chain.{taken_form}
-use Rattle.zarrs_codec_chain.specs.ChunkRead.{IsPlanSeen, IsReadPlan, ReadsStoredChunk, are_asked_sure, asks_in_part, encoded_places, places_in_order, planned_places, planned_region, reads_places, stored_read}
+use Rattle.zarrs_codec_chain.specs.ChunkRead.{IsReadPlan, ReadsStoredChunk, are_asked_sure, asks_in_part, encoded_places, planned_places, planned_region, reads_places, stored_read, standing_places}
 use Rattle.zarrs_codec_chain.specs.ChunkSource.{Source, source_made}
 use Rattle.zarrs_codec_chain.specs.CodecPart.{codec_rests_on}
 use Rattle.zarrs_codec_chain.specs.PlannedReads.{ArePlanned, planned_bytes}
@@ -54,6 +54,7 @@ use Rattle.zarrs_c_calls.specs.declared.cause.Cause.{Cause}
 use Rattle.zarrs_c_calls.proofs.AnswerLemmas.{elements_not_due, of_codec, typed}
 use Rattle.zarrs_c_calls.proofs.CodeLemmas.{refused}
 use Rattle.zarrs_c_calls.proofs.HeaderLemmas.{header_sound}
+use Rattle.std.specs.Option.{option_map_or}
 
 -- ---- numbers and the bytes of ranges
 
@@ -143,11 +144,11 @@ places_stop g h (Err other) f e is = cc
 
 no_plan : {P : Type 0} (form : HeaderForm) (selection : Selection) (numbers : List ℕ) → IsOkAnd (planned_places form selection) (IsReadPlan known_codecs form None) → ArePlanned known_codecs form selection numbers → P
 no_plan form selection numbers plan are =
-    no_plan_at (reads_places form.chain.bytes_to_bytes form.chain.array_to_bytes) (places_in_order form.chain.array_to_array form.sizes (planned_region form selection)) form (encoded_places form.type form.chain.array_to_array form.sizes selection)
+    no_plan_at (reads_places form.chain.bytes_to_bytes form.chain.array_to_bytes) (option_map_or (standing_places form.chain.array_to_array form.sizes) (planned_region form selection)) form (encoded_places form.type form.chain.array_to_array form.sizes selection)
     (taken_form known_codecs form.chain form.sizes form.type form.fill) (λ taken found. codec_rests_on known_codecs form.chain.array_to_bytes taken.0 form.type form.fill None found) numbers plan are
 
 -- what a call says of the plan
-pub plan_said : (form : HeaderForm) (selection : Selection) (plan : Option (Vec ByteSpan Global)) → IsSoundForm form → IsOkAnd (planned_places form selection) (IsPlanSeen known_codecs form plan)
+pub plan_said : (form : HeaderForm) (selection : Selection) (plan : Option (Vec ByteSpan Global)) → IsSoundForm form → IsOkAnd (planned_places form selection) (IsReadPlan known_codecs form (option_map (λ (v : Vec ByteSpan Global). v.items) plan))
     → (numbers : List ℕ) → ArePlanned known_codecs form selection numbers → (n : ℕ) → have_number (ranges_kept plan) n ≡ list_any (λ other. other == n) numbers
 plan_said form selection None sound said numbers are n = no_plan form selection numbers said are
 plan_said form selection (Some made) sound said numbers are n = plan_numbers form selection made.items numbers sound (planned_places form selection) refl said are n
@@ -160,7 +161,7 @@ plan_is form selection made sound (Ok (Some places)) is plan =
     let p = form_passes made (is_at_hand []) form selection sound.mappings sound.positive places is plan in
     (p.0, p.1)
 
-plan_with : (form : HeaderForm) (selection : Selection) (plan : Option (Vec ByteSpan Global)) (n : ℕ) → IsSoundForm form → IsOkAnd (planned_places form selection) (IsPlanSeen known_codecs form plan) → have_number (ranges_kept plan) n ≡ true → (numbers : List ℕ) × ArePlanned known_codecs form selection numbers
+plan_with : (form : HeaderForm) (selection : Selection) (plan : Option (Vec ByteSpan Global)) (n : ℕ) → IsSoundForm form → IsOkAnd (planned_places form selection) (IsReadPlan known_codecs form (option_map (λ (v : Vec ByteSpan Global). v.items) plan)) → have_number (ranges_kept plan) n ≡ true → (numbers : List ℕ) × ArePlanned known_codecs form selection numbers
 plan_with form selection None n sound said has = absurd (cc)
 plan_with form selection (Some made) n sound said has = plan_is form selection made.items sound (planned_places form selection) refl said
 
@@ -318,7 +319,7 @@ module _ (form : HeaderForm) (len : ℕ) (ps : List PlainPiece) (selection : Sel
 
   -- what a handle lacks behind a read that is answered
   pub read_due : {E : Type 0} (handle : PiecesHandle E) (plan : Option (Vec ByteSpan Global)) (told : List ℕ) → IsSoundForm form → IsMade zeros len ps (pieces_state handle) → whole_value len ps ≡ None → (pieces_state handle).failure ≡ None
-      → is_ok (bounds_of selection form.sizes) ≡ true → is_ok (apart_read zeros form len ps selection) ≡ true → IsOkAnd (planned_places form selection) (IsPlanSeen known_codecs form plan)
+      → is_ok (bounds_of selection form.sizes) ≡ true → is_ok (apart_read zeros form len ps selection) ≡ true → IsOkAnd (planned_places form selection) (IsReadPlan known_codecs form (option_map (λ (v : Vec ByteSpan Global). v.items) plan))
       → AreOfLackedOrKept handle (ranges_kept plan) told → (lacking : List ByteSpan) × AreLackingTo form len ps selection lacking × (told ≡ range_numbers lacking)
   read_due handle plan told sound is none quiet inside_is read said (ranges, inl h, e) =
       let asked = ranges_kept plan in
@@ -368,7 +369,7 @@ module _ (form : HeaderForm) (len : ℕ) (ps : List PlainPiece) (selection : Sel
 
   -- what a handle lacks behind a read that failed
   failed_due : {E : Type 0} (handle : PiecesHandle E) (plan : Option (Vec ByteSpan Global)) (failure : StorageError) (told : List ℕ) → IsSoundForm form → IsMade zeros len ps (pieces_state handle) → (pieces_state handle).failure ≡ Some failure → LacksByte zeros form len ps selection
-      → IsOkAnd (planned_places form selection) (IsPlanSeen known_codecs form plan) → AreOfLackedOrKept handle (ranges_kept plan) told → (lacking : List ByteSpan) × AreLackingTo form len ps selection lacking × (told ≡ range_numbers lacking)
+      → IsOkAnd (planned_places form selection) (IsReadPlan known_codecs form (option_map (λ (v : Vec ByteSpan Global). v.items) plan)) → AreOfLackedOrKept handle (ranges_kept plan) told → (lacking : List ByteSpan) × AreLackingTo form len ps selection lacking × (told ≡ range_numbers lacking)
   failed_due handle plan failure told sound is failed lacks said (ranges, inl h, e) =
       let own = lacks_made handle len ps (ranges_kept plan) ranges is h.0 in (
         ranges,
@@ -397,7 +398,7 @@ module _ (form : HeaderForm) (len : ℕ) (ps : List PlainPiece) (selection : Sel
   -- the numbers that are returned behind a read that is answered
   pub answered_tells : {E : Type 0} (before : StorageState) (handle : PiecesHandle E) (held : Held) (r : Result Held CodecError) (plan : Option (Vec ByteSpan Global)) (told : Result (Vec ℕ Global) CodecError) → IsSoundForm form → IsMade zeros len ps before → whole_value len ps ≡ None → before.failure ≡ None
       → ReadsStoredChunk known_codecs form before selection r → AnswersBy memory_or_fault (Holds form.type) r (apart_read zeros form len ps selection) → pieces_state handle ≡ after_reading r before → r ≡ Ok held
-      → IsOkAnd (planned_places form selection) (IsPlanSeen known_codecs form plan) → IfOk told (λ told. AreOfLackedOrKept handle (ranges_kept plan) told.items) → IfErr told (λ error. error ≡ OutOfMemory) → AnswersPartLacking form len ps selection told
+      → IsOkAnd (planned_places form selection) (IsReadPlan known_codecs form (option_map (λ (v : Vec ByteSpan Global). v.items) plan)) → IfOk told (λ told. AreOfLackedOrKept handle (ranges_kept plan) told.items) → IfErr told (λ error. error ≡ OutOfMemory) → AnswersPartLacking form len ps selection told
   answered_tells before handle held (Err error) plan told sound is none quiet reads exact left answered said h m = absurd (cc)
   answered_tells before handle held (Ok other) plan (Err error) sound is none quiet reads exact left answered said h m = λ silent. absurd (let wants : true ≡ false = sym (ap memory m) ∙ silent in cc)
   answered_tells before handle held (Ok other) plan (Ok told) sound is none quiet reads exact left answered said h m =
@@ -410,7 +411,7 @@ module _ (form : HeaderForm) (len : ℕ) (ps : List PlainPiece) (selection : Sel
   -- and behind a read that failed
   pub failed_tells : {E : Type 0} (before : StorageState) (handle : PiecesHandle E) (r : Result Held CodecError) (error : CodecError) (failure : StorageError) (plan : Option (Vec ByteSpan Global)) (told : Result (Vec ℕ Global) CodecError) → IsSoundForm form → IsMade zeros len ps before → whole_value len ps ≡ None
       → ReadsStoredChunk known_codecs form before selection r → pieces_state handle ≡ after_reading r before → r ≡ Err error → error ≡ Storage failure
-      → IsOkAnd (planned_places form selection) (IsPlanSeen known_codecs form plan) → IfOk told (λ told. AreOfLackedOrKept handle (ranges_kept plan) told.items) → IfErr told (λ error. error ≡ OutOfMemory) → AnswersPartLacking form len ps selection told
+      → IsOkAnd (planned_places form selection) (IsReadPlan known_codecs form (option_map (λ (v : Vec ByteSpan Global). v.items) plan)) → IfOk told (λ told. AreOfLackedOrKept handle (ranges_kept plan) told.items) → IfErr told (λ error. error ≡ OutOfMemory) → AnswersPartLacking form len ps selection told
   failed_tells before handle r error failure plan (Err other) sound is none reads left fails storage said h m = λ silent. absurd (let wants : true ≡ false = sym (ap memory m) ∙ silent in cc)
   failed_tells before handle r error failure plan (Ok told) sound is none reads left fails storage said h m =
       let fault_is : is_fault r ≡ true = ap is_fault fails ∙ ap fault storage in

@@ -16,7 +16,7 @@ use Rattle.zarrs_codec.specs.BytesToBytesCodec.{BytesCodecs, IsLawful}
 use Rattle.zarrs_codec.specs.CodecMembers.{DecodesAgain}
 use Rattle.zarrs_codec.specs.Grammar.{Decodes}
 use Rattle.zarrs_chain_meaning.specs.Chain.{codec_held_value, taken_chunk}
-use Rattle.zarrs_chain_meaning.specs.CodecMeaning.{chain_chunk, codec_chunk, HasMappings, normal_form, codec_representation, ChainWritten}
+use Rattle.zarrs_chain_meaning.specs.CodecMeaning.{chain_chunk, codec_chunk, HasMappings, normal_form, codec_representation, ChainWritten, chain_meaning}
 use Rattle.zarrs_chain_meaning.specs.Laws.{IsChainOfMappings}
 use Rattle.zarrs_chain_meaning.specs.MachineBytes.{HeldHasBytes}
 use Rattle.zarrs_chain_meaning.specs.PlainChain.{PlainChain, PlainCodec}
@@ -24,7 +24,7 @@ use Rattle.zarrs_chain_meaning.proofs.Answered.{from_ok}
 use Rattle.zarrs_chain_meaning.proofs.CodecLaws.{chain_stands}
 use Rattle.zarrs_chain_meaning.proofs.HeldBytes.{chain_again, chunk_bytes, codec_again}
 use Rattle.zarrs_chain.specs.ChainGrammar.{chain_grammar}
-use Rattle.zarrs_chain.specs.EncodedAgain.{EncodedStands, ReencodedStands, StandsForNormal}
+use Rattle.zarrs_chain.specs.EncodedAgain.{EncodedStands, ReencodedStands}
 use Rattle.zarrs_chain.proofs.CodecRelations.{value_written}
 
 -- ---- an array-to-bytes codec
@@ -75,7 +75,7 @@ pub encoded_stands : {B : Type 0} (f : BytesCodecs B) (chain : PlainChain B) (fo
     → IfOk result (λ value. (chunk : Chunk) × Holds form.type held chunk × ChainWritten f chain form.sizes form.type form.fill (items_of value) chunk)
     → EncodedStands f chain form held result
 encoded_stands f chain form held (Ok value) lawful is positive small (chunk, holds, w) =
-    subst (StandsForNormal f chain form (items_of value)) (sym (elements_of form.type held (product form.sizes) chunk holds w.elements.count_is))
+    subst (λ (c : Chunk). (chain_meaning chain).Stands f form.sizes form.type form.fill (items_of value) (normal_form chain.array_to_bytes form.type c)) (sym (elements_of form.type held (product form.sizes) chunk holds w.elements.count_is))
     (chain_stands f chain lawful is form.sizes form.type form.fill (items_of value) chunk positive (chunk_bytes form.type held chunk small holds) w)
 encoded_stands f chain form held (Err e) lawful is positive small found = tt
 
@@ -84,6 +84,6 @@ pub reencoded_stands : {B C : Type 0} (f : BytesCodecs B) (from : PlainChain B) 
     → Decodes (chain_grammar f from) form value (Ok held) → EncodedStands g to form held (Ok written) → Gives (λ (answer : Vec ℕ Global). answer.items) result (Ok (items_of written)) → ReencodedStands f from g to form value result
 reencoded_stands f from g to form value held written (Ok answer) read stands made chunk old =
     let same : items_of written ≡ answer.items = let is_made : Ok (items_of written) ≡ Ok answer.items = made.is in cc in
-    subst (λ (items : List ℕ). StandsForNormal g to form items chunk) same
-    (subst (StandsForNormal g to form (items_of written)) (elements_of form.type held (product form.sizes) chunk (read.only chunk old) old.elements.count_is) stands)
+    subst (λ (items : List ℕ). (chain_meaning to).Stands g form.sizes form.type form.fill items (normal_form to.array_to_bytes form.type chunk)) same
+    (subst (λ (c : Chunk). (chain_meaning to).Stands g form.sizes form.type form.fill (items_of written) (normal_form to.array_to_bytes form.type c)) (elements_of form.type held (product form.sizes) chunk (read.only chunk old) old.elements.count_is) stands)
 reencoded_stands f from g to form value held written (Err e) read stands made chunk old = tt

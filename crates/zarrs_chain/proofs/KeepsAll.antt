@@ -1,18 +1,16 @@
 -- Which codecs keep each element as it is.
-use Rattle.std.proofs.Common.{◌≡◌, ℕ, Bool, List, [], ◌∷◌, map, Option, refl, ap, sym, subst}
-use Rattle.zarrs_data_type.specs.declared.endianness.Endianness.{Endianness}
+use Rattle.std.proofs.Common.{◌≡◌, ℕ, Bool, List, [], ◌∷◌, map, refl, ap, sym, subst}
 use Rattle.zarrs_data_type.specs.Element.{Element, plain, absent, present, Chunk}
 use Rattle.zarrs_data_type.specs.ElementType.{ElementType, fixed, text, bytes, optional}
-use Rattle.zarrs_vlen_v2.specs.declared.vlen_v2_codec.VlenV2Codec.{VlenV2Codec}
 use Rattle.zarrs_chain_meaning.specs.CodecMeaning.{meaning, codec_normal_element}
 use Rattle.zarrs_chain_meaning.specs.Meaning.{Keeping}
 use Rattle.zarrs_chain_meaning.specs.Parts.{byte_type, the_byte}
-use Rattle.zarrs_chain_meaning.specs.PlainChain.{PlainChain, bytes_codec, vlen_v2_codec, vlen_codec_of, optional_codec_of, sharding_codec_of}
+use Rattle.zarrs_chain_meaning.specs.PlainChain.{PlainChain, vlen_codec_of, optional_codec_of, sharding_codec_of}
 use Rattle.zarrs_chain_meaning.specs.optional.Optional.{optional_normal}
 use Rattle.zarrs_chain_meaning.specs.vlen.Vlen.{vlen_normal}
 use Rattle.zarrs_chain.specs.ChainView.{plain_chain, plain_codec, plain_optional_at, plain_sharding_at, plain_vlen_at}
 use Rattle.zarrs_chain.specs.declared.array_to_bytes_codec.ArrayToBytesCodec.{ArrayToBytesCodec}
-use Rattle.zarrs_chain.specs.declared.array_to_bytes_codec.ArrayToBytesCodec.TheVariants.{Bytes, VlenV2, Vlen, Optional, Sharding}
+use Rattle.zarrs_chain.specs.declared.array_to_bytes_codec.ArrayToBytesCodec.TheVariants.{PackBits, Vlen, Optional, Sharding}
 use Rattle.zarrs_chain.specs.declared.optional.optional_codec.OptionalCodec.{OptionalCodec, out-OptionalCodec}
 use Rattle.zarrs_chain.specs.declared.sharding.sharding_codec.ShardingCodec.{ShardingCodec, out-ShardingCodec}
 use Rattle.zarrs_chain.specs.declared.vlen.vlen_codec.VlenCodec.{VlenCodec, out-VlenCodec}
@@ -52,14 +50,6 @@ optional_same keep same bytes element = refl
 
 -- ---- plain codecs
 
-pub bytes_is : (B : Type 0) (order : Option Endianness) → KeepsAll {B = B} (bytes_codec order)
-unfolding meaning
-bytes_is B order = λ type element. refl
-
-vlen_v2_is : (B : Type 0) (codec : VlenV2Codec) → KeepsAll {B = B} (vlen_v2_codec codec)
-unfolding meaning
-vlen_v2_is B codec = λ type element. refl
-
 vlen_is : {B : Type 0} (index content : PlainChain B) (wide at_end : Bool) → KeepsAll content.array_to_bytes → KeepsAll (vlen_codec_of index content wide at_end)
 unfolding meaning
 vlen_is index content wide at_end same = vlen_same (codec_normal_element content.array_to_bytes) same
@@ -73,14 +63,6 @@ unfolding meaning
 sharding_is inner index shape at_end same = same
 
 -- ---- as the code opens them
-
-pub bytes_keeps_all : {B : Type 0} (codec : ArrayToBytesCodec B) (order : Option Endianness) → codec ≡ Bytes order → KeepsAll (plain_codec codec)
-unfolding plain_codec
-bytes_keeps_all {B} codec order e = subst (λ c. KeepsAll (plain_codec c)) (sym e) (bytes_is B order)
-
-pub vlen_v2_keeps_all : {B : Type 0} (codec : ArrayToBytesCodec B) (inner : VlenV2Codec) → codec ≡ VlenV2 inner → KeepsAll (plain_codec codec)
-unfolding plain_codec
-vlen_v2_keeps_all {B} codec inner e = subst (λ c. KeepsAll (plain_codec c)) (sym e) (vlen_v2_is B inner)
 
 pub vlen_keeps_all : {B : Type 0} (codec : ArrayToBytesCodec B) (inner : VlenCodec B) → codec ≡ Vlen inner → KeepsAll (plain_codec (out-VlenCodec _ inner).data_codecs.value.array_to_bytes) → KeepsAll (plain_codec codec)
 unfolding plain_codec
@@ -96,3 +78,12 @@ pub sharding_keeps_all : {B : Type 0} (codec : ArrayToBytesCodec B) (inner : Sha
 unfolding plain_codec
 sharding_keeps_all codec inner e same =
     subst (λ c. KeepsAll (plain_codec c)) (sym e) (subst (λ p. KeepsAll p) (sym (plain_sharding_at inner)) (sharding_is (plain_chain (out-ShardingCodec _ inner).codecs.value) _ _ _ same))
+
+-- a codec without a chain inside does, but for `packbits`
+pub leaf_keeps_all : {B : Type 0} (codec : ArrayToBytesCodec B) → ((inner : _) → codec ≡ PackBits inner → ⊥) → ((inner : _) → codec ≡ Vlen inner → ⊥) → ((inner : _) → codec ≡ Optional inner → ⊥) → ((inner : _) → codec ≡ Sharding inner → ⊥) → KeepsAll (plain_codec codec)
+unfolding plain_codec meaning
+leaf_keeps_all (PackBits inner) p v o s = absurd (p inner refl)
+leaf_keeps_all (Vlen inner) p v o s = absurd (v inner refl)
+leaf_keeps_all (Optional inner) p v o s = absurd (o inner refl)
+leaf_keeps_all (Sharding inner) p v o s = absurd (s inner refl)
+leaf_keeps_all codec p v o s = λ type element. refl

@@ -53,7 +53,6 @@ use Rattle.zarrs_chain.specs.declared.codec_chain.CodecChain.{CodecChain}
 use Rattle.zarrs_chain.specs.sharding.ShardWalk.{KeepsInner, are_item, inner_part, kept_part}
 use Rattle.zarrs_chain.specs.sharding.ShardingCalls.{KeepsAll}
 use Rattle.zarrs_chain.proofs.FillTests.{fixed_so, fixed_tested, is_item}
-use Rattle.zarrs_chain.proofs.KeepsAll.{bytes_is}
 use Rattle.zarrs_chain.proofs.KeptBytes.{none_is}
 use Rattle.zarrs_chain.proofs.KeptInner.{EndsInside, gathered_long, gathered_pieces}
 use Rattle.zarrs_chain.proofs.OptionalAt.{ok_of}
@@ -90,6 +89,10 @@ moved_nowhere sizes m chunk is long stays =
 kept_codec : {B : Type 0} (codec : PlainCodec B) (type : ElementType) → codec_keeps_bytes codec type ≡ true → (order : Option Endianness) × (codec ≡ bytes_codec order) × (turn_size order type ≡ None)
 kept_codec (bytes_codec order) type h = (order, refl, none_is (turn_size order type) h)
 kept_codec _ type h = absurd cc
+
+bytes_is : (B : Type 0) (order : Option Endianness) → KeepsAll {B = B} (bytes_codec order)
+unfolding meaning
+bytes_is B order = λ type element. refl
 
 kept_all : {B : Type 0} (codec : PlainCodec B) (type : ElementType) → codec_keeps_bytes codec type ≡ true → KeepsAll codec
 kept_all {B} codec type h = let o = kept_codec codec type h in subst KeepsAll (sym o.1) (bytes_is B o.0)

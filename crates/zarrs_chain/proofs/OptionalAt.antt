@@ -1,5 +1,5 @@
 -- One level of the codec `optional`, as the code opens it.
-use Rattle.std.proofs.Common.{◌≡◌, ℕ, nat_lt, true, List, [], ◌∷◌, Result, Ok, Err, refl, ap, sym, subst, ◌∙◌}
+use Rattle.std.proofs.Common.{◌≡◌, ℕ, nat_lt, true, List, [], ◌∷◌, Result, Ok, Err, refl, ap, sym, subst, ◌∙◌, ◌+◌}
 use Rattle.std.specs.List.{list_all}
 use Rattle.std.specs.Prelude.{IfOk, IsOk}
 use Rattle.zarrs_chunk.specs.Answer.{◌>>=◌, demand, checked_u64, Answers, AnswersBy, memory}
@@ -20,7 +20,7 @@ use Rattle.zarrs_chain_meaning.specs.PlainChain.{PlainCodec}
 use Rattle.zarrs_chain_meaning.specs.BytesStages.{in_memory}
 use Rattle.zarrs_chain_meaning.specs.Chain.{held_part, codec_held_value}
 use Rattle.zarrs_chain.specs.ChainView.{plain_chain, plain_optional, plain_optional_at}
-use Rattle.zarrs_chain_meaning.specs.optional.Optional.{optional_parts, optional_layout, optional_value, flag_type, blank_fill, both_representations}
+use Rattle.zarrs_chain_meaning.specs.optional.Optional.{optional_parts, optional_layout, optional_value, flag_type, blank_fill, bounded_total}
 use Rattle.zarrs_chain_meaning.specs.CodecMeaning.{chain_chunk, codec_chunk, chain_value, codec_value, chain_representation, codec_representation}
 use Rattle.zarrs_chain_meaning.specs.Parts.{byte_elements}
 use Rattle.zarrs_chain_meaning.specs.optional.OptionalParts.{optional_inner, present_part}
@@ -32,7 +32,7 @@ use Rattle.zarrs_chain_meaning.proofs.OptionalSteps.{representation_opened, repr
 
 pub representation_at : {B : Type 0} (f : BytesCodecs B) (codec : OptionalCodec B) (sizes : List ℕ) (type : ElementType) (fill : List ℕ)
     → codec_representation f (plain_optional codec) sizes type fill
-    ≡ optional_inner type >>= (λ inner. demand (fill_fits type fill) InvalidFillValue >>= (λ _. checked_u64 (product sizes) >>= (λ _. chain_representation f (plain_chain (out-OptionalCodec _ codec).mask_codecs.value) sizes flag_type (0 ∷ []) >>= (λ m. chain_representation f (plain_chain (out-OptionalCodec _ codec).data_codecs.value) sizes inner (blank_fill inner) >>= (λ d. ok (both_representations m d))))))
+    ≡ optional_inner type >>= (λ inner. demand (fill_fits type fill) InvalidFillValue >>= (λ _. checked_u64 (product sizes) >>= (λ _. chain_representation f (plain_chain (out-OptionalCodec _ codec).mask_codecs.value) sizes flag_type (0 ∷ []) >>= (λ m. chain_representation f (plain_chain (out-OptionalCodec _ codec).data_codecs.value) sizes inner (blank_fill inner) >>= (λ d. ok (bounded_total (λ mask content. 16 + mask + content) m d))))))
 representation_at f codec sizes type fill =
     ap (λ x. codec_representation f x sizes type fill) (plain_optional_at codec)
     ∙ representation_opened f (plain_chain (out-OptionalCodec _ codec).mask_codecs.value) (plain_chain (out-OptionalCodec _ codec).data_codecs.value) sizes type fill

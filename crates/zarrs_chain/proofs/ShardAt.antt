@@ -1,5 +1,5 @@
 -- A codec `sharding_indexed`, one level as the code opens it.
-use Rattle.std.proofs.Common.{◌≡◌, ℕ, ◌==◌, Bool, true, false, List, length, Result, Ok, Err, IsOk, ap, refl, sym, subst, ◌∙◌}
+use Rattle.std.proofs.Common.{◌≡◌, ℕ, ◌==◌, Bool, true, false, List, length, Result, Ok, Err, IsOk, ap, refl, sym, subst, ◌∙◌, ◌+◌, ◌*◌}
 use Rattle.zarrs_chunk.specs.Answer.{◌>>=◌, checked_u64, demand}
 use Rattle.zarrs_chunk.specs.ChunkShape.{product}
 use Rattle.zarrs_chunk.specs.declared.codec_error.CodecError.{CodecError}
@@ -17,7 +17,7 @@ use Rattle.zarrs_chain_meaning.specs.CodecMeaning.{meaning, chain_chunk, chain_r
 use Rattle.zarrs_chain_meaning.specs.PlainChain.{PlainChain, sharding_codec_of}
 use Rattle.zarrs_chain_meaning.specs.sharding.InnerChunks.{grid, is_divided}
 use Rattle.zarrs_chain_meaning.specs.sharding.ShardSteps.{divided_grid}
-use Rattle.zarrs_chain_meaning.specs.sharding.Sharding.{is_kept_as_fill, shard_bound, shard_chunk, shard_representation, shard_value}
+use Rattle.zarrs_chain_meaning.specs.sharding.Sharding.{is_kept_as_fill, shard_chunk, shard_representation, shard_value}
 use Rattle.zarrs_chain_meaning.specs.sharding.ShardingSettings.{is_index_at_end}
 use Rattle.zarrs_chain.specs.ChainView.{plain_chain, plain_codec, plain_sharding, plain_sharding_at}
 use Rattle.zarrs_chain.specs.declared.codec_chain.CodecChain.{CodecChain}
@@ -26,6 +26,8 @@ use Rattle.zarrs_chain.specs.sharding.ShardingCalls.{index_size_of, shard_repres
 use Rattle.zarrs_chain_meaning.proofs.Answered.{from_ok}
 use Rattle.zarrs_chain_meaning.proofs.ArraySteps.{next_answer}
 use Rattle.zarrs_chain_meaning.proofs.ChainSteps.{next_err}
+use Rattle.zarrs_chain_meaning.specs.optional.Optional.{bounded_total}
+use Rattle.zarrs_codec.specs.declared.bytes_representation.BytesRepresentation.TheVariants.{FixedSize}
 
 plain_representation : {B : Type 0} (f : BytesCodecs B) (inner index : PlainChain B) (shape : List ℕ) (at_end : Bool) (sizes : List ℕ) (type : ElementType) (fill : List ℕ)
     → codec_representation f (sharding_codec_of inner index shape at_end) sizes type fill ≡ shard_representation shape (codec_normal_element inner.array_to_bytes) (chain_representation f inner) (chain_representation f index) sizes type fill
@@ -87,7 +89,7 @@ abbrev pub represented_on : {B : Type 0} → BytesCodecs B → CodecChain B → 
 represented_on f inner index shape sizes type fill counts =
     checked_u64 (product sizes) >>= λ _. sizes_fit type (product sizes) >>= λ _. chain_representation f (plain_chain inner) shape type fill
     >>= λ r. demand (is_kept_as_fill (codec_normal_element (plain_codec inner.array_to_bytes)) type fill (fill_element type fill)) InvalidFillValue
-    >>= λ _. index_size_of f index counts >>= λ size. ok (shard_bound (product counts) r size)
+    >>= λ _. index_size_of f index counts >>= λ size. ok (bounded_total (λ inner index. product counts * inner + index) r (FixedSize size))
 
 grid_first : {A : Type 0} (same even : Bool) (counts : List ℕ) (rest : List ℕ → Result A CodecError)
     → (demand same IncompatibleDimensionality >>= λ _. demand even IndivisibleShape >>= λ _. rest counts)
@@ -124,4 +126,4 @@ pub index_refused_at : {B : Type 0} (f : BytesCodecs B) (codec : ShardingCodec B
 index_refused_at f codec sizes counts type fill n inner cause g c r e k i =
     represented_at f codec sizes type fill
     ∙ next_answer (divided_grid (out-ShardingCodec _ codec).chunk_shape sizes) counts (represented_on f (out-ShardingCodec _ codec).codecs.value (out-ShardingCodec _ codec).index_codecs.value (out-ShardingCodec _ codec).chunk_shape sizes type fill) g
-    ∙ rw (sym c, r, e, k) (next_err (index_size_of f (out-ShardingCodec _ codec).index_codecs.value counts) cause (λ size. ok (shard_bound (product counts) inner size)) i)
+    ∙ rw (sym c, r, e, k) (next_err (index_size_of f (out-ShardingCodec _ codec).index_codecs.value counts) cause (λ size. ok (bounded_total (λ inner index. product counts * inner + index) inner (FixedSize size))) i)

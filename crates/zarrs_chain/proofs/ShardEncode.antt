@@ -15,7 +15,7 @@ use Rattle.zarrs_chain_meaning.specs.BytesStages.{in_memory}
 use Rattle.zarrs_chain_meaning.specs.CodecMeaning.{chain_representation, chain_value, codec_normal_element, normal_form}
 use Rattle.zarrs_chain_meaning.specs.Meaning.{Encoder, Keeping}
 use Rattle.zarrs_chain_meaning.specs.sharding.InnerChunks.{grid, inner_chunk_count, inner_chunk_places, inner_chunks_of}
-use Rattle.zarrs_chain_meaning.specs.sharding.Sharding.{first_offset, index_numbers, index_shape, index_size, inner_value, inner_values, is_left_out, joined_values, missing, shard_layout, shard_value}
+use Rattle.zarrs_chain_meaning.specs.sharding.Sharding.{first_offset, index_numbers, index_shape, index_size, inner_value, is_left_out, joined_values, missing, shard_layout, shard_value}
 use Rattle.zarrs_chain_meaning.specs.vlen.Vlen.{is_same_bytes, offset_bytes, offset_elements, offset_type}
 use Rattle.zarrs_chain_meaning.proofs.ArraySteps.{ok_is, next_answer}
 use Rattle.zarrs_chain_meaning.proofs.ChainSteps.{next_err}
@@ -25,6 +25,7 @@ use Rattle.zarrs_chain.specs.ChainView.{plain_chain}
 use Rattle.zarrs_chain.specs.declared.codec_chain.CodecChain.{CodecChain}
 use Rattle.zarrs_chain.specs.sharding.ShardWalk.{inner_part, with_index, written_behind, written_with}
 use Rattle.zarrs_chain.specs.sharding.ShardingCalls.{shard_index_part}
+use Rattle.zarrs_chain_meaning.specs.Parts.{for_each}
 
 -- ---- one inner chunk
 
@@ -82,7 +83,7 @@ so_one front numbers (Some part) parts =
     λ i. (append_assoc front part (joined_values parts) i, rest i)
 
 pub written_values : {B : Type 0} (f : BytesCodecs B) (chain : CodecChain B) (shape : List ℕ) (type : ElementType) (fill : List ℕ) (inner_chunks : List Chunk) (front numbers : List ℕ)
-    → written_behind f chain shape type fill inner_chunks (front, numbers) ≡ seen (written_so front numbers) (inner_values (codec_normal_element (plain_chain chain).array_to_bytes) (chain_value f (plain_chain chain)) shape type fill inner_chunks)
+    → written_behind f chain shape type fill inner_chunks (front, numbers) ≡ seen (written_so front numbers) (for_each (λ inner_chunk. inner_value (is_left_out (codec_normal_element (plain_chain chain).array_to_bytes) type fill inner_chunk) (chain_value f (plain_chain chain) shape type fill inner_chunk)) inner_chunks)
 written_values f chain shape type fill [] front numbers = ap ok (λ i. (sym (append-nil front) i, sym (append-nil numbers) i))
 written_values f chain shape type fill (inner_chunk ∷ inner_chunks) front numbers =
     step (λ part. written_values f chain shape type fill inner_chunks (written_with (front, numbers) part).0 (written_with (front, numbers) part).1) (inner_part f chain shape type fill inner_chunk)
@@ -92,10 +93,10 @@ written_values f chain shape type fill (inner_chunk ∷ inner_chunks) front numb
     more (Err cause) part = refl
 
     step : ((part : Option (List ℕ)) → written_behind f chain shape type fill inner_chunks (written_with (front, numbers) part)
-        ≡ seen (written_so (written_with (front, numbers) part).0 (written_with (front, numbers) part).1) (inner_values (codec_normal_element (plain_chain chain).array_to_bytes) (chain_value f (plain_chain chain)) shape type fill inner_chunks))
+        ≡ seen (written_so (written_with (front, numbers) part).0 (written_with (front, numbers) part).1) (for_each (λ inner_chunk. inner_value (is_left_out (codec_normal_element (plain_chain chain).array_to_bytes) type fill inner_chunk) (chain_value f (plain_chain chain) shape type fill inner_chunk)) inner_chunks))
         → (r : Result (Option (List ℕ)) CodecError) → r >>= (λ part. written_behind f chain shape type fill inner_chunks (written_with (front, numbers) part))
-        ≡ seen (written_so front numbers) (r >>= λ part. inner_values (codec_normal_element (plain_chain chain).array_to_bytes) (chain_value f (plain_chain chain)) shape type fill inner_chunks >>= λ parts. ok (part ∷ parts))
-    step rest (Ok part) = rest part ∙ more (inner_values (codec_normal_element (plain_chain chain).array_to_bytes) (chain_value f (plain_chain chain)) shape type fill inner_chunks) part
+        ≡ seen (written_so front numbers) (r >>= λ part. for_each (λ inner_chunk. inner_value (is_left_out (codec_normal_element (plain_chain chain).array_to_bytes) type fill inner_chunk) (chain_value f (plain_chain chain) shape type fill inner_chunk)) inner_chunks >>= λ parts. ok (part ∷ parts))
+    step rest (Ok part) = rest part ∙ more (for_each (λ inner_chunk. inner_value (is_left_out (codec_normal_element (plain_chain chain).array_to_bytes) type fill inner_chunk) (chain_value f (plain_chain chain) shape type fill inner_chunk)) inner_chunks) part
     step rest (Err cause) = refl
 
 -- ---- the value
@@ -107,7 +108,7 @@ index_step (Err cause) d g = refl
 
 -- the value, where it is known how many bytes the index has, and what inner chunks are written
 value_so : {B : Type 0} (f : BytesCodecs B) (inner index : CodecChain B) (shape : List ℕ) (at_end : Bool) (sizes : List ℕ) (type : ElementType) (fill : List ℕ) (chunk : Chunk) (size : ℕ) (parts : List (Option (List ℕ)))
-    → index_size (chain_representation f (plain_chain index)) shape sizes ≡ Ok size → inner_values (codec_normal_element (plain_chain inner).array_to_bytes) (chain_value f (plain_chain inner)) shape type fill (inner_chunks_of shape sizes chunk) ≡ Ok parts
+    → index_size (chain_representation f (plain_chain index)) shape sizes ≡ Ok size → for_each (λ inner_chunk. inner_value (is_left_out (codec_normal_element (plain_chain inner).array_to_bytes) type fill inner_chunk) (chain_value f (plain_chain inner) shape type fill inner_chunk)) (inner_chunks_of shape sizes chunk) ≡ Ok parts
     → nat_lt (first_offset at_end size + length (joined_values parts)) (2 ^ 64) ≡ true
     → shard_value shape at_end (codec_normal_element (plain_chain inner).array_to_bytes) (codec_normal_element (plain_chain index).array_to_bytes) (chain_representation f (plain_chain index)) (chain_value f (plain_chain inner)) (chain_value f (plain_chain index)) sizes type fill chunk
     ≡ shard_index_part f index (index_numbers (first_offset at_end size) parts) (grid shape sizes) >>= (λ part. in_memory (shard_layout at_end part (joined_values parts)))
@@ -120,14 +121,14 @@ value_so f inner index shape at_end sizes type fill chunk size parts a b c =
 -- what was written of all inner chunks
 pub record AreWritten {B : Type 0} (f : BytesCodecs B) (chain : CodecChain B) (shape sizes : List ℕ) (type : ElementType) (fill : List ℕ) (chunk : Chunk) (at : ℕ) (bytes numbers : List ℕ) : Type 0 where
   pub parts : List (Option (List ℕ))
-  pub values : inner_values (codec_normal_element (plain_chain chain).array_to_bytes) (chain_value f (plain_chain chain)) shape type fill (inner_chunks_of shape sizes chunk) ≡ Ok parts
+  pub values : for_each (λ inner_chunk. inner_value (is_left_out (codec_normal_element (plain_chain chain).array_to_bytes) type fill inner_chunk) (chain_value f (plain_chain chain) shape type fill inner_chunk)) (inner_chunks_of shape sizes chunk) ≡ Ok parts
   pub bytes_are : replicate at 0 ++ joined_values parts ≡ bytes
   pub numbers_are : index_numbers at parts ≡ numbers
 
 pub are_written : {B : Type 0} (f : BytesCodecs B) (chain : CodecChain B) (shape sizes : List ℕ) (type : ElementType) (fill : List ℕ) (chunk : Chunk) (at : ℕ) (bytes numbers : List ℕ)
     → written_behind f chain shape type fill (inner_chunks_of shape sizes chunk) (replicate at 0, []) ≡ Ok (bytes, numbers) → AreWritten f chain shape sizes type fill chunk at bytes numbers
 are_written f chain shape sizes type fill chunk at bytes numbers e =
-    let found = seen_so (inner_values (codec_normal_element (plain_chain chain).array_to_bytes) (chain_value f (plain_chain chain)) shape type fill (inner_chunks_of shape sizes chunk)) (sym (written_values f chain shape type fill (inner_chunks_of shape sizes chunk) (replicate at 0) []) ∙ e) in
+    let found = seen_so (for_each (λ inner_chunk. inner_value (is_left_out (codec_normal_element (plain_chain chain).array_to_bytes) type fill inner_chunk) (chain_value f (plain_chain chain) shape type fill inner_chunk)) (inner_chunks_of shape sizes chunk)) (sym (written_values f chain shape type fill (inner_chunks_of shape sizes chunk) (replicate at 0) []) ∙ e) in
     record {
       parts = found.0;
       values = found.1;
@@ -141,9 +142,9 @@ are_written f chain shape sizes type fill chunk at bytes numbers e =
 
 pub not_written : {B : Type 0} (f : BytesCodecs B) (chain : CodecChain B) (shape sizes : List ℕ) (type : ElementType) (fill : List ℕ) (chunk : Chunk) (at : ℕ) (cause : CodecError)
     → written_behind f chain shape type fill (inner_chunks_of shape sizes chunk) (replicate at 0, []) ≡ Err cause
-    → inner_values (codec_normal_element (plain_chain chain).array_to_bytes) (chain_value f (plain_chain chain)) shape type fill (inner_chunks_of shape sizes chunk) ≡ Err cause
+    → for_each (λ inner_chunk. inner_value (is_left_out (codec_normal_element (plain_chain chain).array_to_bytes) type fill inner_chunk) (chain_value f (plain_chain chain) shape type fill inner_chunk)) (inner_chunks_of shape sizes chunk) ≡ Err cause
 not_written f chain shape sizes type fill chunk at cause e =
-    none (inner_values (codec_normal_element (plain_chain chain).array_to_bytes) (chain_value f (plain_chain chain)) shape type fill (inner_chunks_of shape sizes chunk)) (sym (written_values f chain shape type fill (inner_chunks_of shape sizes chunk) (replicate at 0) []) ∙ e)
+    none (for_each (λ inner_chunk. inner_value (is_left_out (codec_normal_element (plain_chain chain).array_to_bytes) type fill inner_chunk) (chain_value f (plain_chain chain) shape type fill inner_chunk)) (inner_chunks_of shape sizes chunk)) (sym (written_values f chain shape type fill (inner_chunks_of shape sizes chunk) (replicate at 0) []) ∙ e)
   where
     none : (r : Result (List (Option (List ℕ))) CodecError) → seen (written_so (replicate at 0) []) r ≡ Err cause → r ≡ Err cause
     none (Ok parts) e = absurd cc
@@ -190,11 +191,11 @@ pub inner_not_written : {B : Type 0} (f : BytesCodecs B) (inner index : CodecCha
 inner_not_written f inner index shape at_end sizes type fill chunk size cause sized e =
     rw (sized, not_written f inner shape sizes type fill chunk (first_offset at_end size) cause e) refl
 
-values_long : (keep : Keeping) (encode : Encoder) (shape : List ℕ) (type : ElementType) (fill : List ℕ) (inner_chunks : List Chunk) (parts : List (Option (List ℕ))) → inner_values keep encode shape type fill inner_chunks ≡ Ok parts → length parts ≡ length inner_chunks
+values_long : (keep : Keeping) (encode : Encoder) (shape : List ℕ) (type : ElementType) (fill : List ℕ) (inner_chunks : List Chunk) (parts : List (Option (List ℕ))) → for_each (λ inner_chunk. inner_value (is_left_out keep type fill inner_chunk) (encode shape type fill inner_chunk)) inner_chunks ≡ Ok parts → length parts ≡ length inner_chunks
 values_long keep encode shape type fill [] parts e = ap length (sym (ok_is [] parts e))
 values_long keep encode shape type fill (inner_chunk ∷ inner_chunks) parts e =
     let a = bind_ok (inner_value (is_left_out keep type fill inner_chunk) (encode shape type fill inner_chunk)) _ parts e in
-    let b = bind_ok (inner_values keep encode shape type fill inner_chunks) _ parts a.2 in
+    let b = bind_ok (for_each (λ inner_chunk. inner_value (is_left_out keep type fill inner_chunk) (encode shape type fill inner_chunk)) inner_chunks) _ parts a.2 in
     ap length (sym (ok_is (a.0 ∷ b.0) parts b.2)) ∙ ap suc (values_long keep encode shape type fill inner_chunks b.0 b.1)
 
 -- two numbers for each inner chunk

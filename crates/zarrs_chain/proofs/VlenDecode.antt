@@ -27,7 +27,7 @@ use Rattle.zarrs_array_bytes.proofs.ValidLemmas.{both_ok, fixed_fits}
 use Rattle.zarrs_bytes.specs.ByteOrder.{bytes_of}
 use Rattle.zarrs_codec.specs.BytesToBytesCodec.{BytesCodecs}
 use Rattle.zarrs_chain_meaning.specs.PlainChain.{PlainCodec, PlainChain, vlen_codec_of}
-use Rattle.zarrs_chain_meaning.specs.Meaning.{Decoder, part_chunk}
+use Rattle.zarrs_chain_meaning.specs.Meaning.{Decoder, in_a_row}
 use Rattle.zarrs_chain_meaning.specs.vlen.Vlen.{offsets_in_chunk, slices, vlen_value_parts, offset_bytes, offset_type, vlen_representation}
 use Rattle.zarrs_chain_meaning.specs.CodecMeaning.{codec_chunk, chain_chunk, codec_representation, meaning}
 use Rattle.zarrs_chain_meaning.specs.Parts.{all_bytes, byte_type}
@@ -45,11 +45,11 @@ use Rattle.zarrs_chain.proofs.ShardForms.{small_counted}
 
 -- the bytes, so many, that a data part stands for through a chain
 abbrev pub content_bytes : {B : Type 0} → BytesCodecs B → PlainChain B → ℕ → List ℕ → Result (List ℕ) CodecError
-content_bytes f chain count part = seen all_bytes (part_chunk (chain_chunk f chain) byte_type (0 ∷ []) count part)
+content_bytes f chain count part = seen all_bytes (in_a_row (Ok []) (λ sizes. chain_chunk f chain sizes byte_type (0 ∷ []) part) count)
 
 -- ---- rows through a chain
 
-some_chunk : (decode : Decoder) (type : ElementType) (fill : List ℕ) (count : ℕ) (part : List ℕ) → 0 < count → part_chunk decode type fill count part ≡ decode (count ∷ []) type fill part
+some_chunk : (decode : Decoder) (type : ElementType) (fill : List ℕ) (count : ℕ) (part : List ℕ) → 0 < count → in_a_row (Ok []) (λ sizes. decode sizes type fill part) count ≡ decode (count ∷ []) type fill part
 some_chunk decode type fill zero part l = absurd (omega arith)
 some_chunk decode type fill (suc count) part l = refl
 
@@ -63,10 +63,10 @@ fixed_there width components sign (masked inner mask) r error h e = let c = held
 
 -- the offsets that the bytes of a container spell are those of the index
 pub offsets_found : {B : Type 0} (f : BytesCodecs B) (chain : PlainChain B) (wide : Bool) (count : ℕ) (part : List ℕ) (held : Held) (raw : Raw) (numbers : List ℕ) → 0 < count
-    → IsOkAnd (part_chunk (chain_chunk f chain) (offset_type wide) (offset_bytes wide 0) count part) (Holds (offset_type wide) held) → fixed_part held ≡ Ok raw → numbers ≡ read_offsets wide raw.items
+    → IsOkAnd (in_a_row (Ok []) (λ sizes. chain_chunk f chain sizes (offset_type wide) (offset_bytes wide 0) part) count) (Holds (offset_type wide) held) → fixed_part held ≡ Ok raw → numbers ≡ read_offsets wide raw.items
     → index_offsets f chain wide count part ≡ offsets_of numbers
 offsets_found f chain wide count part held raw numbers some h is read =
-    let c = held_chunk (offset_type wide) held (part_chunk (chain_chunk f chain) (offset_type wide) (offset_bytes wide 0) count part) h in
+    let c = held_chunk (offset_type wide) held (in_a_row (Ok []) (λ sizes. chain_chunk f chain sizes (offset_type wide) (offset_bytes wide 0) part) count) h in
     let holds : Holds (offset_type wide) (flen raw) c.0 = subst (λ (x : Held). Holds (offset_type wide) x c.0) (fixed_held held raw is) c.2 in
     let same : offsets_in_chunk wide c.0 ≡ numbers = sym (read ∙ numbers_in wide raw c.0 holds) in
     let long : length numbers ≡ count = ap length (sym same) ∙ numbers_long wide c.0 ∙ part_long f chain (offset_type wide) (offset_bytes wide 0) count part c.0 c.1 in
@@ -86,18 +86,18 @@ bytes_in raw chunk h =
     ap all_bytes is ∙ flat_map-map bytes_of plain parts ∙ flat_map-concat (λ (part : List ℕ). part) parts ∙ ap concat (map-id parts) ∙ concat-pieces 1 count raw.items long
 
 pub content_found : {B : Type 0} (f : BytesCodecs B) (chain : PlainChain B) (count : ℕ) (part : List ℕ) (held : Held) (raw : Raw)
-    → IsOkAnd (part_chunk (chain_chunk f chain) byte_type (0 ∷ []) count part) (Holds byte_type held) → fixed_part held ≡ Ok raw
+    → IsOkAnd (in_a_row (Ok []) (λ sizes. chain_chunk f chain sizes byte_type (0 ∷ []) part) count) (Holds byte_type held) → fixed_part held ≡ Ok raw
     → content_bytes f chain count part ≡ Ok raw.items
 content_found f chain count part held raw h is =
-    let c = held_chunk byte_type held (part_chunk (chain_chunk f chain) byte_type (0 ∷ []) count part) h in
+    let c = held_chunk byte_type held (in_a_row (Ok []) (λ sizes. chain_chunk f chain sizes byte_type (0 ∷ []) part) count) h in
     let holds : Holds byte_type (flen raw) c.0 = subst (λ (x : Held). Holds byte_type x c.0) (fixed_held held raw is) c.2 in
     rw c.1 (ap ok (bytes_in raw c.0 holds))
 
 -- as many bytes as were asked for
 pub content_long : {B : Type 0} (f : BytesCodecs B) (chain : PlainChain B) (count : ℕ) (part : List ℕ) (held : Held) (raw : Raw)
-    → IsOkAnd (part_chunk (chain_chunk f chain) byte_type (0 ∷ []) count part) (Holds byte_type held) → fixed_part held ≡ Ok raw → length raw.items ≡ count
+    → IsOkAnd (in_a_row (Ok []) (λ sizes. chain_chunk f chain sizes byte_type (0 ∷ []) part) count) (Holds byte_type held) → fixed_part held ≡ Ok raw → length raw.items ≡ count
 content_long f chain count part held raw h is =
-    let c = held_chunk byte_type held (part_chunk (chain_chunk f chain) byte_type (0 ∷ []) count part) h in
+    let c = held_chunk byte_type held (in_a_row (Ok []) (λ sizes. chain_chunk f chain sizes byte_type (0 ∷ []) part) count) h in
     let holds : Holds byte_type (flen raw) c.0 = subst (λ (x : Held). Holds byte_type x c.0) (fixed_held held raw is) c.2 in
     let long : length raw.items ≡ length c.0 * 1 = fixed_fits InvalidBytesLength byte_type (length c.0) raw 1 (both_ok _ _ holds.valid).1 refl in
     omega (arith, long, part_long f chain byte_type (0 ∷ []) count part c.0 c.1)
@@ -136,7 +136,7 @@ read_is f codec index content wide at_end sizes type fill value e =
     let count = product sizes in
     ap (λ c. codec_chunk f c sizes type fill value) e
     ∙ bind_same (vlen_value_parts at_end value) _ _ (λ parts. bind_same (checked_u64 (count + 1)) _ _ (λ _.
-    rows_step wide (chain_chunk f index ((count + 1) ∷ []) (offset_type wide) (offset_bytes wide 0) parts.0) (λ n. part_chunk (chain_chunk f content) byte_type (0 ∷ []) n parts.1) count))
+    rows_step wide (chain_chunk f index ((count + 1) ∷ []) (offset_type wide) (offset_bytes wide 0) parts.0) (λ n. in_a_row (Ok []) (λ sizes. chain_chunk f content sizes byte_type (0 ∷ []) parts.1) n) count))
 
 bind_same_at : {A C : Type 0} (r : Result A CodecError) (f g : A → Result C CodecError) → ((x : A) → r ≡ Ok x → f x ≡ g x) → r >>= f ≡ r >>= g
 bind_same_at (Ok x) f g h = h x refl
@@ -193,17 +193,17 @@ zero_fits_at wide type fill t e =
 
 -- the bytes of the container of the data
 pub content_answered : {B X : Type 0} (view : X → Raw) (r : Result X CodecError) (f : BytesCodecs B) (chain : PlainChain B) (count : ℕ) (part : List ℕ) (held : Held) (fill : List ℕ) → ok (0 ∷ []) ≡ ok fill
-    → IsOkAnd (part_chunk (chain_chunk f chain) byte_type fill count part) (Holds byte_type held) → seen view r ≡ fixed_part held → Answers memory (λ x. (view x).items) r (content_bytes f chain count part)
+    → IsOkAnd (in_a_row (Ok []) (λ sizes. chain_chunk f chain sizes byte_type fill part) count) (Holds byte_type held) → seen view r ≡ fixed_part held → Answers memory (λ x. (view x).items) r (content_bytes f chain count part)
 content_answered view (Ok x) f chain count part held fill e h is =
-    let so = subst (λ (u : List ℕ). IsOkAnd (part_chunk (chain_chunk f chain) byte_type u count part) (Holds byte_type held)) (sym (ok_is (0 ∷ []) fill e)) h in
+    let so = subst (λ (u : List ℕ). IsOkAnd (in_a_row (Ok []) (λ sizes. chain_chunk f chain sizes byte_type u part) count) (Holds byte_type held)) (sym (ok_is (0 ∷ []) fill e)) h in
     content_found f chain count part held (view x) so (sym is)
 content_answered view (Err error) f chain count part held fill e h is =
-    absurd (fixed_there 8 1 false held (part_chunk (chain_chunk f chain) byte_type fill count part) error h (sym is))
+    absurd (fixed_there 8 1 false held (in_a_row (Ok []) (λ sizes. chain_chunk f chain sizes byte_type fill part) count) error h (sym is))
 
 pub content_counted : {B X : Type 0} (view : X → Raw) (r : Result X CodecError) (f : BytesCodecs B) (chain : PlainChain B) (count : ℕ) (part : List ℕ) (held : Held) (fill : List ℕ) → ok (0 ∷ []) ≡ ok fill
-    → IsOkAnd (part_chunk (chain_chunk f chain) byte_type fill count part) (Holds byte_type held) → seen view r ≡ fixed_part held → IfOk r (λ x. length (view x).items ≡ count)
+    → IsOkAnd (in_a_row (Ok []) (λ sizes. chain_chunk f chain sizes byte_type fill part) count) (Holds byte_type held) → seen view r ≡ fixed_part held → IfOk r (λ x. length (view x).items ≡ count)
 content_counted view (Ok x) f chain count part held fill e h is =
-    let so = subst (λ (u : List ℕ). IsOkAnd (part_chunk (chain_chunk f chain) byte_type u count part) (Holds byte_type held)) (sym (ok_is (0 ∷ []) fill e)) h in
+    let so = subst (λ (u : List ℕ). IsOkAnd (in_a_row (Ok []) (λ sizes. chain_chunk f chain sizes byte_type u part) count) (Holds byte_type held)) (sym (ok_is (0 ∷ []) fill e)) h in
     content_long f chain count part held (view x) so (sym is)
 content_counted view (Err error) f chain count part held fill e h is = tt
 
@@ -218,12 +218,12 @@ bytes_there (masked inner mask) items e = absurd cc
 
 -- the offsets of the container of the index
 pub offsets_answered : {B : Type 0} (r : Result (List ℕ) CodecError) (f : BytesCodecs B) (chain : PlainChain B) (wide : Bool) (count : ℕ) (part : List ℕ) (held : Held) (type : ElementType) (fill items numbers : List ℕ) → 0 < count → type ≡ offset_type wide → ok (offset_bytes wide 0) ≡ ok fill
-    → IsOkAnd (part_chunk (chain_chunk f chain) type fill count part) (Holds type held) → ok items ≡ seen (λ (raw : Raw). raw.items) (fixed_part held) → ok (read_offsets wide items) ≡ ok numbers → r ≡ offsets_of numbers
+    → IsOkAnd (in_a_row (Ok []) (λ sizes. chain_chunk f chain sizes type fill part) count) (Holds type held) → ok items ≡ seen (λ (raw : Raw). raw.items) (fixed_part held) → ok (read_offsets wide items) ≡ ok numbers → r ≡ offsets_of numbers
     → Answers memory (λ x. x) r (index_offsets f chain wide count part)
 offsets_answered r f chain wide count part held type fill items numbers some t e h is read made =
     let fill_so : offset_bytes wide 0 ≡ fill = ok_is (offset_bytes wide 0) fill e in
     let raw = bytes_there held items is in
-    let so = subst (λ (u : ElementType). IsOkAnd (part_chunk (chain_chunk f chain) u (offset_bytes wide 0) count part) (Holds u held)) t (subst (λ (u : List ℕ). IsOkAnd (part_chunk (chain_chunk f chain) type u count part) (Holds type held)) (sym fill_so) h) in
+    let so = subst (λ (u : ElementType). IsOkAnd (in_a_row (Ok []) (λ sizes. chain_chunk f chain sizes u (offset_bytes wide 0) part) count) (Holds u held)) t (subst (λ (u : List ℕ). IsOkAnd (in_a_row (Ok []) (λ sizes. chain_chunk f chain sizes type u part) count) (Holds type held)) (sym fill_so) h) in
     let numbers_so : numbers ≡ read_offsets wide raw.0.items = sym (ok_is (read_offsets wide items) numbers read) ∙ ap (read_offsets wide) raw.2 in
     same_answer r (index_offsets f chain wide count part) (made ∙ sym (offsets_found f chain wide count part held raw.0 numbers some so raw.1 numbers_so))
 

@@ -39,7 +39,7 @@ use Rattle.zarrs_chain_meaning.specs.ArrayStages.{arrays_map}
 use Rattle.zarrs_chain_meaning.specs.BytesStages.{in_memory}
 use Rattle.zarrs_chain_meaning.specs.Chain.{codec_held_value, held_part}
 use Rattle.zarrs_chain_meaning.specs.vlen.Vlen.{slices, chunk_offsets, offset_bytes, offset_fits, offset_elements, is_same_bytes, vlen_value, offset_type, vlen_representation, arranged}
-use Rattle.zarrs_chain_meaning.specs.Meaning.{Encoder, part_value, around_representation, Keeping}
+use Rattle.zarrs_chain_meaning.specs.Meaning.{Encoder, around_representation, Keeping, in_a_row}
 use Rattle.zarrs_chain_meaning.specs.Parts.{byte_elements, all_bytes, byte_type, part_length_bytes}
 use Rattle.zarrs_chain_meaning.specs.CodecMeaning.{codec_value, chain_value, codec_normal_element, codec_representation, chain_representation, meaning}
 use Rattle.zarrs_chain_meaning.specs.Laws.{IsChainOfMappings}
@@ -59,7 +59,7 @@ use Rattle.zarrs_chain_meaning.specs.declared.codec_name.TheConstants.{VLEN}
 
 -- the data part of bytes through a chain
 abbrev pub content_part : {B : Type 0} → BytesCodecs B → PlainChain B → List ℕ → Result (List ℕ) CodecError
-content_part f chain items = part_value (chain_value f chain) byte_type (0 ∷ []) (byte_elements items)
+content_part f chain items = in_a_row (Ok []) (λ sizes. chain_value f chain sizes byte_type (0 ∷ []) (byte_elements items)) (length (byte_elements items))
 
 -- ---- elements of any length in a container
 
@@ -119,7 +119,7 @@ vlen_from wide at_end keep index content offsets all = do
   _ ← demand (offset_fits wide (length items)) OffsetTooLarge
   part ← index (length rows ∷ []) (offset_type wide) (offset_bytes wide 0) rows
   _ ← demand (is_same_bytes (map (keep (offset_type wide)) rows) rows) OffsetNotKept
-  data_part ← part_value content byte_type (0 ∷ []) (byte_elements items)
+  data_part ← in_a_row (Ok []) (λ sizes. content sizes byte_type (0 ∷ []) (byte_elements items)) (length (byte_elements items))
   in_memory (arranged at_end (part_length_bytes part) part data_part)
 
 last_steps : (r : Result (List ℕ) CodecError) (kept : Bool) (content : Result (List ℕ) CodecError) (join : List ℕ → List ℕ → Result (List ℕ) CodecError)
@@ -147,7 +147,7 @@ vlen_value_is f index content wide at_end offsets items count r small =
     let long : length (drop first items) ≡ last_of offsets - first = length-drop first items ∙ ap (λ n. n - first) (sym r.ending) in
     let memory_is : in_memory (drop first items) ≡ Ok (drop first items) = memory_so (drop first items) (omega (arith, length-drop first items)) in
     (λ i. vlen_from wide at_end (codec_normal_element index.array_to_bytes) (chain_value f index) (chain_value f content) (whole_offsets offsets items count r i) (whole_bytes offsets items count r i))
-    ∙ next_answer (in_memory (drop first items)) (drop first items) (λ all. demand (offset_fits wide (length all)) OffsetTooLarge >>= λ _. chain_value f index (length rows ∷ []) (offset_type wide) (offset_bytes wide 0) rows >>= λ part. demand (is_same_bytes (map (codec_normal_element index.array_to_bytes (offset_type wide)) rows) rows) OffsetNotKept >>= λ _. part_value (chain_value f content) byte_type (0 ∷ []) (byte_elements all) >>= λ d. in_memory (arranged at_end (part_length_bytes part) part d)) memory_is
+    ∙ next_answer (in_memory (drop first items)) (drop first items) (λ all. demand (offset_fits wide (length all)) OffsetTooLarge >>= λ _. chain_value f index (length rows ∷ []) (offset_type wide) (offset_bytes wide 0) rows >>= λ part. demand (is_same_bytes (map (codec_normal_element index.array_to_bytes (offset_type wide)) rows) rows) OffsetNotKept >>= λ _. in_a_row (Ok []) (λ sizes. chain_value f content sizes byte_type (0 ∷ []) (byte_elements all)) (length (byte_elements all)) >>= λ d. in_memory (arranged at_end (part_length_bytes part) part d)) memory_is
     ∙ ap (λ n. demand (offset_fits wide n) OffsetTooLarge >>= λ _. chain_value f index (length rows ∷ []) (offset_type wide) (offset_bytes wide 0) rows >>= λ part. demand (is_same_bytes (map (codec_normal_element index.array_to_bytes (offset_type wide)) rows) rows) OffsetNotKept >>= λ _. content_part f content (drop first items) >>= λ d. in_memory (arranged at_end (part_length_bytes part) part d)) long
     ∙ all_steps (offsets_fit wide offsets) rows (λ r. chain_value f index (length r ∷ []) (offset_type wide) (offset_bytes wide 0) r) (keeps_offsets index.array_to_bytes wide offsets) (content_part f content (drop first items)) (λ part d. in_memory (arranged at_end (part_length_bytes part) part d))
 
@@ -177,11 +177,11 @@ held_is f codec index content wide at_end sizes type fill raw offsets e t =
 
 -- ---- the elements of a row through a chain
 
-pub part_is : {B : Type 0} (f : BytesCodecs B) (chain : PlainChain B) (type : ElementType) (fill : List ℕ) (held : Held) (chunk : Chunk) → Holds type held chunk → held_part f chain (length chunk) type fill held ≡ part_value (chain_value f chain) type fill chunk
+pub part_is : {B : Type 0} (f : BytesCodecs B) (chain : PlainChain B) (type : ElementType) (fill : List ℕ) (held : Held) (chunk : Chunk) → Holds type held chunk → held_part f chain (length chunk) type fill held ≡ in_a_row (Ok []) (λ sizes. chain_value f chain sizes type fill chunk) (length chunk)
 part_is f chain type fill held [] h = refl
 part_is f chain type fill held (x ∷ chunk) h = held_value_is f chain (suc (length chunk) ∷ []) type fill held (x ∷ chunk) h (omega arith)
 
-pub some_part : (encode : Encoder) (type : ElementType) (fill : List ℕ) (chunk : Chunk) → 0 < length chunk → part_value encode type fill chunk ≡ encode (length chunk ∷ []) type fill chunk
+pub some_part : (encode : Encoder) (type : ElementType) (fill : List ℕ) (chunk : Chunk) → 0 < length chunk → in_a_row (Ok []) (λ sizes. encode sizes type fill chunk) (length chunk) ≡ encode (length chunk ∷ []) type fill chunk
 some_part encode type fill [] l = absurd (omega arith)
 some_part encode type fill (x ∷ chunk) l = refl
 

@@ -1,13 +1,12 @@
 -- Whether a codec `packbits` gives elements back unchanged.
 use Rattle.zarrs_data_type.specs.Form.{form_of}
-use Rattle.std.proofs.Common.{◌≡◌, ℕ, zero, suc, ◌+◌, ◌*◌, ◌<◌, ◌^◌, nat_eq, ◌&&◌, Bool, true, false, List, [], ◌∷◌, ◌++◌, length, map, take, drop, Option, Some, Result, Ok, Err, IsOk, arith, refl, ap, sym, subst, ◌∙◌}
+use Rattle.std.proofs.Common.{◌≡◌, ℕ, zero, suc, ◌+◌, ◌*◌, ◌<◌, ◌^◌, nat_eq, ◌&&◌, Bool, true, false, List, [], ◌∷◌, ◌++◌, length, map, take, drop, Some, Result, Ok, Err, IsOk, arith, refl, ap, sym, subst, ◌∙◌}
 use Rattle.std.specs.Cmp.Lexicographic.{pointwise}
 use Rattle.std.proofs.lemmas.List.{take-append-drop, length-drop, length-take, length-map, nil_from_length}
 use Rattle.zarrs_chunk.specs.Answer.{Answers, AnswersBy, memory, seen}
 use Rattle.zarrs_chunk.specs.ChunkShape.{product}
 use Rattle.zarrs_chunk.specs.declared.codec_error.CodecError.{CodecError}
 use Rattle.zarrs_chunk.specs.declared.codec_error.CodecError.TheVariants.{InvalidBytesLength, ArrayBytesKind}
-use Rattle.zarrs_data_type.specs.declared.endianness.Endianness.{Endianness}
 use Rattle.zarrs_data_type.specs.Element.{Element, plain, Chunk}
 use Rattle.zarrs_data_type.specs.ElementType.{ElementType, fixed, text, bytes, optional, element_size}
 use Rattle.zarrs_array_bytes.specs.Elements.{elements}
@@ -23,16 +22,13 @@ use Rattle.zarrs_packbits.specs.NormalForm as packbits
 use Rattle.zarrs_packbits.specs.PackBitsCodec.{PackBitsStands, PackBitsWritten}
 use Rattle.zarrs_packbits.specs.PackBitsSettings.{PackBitsSettings, packed_layout}
 use Rattle.zarrs_packbits.proofs.CodecLaws.{written_stands}
-use Rattle.zarrs_vlen_v2.specs.declared.vlen_v2_codec.VlenV2Codec.{VlenV2Codec}
 use Rattle.zarrs_chain_meaning.specs.vlen.Vlen.{is_same_bytes, offset_bytes, offset_elements, offset_type}
 use Rattle.zarrs_chain_meaning.specs.CodecMeaning.{meaning, codec_normal_element, normal_form}
-use Rattle.zarrs_chain.specs.ChainView.{plain_codec, plain_vlen_at, plain_optional_at}
-use Rattle.zarrs_chain_meaning.specs.PlainChain.{PlainChain, PlainCodec, bytes_codec, packbits_codec, vlen_v2_codec, vlen_codec_of, optional_codec_of}
+use Rattle.zarrs_chain.specs.ChainView.{plain_codec}
+use Rattle.zarrs_chain_meaning.specs.PlainChain.{PlainCodec, packbits_codec}
 use Rattle.zarrs_chain_meaning.specs.vlen.VlenSteps.{lent_bytes, written_offsets, keeps_offsets, TakesOffsets}
 use Rattle.zarrs_chain.specs.declared.array_to_bytes_codec.ArrayToBytesCodec.{ArrayToBytesCodec}
-use Rattle.zarrs_chain.specs.declared.array_to_bytes_codec.ArrayToBytesCodec.TheVariants.{Bytes, PackBits, VlenV2, Vlen, Optional}
-use Rattle.zarrs_chain.specs.declared.optional.optional_codec.OptionalCodec.{OptionalCodec}
-use Rattle.zarrs_chain.specs.declared.vlen.vlen_codec.VlenCodec.{VlenCodec}
+use Rattle.zarrs_chain.specs.declared.array_to_bytes_codec.ArrayToBytesCodec.TheVariants.{PackBits}
 use Rattle.zarrs_chain.specs.sharding.ShardingCalls.{KeepsAll}
 use Rattle.zarrs_chain_meaning.specs.Chain.{row_sizes}
 use Rattle.zarrs_chain_meaning.proofs.VlenOffsets.{index_holds, elements_long}
@@ -128,40 +124,6 @@ all_kept : (keep : Element → Element) (chunk : Chunk) → ((element : Element)
 all_kept keep chunk same = ap (λ (c : Chunk). is_same_bytes c chunk) (map_same keep chunk same) ∙ same_bytes chunk
 
 -- only `packbits` may change a number
-kept_by_bytes : (B : Type 0) (order : Option Endianness) (wide : Bool) (offsets : List ℕ) → keeps_offsets {B = B} (bytes_codec order) wide offsets ≡ true
-unfolding meaning
-kept_by_bytes B order wide offsets = all_kept (λ element. element) (offset_elements wide (from_first offsets)) (λ element. refl)
-
-kept_by_vlen_v2 : (B : Type 0) (codec : VlenV2Codec) (wide : Bool) (offsets : List ℕ) → keeps_offsets {B = B} (vlen_v2_codec codec) wide offsets ≡ true
-unfolding meaning
-kept_by_vlen_v2 B codec wide offsets = all_kept (λ element. element) (offset_elements wide (from_first offsets)) (λ element. refl)
-
-kept_by_vlen : {B : Type 0} (index content : PlainChain B) (w at_end : Bool) (wide : Bool) (offsets : List ℕ) → keeps_offsets (vlen_codec_of index content w at_end) wide offsets ≡ true
-unfolding meaning
-kept_by_vlen index content w at_end wide offsets = all_kept _ (offset_elements wide (from_first offsets)) (λ element. refl)
-
-kept_by_optional : {B : Type 0} (mask content : PlainChain B) (wide : Bool) (offsets : List ℕ) → keeps_offsets (optional_codec_of mask content) wide offsets ≡ true
-unfolding meaning
-kept_by_optional mask content wide offsets = all_kept _ (offset_elements wide (from_first offsets)) (λ element. refl)
-
-pub bytes_keep : {B : Type 0} (codec : ArrayToBytesCodec B) (order : Option Endianness) (wide : Bool) (offsets : List ℕ) → codec ≡ Bytes order → keeps_offsets (plain_codec codec) wide offsets ≡ true
-unfolding plain_codec
-bytes_keep {B} codec order wide offsets e = ap (λ c. keeps_offsets (plain_codec c) wide offsets) e ∙ kept_by_bytes B order wide offsets
-
-pub vlen_v2_keeps : {B : Type 0} (codec : ArrayToBytesCodec B) (inner : VlenV2Codec) (wide : Bool) (offsets : List ℕ) → codec ≡ VlenV2 inner → keeps_offsets (plain_codec codec) wide offsets ≡ true
-unfolding plain_codec
-vlen_v2_keeps {B} codec inner wide offsets e = ap (λ c. keeps_offsets (plain_codec c) wide offsets) e ∙ kept_by_vlen_v2 B inner wide offsets
-
-pub vlen_keeps : {B : Type 0} (codec : ArrayToBytesCodec B) (inner : VlenCodec B) (wide : Bool) (offsets : List ℕ) → codec ≡ Vlen inner → keeps_offsets (plain_codec codec) wide offsets ≡ true
-unfolding plain_codec
-vlen_keeps codec inner wide offsets e =
-    ap (λ c. keeps_offsets (plain_codec c) wide offsets) e ∙ ap (λ p. keeps_offsets p wide offsets) (plain_vlen_at inner) ∙ kept_by_vlen _ _ _ _ wide offsets
-
-pub optional_keeps : {B : Type 0} (codec : ArrayToBytesCodec B) (inner : OptionalCodec B) (wide : Bool) (offsets : List ℕ) → codec ≡ Optional inner → keeps_offsets (plain_codec codec) wide offsets ≡ true
-unfolding plain_codec
-optional_keeps codec inner wide offsets e =
-    ap (λ c. keeps_offsets (plain_codec c) wide offsets) e ∙ ap (λ p. keeps_offsets p wide offsets) (plain_optional_at inner) ∙ kept_by_optional _ _ wide offsets
-
 pub packed_keeps : {B : Type 0} (codec : ArrayToBytesCodec B) (settings : PackBitsSettings) (wide : Bool) (offsets : List ℕ) → codec ≡ PackBits settings → keeps_offsets (plain_codec codec) wide offsets ≡ keeps_offsets {B = ℕ} (packbits_codec settings) wide offsets
 unfolding plain_codec meaning
 packed_keeps codec settings wide offsets e = ap (λ c. keeps_offsets (plain_codec c) wide offsets) e

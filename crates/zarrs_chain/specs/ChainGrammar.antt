@@ -6,16 +6,16 @@ use Rattle.zarrs_data_type.specs.Form.{Form}
 use Rattle.zarrs_codec.specs.BytesToBytesCodec.{BytesCodecs}
 use Rattle.zarrs_codec.specs.Grammar.{Grammar}
 use Rattle.zarrs_chain_meaning.specs.Chain.{codec_held_value, held_value, taken_chunk}
-use Rattle.zarrs_chain_meaning.specs.CodecMeaning.{chain_chunk, codec_representation, ChainStands, CodecStands, ChainWritten, CodecWritten}
+use Rattle.zarrs_chain_meaning.specs.CodecMeaning.{codec_representation, CodecStands, CodecWritten, chain_meaning}
 use Rattle.zarrs_chain_meaning.specs.PlainChain.{PlainChain, PlainCodec}
 
 -- what a chain states of chunks: for which a value stands, which value is written, what calls answer
 abbrev pub chain_grammar : {B : Type 0} → BytesCodecs B → PlainChain B → Grammar
 chain_grammar f chain = record {
-  Stands = λ form. ChainStands f chain form.sizes form.type form.fill;
-  Written = λ form. ChainWritten f chain form.sizes form.type form.fill;
+  Stands = λ form. (chain_meaning chain).Stands f form.sizes form.type form.fill;
+  Written = λ form. (chain_meaning chain).Written f form.sizes form.type form.fill;
   value = λ form. held_value f chain form.sizes form.type form.fill;
-  chunk = λ form. chain_chunk f chain form.sizes form.type form.fill;
+  chunk = λ form. (chain_meaning chain).chunk f form.sizes form.type form.fill;
 }
 
 -- The codec takes such chunks, and the value stands for this one.

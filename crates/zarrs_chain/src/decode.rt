@@ -3,13 +3,13 @@ ghost use Rattle.zarrs_chunk.specs.Answer.{GivesBy};
 ghost use Rattle.zarrs_array_bytes.specs.Held.{items_of};
 ghost use Rattle.zarrs_array_bytes.specs.Tight.{IsTight};
 ghost use Rattle.zarrs_array_bytes.specs.Validity.{Holds};
-ghost use Rattle.std.specs.Prelude.{◌≡◌, IfOk, true};
+ghost use Rattle.std.specs.Prelude.{◌≡◌, IfOk, true, Ok, []};
 ghost use Rattle.zarrs_data_type.specs.FillValue.{fill_fits};
 ghost use Rattle.zarrs_bytes.specs.GivenBytes.{HoldsGiven};
 ghost use Rattle.zarrs_chain_meaning.specs.CodecMeaning.{chain_chunk};
 ghost use Rattle.zarrs_chain_meaning.specs.KeptBytes.{KeepsBytes};
-ghost use Rattle.zarrs_chain_meaning.specs.Meaning.{part_chunk};
 ghost use Rattle.zarrs_chain.specs.ChainView.{plain_chain};
+ghost use Rattle.zarrs_chain_meaning.specs.Meaning.{in_a_row};
 
 use crate::array_to_bytes_codec::{ArrayToBytesCodec, codec_decode};
 use crate::bytes_decode::bytes_decode;
@@ -76,8 +76,8 @@ pub(crate) fn part_decode<'a, B: BytesToBytesCodecTraits>(
     fill: &FillValue,
 ) -> Result<ArrayBytes<'a>, CodecError>
     requires filling { fill_fits kind.now fill.now ≡ true }
-    ensures exact { GivesBy (Holds kind.now) result (part_chunk (chain_chunk B.functions
-        (plain_chain chain.now)) kind.now fill.now count (items_of part.entry)) }
+    ensures exact { GivesBy (Holds kind.now) result (in_a_row (Ok []) (λ sizes. chain_chunk B.functions
+        (plain_chain chain.now) sizes kind.now fill.now (items_of part.entry)) count) }
     ensures tight { IfOk result (IsTight kind.now) }
 {
     match row_of(alloc, count)? {

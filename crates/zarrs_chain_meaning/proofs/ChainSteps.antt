@@ -30,7 +30,7 @@ use Rattle.zarrs_chain_meaning.specs.Chain.{taken_form, codec_held_value, held_v
 use Rattle.zarrs_chain_meaning.specs.vlen.Vlen.{offset_bytes, offsets_in_chunk, slices, vlen_value_parts, vlen_chunk, offset_type}
 use Rattle.zarrs_chain_meaning.specs.Parts.{all_bytes, byte_type, for_each}
 use Rattle.zarrs_chain_meaning.specs.CodecMeaning.{codec_value, codec_chunk, chain_chunk, chain_value, codec_representation, chain_representation}
-use Rattle.zarrs_chain_meaning.specs.Meaning.{Decoder, part_chunk, around_chunk, Measure}
+use Rattle.zarrs_chain_meaning.specs.Meaning.{Decoder, around_chunk, Measure, in_a_row}
 use Rattle.zarrs_chain_meaning.specs.optional.Optional.{optional_parts, flag_in, under_flags, optional_chunk, flag_type, blank_fill}
 use Rattle.zarrs_chain_meaning.proofs.NestedParts.{length_under}
 use Rattle.zarrs_bytes.proofs.Coding.{ok, bind_ok}
@@ -236,7 +236,7 @@ vlen_long wide at_end index content count value chunk e =
     let rows = bind_ok (index ((count + 1) ∷ []) (offset_type wide) (offset_bytes wide 0) parts.0.0) _ chunk more.2 in
     let offsets = offsets_in_chunk wide rows.0 in
     let rising = bind_ok (demand (rises offsets) InvalidOffsets) _ chunk rows.2 in
-    let items = bind_ok (part_chunk content byte_type (0 ∷ []) (last_of offsets) parts.0.1) _ chunk rising.2 in
+    let items = bind_ok (in_a_row (Ok []) (λ sizes. content sizes byte_type (0 ∷ []) parts.0.1) (last_of offsets)) _ chunk rising.2 in
     ap length (sym (ok_is (slices count offsets (all_bytes items.0)) chunk items.2)) ∙ length-map-range_with_len (λ place. plain (cut offsets (all_bytes items.0) place)) 0 count
 
 pub optional_long : (mask content : Decoder) (sizes : List ℕ) (type : ElementType) (value : List ℕ) (chunk : Chunk) → ((part : List ℕ) (flags : Chunk) → mask sizes flag_type (0 ∷ []) part ≡ Ok flags → length flags ≡ product sizes)
@@ -245,7 +245,7 @@ optional_long mask content sizes type value chunk long e =
     let parts = bind_ok (optional_parts value) _ chunk e in
     let flags = bind_ok (mask sizes flag_type (0 ∷ []) parts.0.0) _ chunk parts.2 in
     let bits = bind_ok (for_each flag_in flags.0) _ chunk flags.2 in
-    let items = bind_ok (part_chunk content type (blank_fill type) (count_set bits.0) parts.0.1) _ chunk bits.2 in
+    let items = bind_ok (in_a_row (Ok []) (λ sizes. content sizes type (blank_fill type) parts.0.1) (count_set bits.0)) _ chunk bits.2 in
     ap length (sym (ok_is (under_flags bits.0 items.0) chunk items.2)) ∙ length_under bits.0 items.0 ∙ flags_long flags.0 bits.0 bits.1 ∙ long parts.0.0 flags.0 flags.1
 
 pub held_chunk : (type : ElementType) (held : Held) (r : Result Chunk CodecError) → AnswersBy memory (Holds type) (Ok held) r → (chunk : Chunk) × (r ≡ Ok chunk) × Holds type held chunk

@@ -1,9 +1,9 @@
 -- The chains inside a chain are made as the chain itself.
-use Rattle.std.proofs.Common.{◌≡◌, ◌∙◌, ℕ, zero, suc, ◌<◌, ◌≤◌, List, [], ◌∷◌, Ok, Err, Option, Some, None, IfOk, refl, ap, arith}
+use Rattle.std.proofs.Common.{◌≡◌, ◌∙◌, ℕ, zero, suc, ◌<◌, ◌≤◌, List, [], ◌∷◌, Ok, Err, Option, Some, IfOk, refl, ap, arith}
 use Rattle.std.specs.Prelude.{Result}
 use Rattle.zarrs_chunk.specs.Answer.{◌>>=◌, seen}
 use Rattle.zarrs_chain_meaning.specs.declared.codec_name.KnownCodec.{KnownCodec}
-use Rattle.zarrs_chain_meaning.specs.declared.codec_name.KnownCodec.TheVariants.{Transpose, Reshape, Squeeze, Bytes, PackBits, VlenV2, Vlen, Optional, Sharding}
+use Rattle.zarrs_chain_meaning.specs.declared.codec_name.KnownCodec.TheVariants.{Vlen, Optional, Sharding}
 use Rattle.zarrs_metadata.specs.CodecMetadata.{made_of}
 use Rattle.zarrs_metadata.specs.Metadata.{Metadata}
 use Rattle.zarrs_metadata.specs.OptionalConfiguration.{OptionalChains, read_optional}
@@ -53,19 +53,13 @@ below : {B : Type 0} (f g : List Metadata → Result (PlainChain B) PluginCreate
 below f g depth bound le alike = λ xs h. alike xs (omega (arith, h, le))
 
 named-alike : {B : Type 0} (f g : List Metadata → Result (PlainChain B) PluginCreateError) (makes : Metadata → Result (Option B) PluginCreateError) (m : Metadata) → AreAlike f g (depth_of m) → (name : Option KnownCodec) → made_by_name name f makes m ≡ made_by_name name g makes m
-named-alike f g makes m alike (Some Transpose) = refl
-named-alike f g makes m alike (Some Reshape) = refl
-named-alike f g makes m alike (Some Squeeze) = refl
-named-alike f g makes m alike (Some Bytes) = refl
-named-alike f g makes m alike (Some PackBits) = refl
-named-alike f g makes m alike (Some VlenV2) = refl
 named-alike f g makes m alike (Some Vlen) =
     ap (λ r. seen to_bytes_made r) (same_steps (made_of is_vlen_name read_vlen m) (vlen_of_parts f) (vlen_of_parts g) (weaker (made_of is_vlen_name read_vlen m) (VlenWithin (depth_of m)) (λ parts. vlen_of_parts f parts ≡ vlen_of_parts g parts) (parts-alike f g (depth_of m) alike) (vlen_within m)))
 named-alike f g makes m alike (Some Optional) =
     ap (λ r. seen to_bytes_made r) (same_steps (made_of is_optional_name read_optional m) (optional_of_chains f) (optional_of_chains g) (weaker (made_of is_optional_name read_optional m) (OptionalWithin (depth_of m)) (λ chains. optional_of_chains f chains ≡ optional_of_chains g chains) (chains-alike f g (depth_of m) alike) (optional_within m)))
 named-alike f g makes m alike (Some Sharding) =
     ap (λ r. seen to_bytes_made r) (same_steps (made_of is_sharding_name read_sharding m) (sharding_of_parts f) (sharding_of_parts g) (weaker (made_of is_sharding_name read_sharding m) (ShardingWithin (depth_of m)) (λ parts. sharding_of_parts f parts ≡ sharding_of_parts g parts) (inner-alike f g (depth_of m) alike) (sharding_within m)))
-named-alike f g makes m alike None = refl
+named-alike f g makes m alike name = refl
 
 gathered-alike : {B : Type 0} (f g : List Metadata → Result (PlainChain B) PluginCreateError) (makes : Metadata → Result (Option B) PluginCreateError) (bound : ℕ) → AreAlike f g bound → (ms : List Metadata) (so_far : Gathered B) → depth_all ms ≤ bound → gathered f makes ms so_far ≡ gathered g makes ms so_far
 gathered-alike f g makes bound alike [] so_far within = refl

@@ -8,8 +8,8 @@ use Rattle.serde_json.specs.Data.{Members}
 use Rattle.serde_json.specs.Find.{as_array, get_member}
 use Rattle.zarrs_chunk.specs.Answer.{demand, seen}
 use Rattle.zarrs_chain_meaning.specs.declared.codec_name.KnownCodec.{KnownCodec}
-use Rattle.zarrs_chain_meaning.specs.declared.codec_name.KnownCodec.TheVariants.{Transpose, Reshape, Squeeze, Bytes, PackBits, VlenV2, Vlen, Optional, Sharding}
-use Rattle.zarrs_metadata.specs.CodecMetadata.{members_of, is_transpose_name, transpose_made, is_reshape_name, reshape_made, squeeze_made, bytes_made}
+use Rattle.zarrs_chain_meaning.specs.declared.codec_name.KnownCodec.TheVariants.{Transpose, Reshape, Squeeze}
+use Rattle.zarrs_metadata.specs.CodecMetadata.{members_of, is_transpose_name, transpose_made, is_reshape_name, reshape_made, squeeze_made}
 use Rattle.zarrs_metadata.specs.Dims.{Dim, autos, has_no_zero, is_reshape}
 use Rattle.zarrs_metadata.specs.Metadata.{Metadata}
 use Rattle.zarrs_metadata.specs.Orders.{is_order}
@@ -23,11 +23,9 @@ use Rattle.zarrs_metadata.specs.declared.plugin_create_error.PluginCreateError.T
 use Rattle.zarrs_array_to_array.specs.ArrayToArrayCodec.{ArrayMapping, transpose, reshape, squeeze, IsMapping}
 use Rattle.zarrs_array_to_array.specs.MappingMetadata.{mapping_made}
 use Rattle.zarrs_array_to_array.proofs.AnswerSteps.{step_ok}
-use Rattle.zarrs_packbits.specs.SettingsMetadata.{settings_made}
-use Rattle.zarrs_vlen_v2.specs.VlenV2Metadata.{vlen_v2_made}
 use Rattle.zarrs_chain_meaning.specs.CodecNames.{codec_named}
-use Rattle.zarrs_chain_meaning.specs.MadeChain.{CodecMade, array_made, to_bytes_made, outer_made, Gathered, vlen_made_by, optional_made_by, sharding_made_by, asked_maker, made_by_name, codec_made, with_codec, joined, gathered, finished, nothing_gathered, depth_all, chain_in, chain_made}
-use Rattle.zarrs_chain_meaning.specs.PlainChain.{PlainChain, PlainCodec, bytes_codec, packbits_codec, vlen_v2_codec}
+use Rattle.zarrs_chain_meaning.specs.MadeChain.{CodecMade, array_made, to_bytes_made, outer_made, Gathered, asked_maker, made_by_name, codec_made, with_codec, joined, gathered, finished, nothing_gathered, depth_all, chain_in, chain_made}
+use Rattle.zarrs_chain_meaning.specs.PlainChain.{PlainChain, PlainCodec}
 
 -- ---- steps
 
@@ -102,13 +100,8 @@ module _ {B : Type 0} (inside : List Metadata → Result (PlainChain B) PluginCr
   named_is metadata made (Some Transpose) e = array_is (mapping_made metadata) made (made_is metadata) e
   named_is metadata made (Some Reshape) e = array_is (mapping_made metadata) made (made_is metadata) e
   named_is metadata made (Some Squeeze) e = array_is (mapping_made metadata) made (made_is metadata) e
-  named_is metadata made (Some Bytes) e = to_bytes_is bytes_codec (bytes_made metadata) made e
-  named_is metadata made (Some PackBits) e = to_bytes_is packbits_codec (settings_made metadata) made e
-  named_is metadata made (Some VlenV2) e = to_bytes_is vlen_v2_codec (vlen_v2_made metadata) made e
-  named_is metadata made (Some Vlen) e = to_bytes_is (λ codec. codec) (vlen_made_by inside metadata) made e
-  named_is metadata made (Some Optional) e = to_bytes_is (λ codec. codec) (optional_made_by inside metadata) made e
-  named_is metadata made (Some Sharding) e = to_bytes_is (λ codec. codec) (sharding_made_by inside metadata) made e
   named_is metadata made None e = asked_is (makes metadata) made e
+  named_is metadata made name e = to_bytes_is _ _ made e
 
   -- those gathered so far are mappings
   abbrev HasMappings : Gathered B → Type 0

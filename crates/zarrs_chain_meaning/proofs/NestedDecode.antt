@@ -12,7 +12,7 @@ use Rattle.zarrs_codec.specs.CoordinateMap.{IsCoordinateMap, moved_chunk, invers
 use Rattle.zarrs_array_to_array.specs.ArrayToArrayCodec.{ArrayMapping, IsMapping}
 use Rattle.zarrs_array_to_array.proofs.CoordinateMaps.{moved_back}
 use Rattle.zarrs_chunk.proofs.Inside.{lt_test}
-use Rattle.zarrs_chain_meaning.specs.Meaning.{Decoder, part_chunk, around_chunk, Measure, Standing, PartStands, StandsThrough}
+use Rattle.zarrs_chain_meaning.specs.Meaning.{Decoder, around_chunk, Measure, Standing, StandsThrough, in_a_row}
 use Rattle.zarrs_chain_meaning.specs.Parts.{length_of, all_bytes, byte_type, for_each}
 use Rattle.zarrs_chain_meaning.specs.vlen.Vlen.{offsets_in_chunk, slices, vlen_value_parts, vlen_chunk, offset_bytes, offset_type, arranged, VlenStands}
 use Rattle.zarrs_chain_meaning.specs.optional.Optional.{optional_parts, under_flags, optional_chunk, flag_of, present_of, flag_type, blank_fill, flag_in}
@@ -26,7 +26,7 @@ Decodes stand decode =
     (sizes : List ℕ) (type : ElementType) (fill value : List ℕ) (chunk : Chunk)
     → All (λ size. 0 < size) sizes → stand sizes type fill value chunk → decode sizes type fill value ≡ Ok chunk
 
-part_only : (stand : Standing) (decode : Decoder) → Decodes stand decode → (type : ElementType) (fill part : List ℕ) (chunk : Chunk) → PartStands stand type fill part chunk → part_chunk decode type fill (length chunk) part ≡ Ok chunk
+part_only : (stand : Standing) (decode : Decoder) → Decodes stand decode → (type : ElementType) (fill part : List ℕ) (chunk : Chunk) → in_a_row (Unit {0}) (λ sizes. stand sizes type fill part chunk) (length chunk) → in_a_row (Ok []) (λ sizes. decode sizes type fill part) (length chunk) ≡ Ok chunk
 part_only stand decode law type fill part [] s = refl
 part_only stand decode law type fill part (x ∷ chunk) s = law (length (x ∷ chunk) ∷ []) type fill part (x ∷ chunk) (row_positive (suc (length chunk)) (omega arith)) s
 
@@ -79,7 +79,7 @@ optional_parts_of head next mask items a8 b8 hm hd lt =
 -- ---- codecs with chains inside
 
 vlen_steps : (wide at_end : Bool) (index content : Decoder) (count : ℕ) (value i d : List ℕ) (rows items : Chunk) → vlen_value_parts at_end value ≡ Ok (i, d) → nat_lt (count + 1) (2 ^ 64) ≡ true
-    → index ((count + 1) ∷ []) (offset_type wide) (offset_bytes wide 0) i ≡ Ok rows → rises (offsets_in_chunk wide rows) ≡ true → part_chunk content byte_type (0 ∷ []) (last_of (offsets_in_chunk wide rows)) d ≡ Ok items
+    → index ((count + 1) ∷ []) (offset_type wide) (offset_bytes wide 0) i ≡ Ok rows → rises (offsets_in_chunk wide rows) ≡ true → in_a_row (Ok []) (λ sizes. content sizes byte_type (0 ∷ []) d) (last_of (offsets_in_chunk wide rows)) ≡ Ok items
     → vlen_chunk wide at_end index content count value ≡ Ok (slices count (offsets_in_chunk wide rows) (all_bytes items))
 vlen_steps wide at_end index content count value i d rows items a b c e g = rw (a, b, c, e, g) refl
 
@@ -90,7 +90,7 @@ vlen_only wide at_end is cs ie ce ilaw claw count value chunk s =
     let offsets = offsets_in_chunk wide s.offset_chunk in
     vlen_steps wide at_end ie ce count value s.index_part s.data_part s.offset_chunk s.byte_chunk parts (lt_test (count + 1) (2 ^ 64) s.countable)
     (ilaw ((count + 1) ∷ []) (offset_type wide) (offset_bytes wide 0) s.index_part s.offset_chunk (row_positive (count + 1) (omega arith)) s.index_stands) s.rising
-    (subst (λ (n : ℕ). part_chunk ce byte_type (0 ∷ []) n s.data_part ≡ Ok s.byte_chunk) s.byte_count (part_only cs ce claw byte_type (0 ∷ []) s.data_part s.byte_chunk s.data_stands))
+    (subst (λ (n : ℕ). in_a_row (Ok []) (λ sizes. ce sizes byte_type (0 ∷ []) s.data_part) n ≡ Ok s.byte_chunk) s.byte_count (part_only cs ce claw byte_type (0 ∷ []) s.data_part s.byte_chunk s.data_stands))
     ∙ ap (λ (c : Chunk). ok c) (sym s.elements)
 
 -- which elements are present
@@ -119,7 +119,7 @@ under_again type (absent ∷ chunk) h = ap (λ (c : Chunk). absent ∷ c) (under
 under_again type (present element ∷ chunk) h = ap (λ (c : Chunk). present element ∷ c) (under_again type chunk (All-tail (IsElement (optional type)) (present element) chunk h))
 
 optional_steps : (mask content : Decoder) (sizes : List ℕ) (type : ElementType) (value m d : List ℕ) (flags items : Chunk) (bits : List Bool) → optional_parts value ≡ Ok (m, d) → mask sizes flag_type (0 ∷ []) m ≡ Ok flags → for_each flag_in flags ≡ Ok bits
-    → part_chunk content type (blank_fill type) (count_set bits) d ≡ Ok items → optional_chunk mask content sizes (optional type) value ≡ Ok (under_flags bits items)
+    → in_a_row (Ok []) (λ sizes. content sizes type (blank_fill type) d) (count_set bits) ≡ Ok items → optional_chunk mask content sizes (optional type) value ≡ Ok (under_flags bits items)
 optional_steps mask content sizes type value m d flags items bits a b c e = rw (a, b, c, e) refl
 
 pub optional_only : (ms cs : Standing) (me ce : Decoder) → Decodes ms me → Decodes cs ce → (sizes : List ℕ) (type : ElementType) (value : List ℕ) (chunk : Chunk) → All (λ size. 0 < size) sizes
@@ -132,7 +132,7 @@ optional_only ms cs me ce mlaw claw sizes (optional type) value chunk positive s
     ap optional_parts s.parts ∙ optional_parts_of s.head s.next s.mask_part s.data_part s.head_size s.next_size s.head_is s.next_is (subst (λ (x : List ℕ). length x < 2 ^ 64) s.parts s.small) in
     optional_steps me ce sizes type value s.mask_part s.data_part (map flag_of chunk) (present_of chunk) (bits_of chunk) parts
     (mlaw sizes flag_type (0 ∷ []) s.mask_part (map flag_of chunk) positive s.mask_stands) (flags_again chunk)
-    (subst (λ (n : ℕ). part_chunk ce type (blank_fill type) n s.data_part ≡ Ok (present_of chunk)) (count_again chunk) (part_only cs ce claw type (blank_fill type) s.data_part (present_of chunk) s.data_stands))
+    (subst (λ (n : ℕ). in_a_row (Ok []) (λ sizes. ce sizes type (blank_fill type) s.data_part) n ≡ Ok (present_of chunk)) (count_again chunk) (part_only cs ce claw type (blank_fill type) s.data_part (present_of chunk) s.data_stands))
     ∙ ap (λ (c : Chunk). ok c) (under_again type chunk s.elements.each)
 
 -- ---- chains

@@ -8,7 +8,7 @@ use Rattle.zarrs_codec.specs.CoordinateMap.{moved_chunk}
 use Rattle.zarrs_array_to_array.specs.ArrayToArrayCodec.{ArrayMapping}
 use Rattle.zarrs_bytes.specs.ByteOrder.{bytes_of}
 use Rattle.zarrs_chain_meaning.specs.BytesStages.{in_memory}
-use Rattle.zarrs_chain_meaning.specs.Meaning.{Encoder, part_value, around_value, Measure, Standing, PartWritten, WrittenThrough, Keeping}
+use Rattle.zarrs_chain_meaning.specs.Meaning.{Encoder, around_value, Measure, Standing, WrittenThrough, Keeping, in_a_row}
 use Rattle.zarrs_chain_meaning.specs.vlen.Vlen.{chunk_offsets, offset_bytes, offset_elements, offset_fits, is_same_bytes, vlen_value, offset_type, VlenWritten, arranged}
 use Rattle.zarrs_chain_meaning.specs.Parts.{byte_elements, all_bytes, byte_type, part_length_bytes}
 use Rattle.zarrs_chain_meaning.specs.optional.Optional.{flag_of, present_of, optional_layout, optional_value, flag_type, blank_fill}
@@ -34,7 +34,7 @@ pub same_bytes : (chunk : Chunk) → is_same_bytes chunk chunk ≡ true
 same_bytes [] = refl
 same_bytes (element ∷ chunk) = rw (numbers_same (bytes_of element)) (same_bytes chunk)
 
-part_only : (write : Standing) (encode : Encoder) → Encodes write encode → (type : ElementType) (fill part : List ℕ) (chunk : Chunk) → PartWritten write type fill part chunk → part_value encode type fill chunk ≡ Ok part
+part_only : (write : Standing) (encode : Encoder) → Encodes write encode → (type : ElementType) (fill part : List ℕ) (chunk : Chunk) → in_a_row (part ≡ []) (λ sizes. write sizes type fill part chunk) (length chunk) → in_a_row (Ok []) (λ sizes. encode sizes type fill chunk) (length chunk) ≡ Ok part
 part_only write encode law type fill part [] w = ap ok (sym w)
 part_only write encode law type fill part (x ∷ chunk) w = law (length (x ∷ chunk) ∷ []) type fill part (x ∷ chunk) w
 
@@ -43,7 +43,7 @@ part_only write encode law type fill part (x ∷ chunk) w = law (length (x ∷ c
 vlen_steps : (wide at_end : Bool) (keep : Keeping) (index content : Encoder) (chunk : Chunk) (i d : List ℕ) → in_memory (all_bytes chunk) ≡ Ok (all_bytes chunk) → offset_fits wide (length (all_bytes chunk)) ≡ true
     → index (length (offset_elements wide (chunk_offsets chunk)) ∷ []) (offset_type wide) (offset_bytes wide 0) (offset_elements wide (chunk_offsets chunk)) ≡ Ok i
     → is_same_bytes (map (keep (offset_type wide)) (offset_elements wide (chunk_offsets chunk))) (offset_elements wide (chunk_offsets chunk)) ≡ true
-    → part_value content byte_type (0 ∷ []) (byte_elements (all_bytes chunk)) ≡ Ok d
+    → in_a_row (Ok []) (λ sizes. content sizes byte_type (0 ∷ []) (byte_elements (all_bytes chunk))) (length (byte_elements (all_bytes chunk))) ≡ Ok d
     → vlen_value wide at_end keep index content chunk ≡ in_memory (arranged at_end (part_length_bytes i) i d)
 vlen_steps wide at_end keep index content chunk i d a b c e g = rw (a, b, c, e, g) refl
 
@@ -57,7 +57,7 @@ vlen_only wide at_end keep iw cw ie ce i d value chunk w =
     (part_only cw ce d byte_type (0 ∷ []) w.data_part (byte_elements (all_bytes chunk)) w.data_written)
     ∙ memory_so (arranged at_end (part_length_bytes w.index_part) w.index_part w.data_part) (subst (λ (x : List ℕ). length x < 2 ^ 64) w.parts w.small) ∙ ap ok (sym w.parts)
 
-optional_steps : (mask content : Encoder) (sizes : List ℕ) (type : ElementType) (chunk : Chunk) (m d : List ℕ) → mask sizes flag_type (0 ∷ []) (map flag_of chunk) ≡ Ok m → part_value content type (blank_fill type) (present_of chunk) ≡ Ok d
+optional_steps : (mask content : Encoder) (sizes : List ℕ) (type : ElementType) (chunk : Chunk) (m d : List ℕ) → mask sizes flag_type (0 ∷ []) (map flag_of chunk) ≡ Ok m → in_a_row (Ok []) (λ sizes. content sizes type (blank_fill type) (present_of chunk)) (length (present_of chunk)) ≡ Ok d
     → optional_value mask content sizes (optional type) chunk ≡ in_memory (optional_layout m d)
 optional_steps mask content sizes type chunk m d a b = rw (a, b) refl
 

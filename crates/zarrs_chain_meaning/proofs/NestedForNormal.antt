@@ -22,7 +22,7 @@ use Rattle.zarrs_packbits.proofs.CodecLaws as packbits
 use Rattle.zarrs_chain_meaning.specs.vlen.Vlen.{chunk_offsets, offset_bytes, offset_elements, offset_fits, vlen_normal, offset_type, VlenWritten}
 use Rattle.zarrs_chain_meaning.specs.Parts.{byte_elements, all_bytes, byte_type}
 use Rattle.zarrs_chain_meaning.specs.optional.Optional.{flag_of, present_of, optional_normal, flag_type, blank_fill}
-use Rattle.zarrs_chain_meaning.specs.Meaning.{Measure, Standing, PartWritten, WrittenThrough, Keeping}
+use Rattle.zarrs_chain_meaning.specs.Meaning.{Measure, Standing, WrittenThrough, Keeping, in_a_row}
 use Rattle.zarrs_chain_meaning.proofs.ArraySteps.{ok_is}
 use Rattle.zarrs_chain_meaning.proofs.NestedNormal.{KeepsTypes, kept_byte, kept_as_byte, KeepsAbsent, kept_elements, kept_selected}
 use Rattle.zarrs_chain_meaning.proofs.OptionalFor.{OptionalWrittenFor}
@@ -50,12 +50,12 @@ KeptSelected write keep =
 pub row_is : (type : ElementType) (chunk : Chunk) → AreElements type chunk → IsChunk type (product (length chunk ∷ [])) chunk
 row_is type chunk each = record { count_is = omega arith; each = each }
 
-part_kept : (write : Standing) (keep : Keeping) → WrittenKept write keep → (type : ElementType) (fill part : List ℕ) (chunk : Chunk) → PartWritten write type fill part chunk → PartWritten write type fill part (map (keep type) chunk)
+part_kept : (write : Standing) (keep : Keeping) → WrittenKept write keep → (type : ElementType) (fill part : List ℕ) (chunk : Chunk) → in_a_row (part ≡ []) (λ sizes. write sizes type fill part chunk) (length chunk) → in_a_row (part ≡ []) (λ sizes. write sizes type fill part (map (keep type) chunk)) (length (map (keep type) chunk))
 part_kept write keep law type fill part [] w = w
 part_kept write keep law type fill part (x ∷ chunk) w =
     subst (λ (n : ℕ). write (n ∷ []) type fill part (map (keep type) (x ∷ chunk))) (sym (length-map (x ∷ chunk) (keep type))) (law (length (x ∷ chunk) ∷ []) type fill part (x ∷ chunk) w)
 
-kept_part : (write : Standing) (keep : Keeping) → KeptWritten write keep → (type : ElementType) (fill part : List ℕ) (chunk : Chunk) → AreElements type chunk → PartWritten write type fill part (map (keep type) chunk) → PartWritten write type fill part chunk
+kept_part : (write : Standing) (keep : Keeping) → KeptWritten write keep → (type : ElementType) (fill part : List ℕ) (chunk : Chunk) → AreElements type chunk → in_a_row (part ≡ []) (λ sizes. write sizes type fill part (map (keep type) chunk)) (length (map (keep type) chunk)) → in_a_row (part ≡ []) (λ sizes. write sizes type fill part chunk) (length chunk)
 kept_part write keep law type fill part [] each w = w
 kept_part write keep law type fill part (x ∷ chunk) each w =
     law (length (x ∷ chunk) ∷ []) type fill part (x ∷ chunk) (row_is type (x ∷ chunk) each)
@@ -103,7 +103,7 @@ items_are (byte ∷ items) = All-cons (IsElement byte_type) (plain (byte ∷ [])
 
 -- with the same offsets and as many bytes, another chunk is written alike if its bytes are
 vlen_with : (wide at_end : Bool) (own : Keeping) (index content : Standing) (value : List ℕ) (chunk other : Chunk) → chunk_offsets chunk ≡ chunk_offsets other → length (all_bytes chunk) ≡ length (all_bytes other)
-    → ((part : List ℕ) → PartWritten content byte_type (0 ∷ []) part (byte_elements (all_bytes chunk)) → PartWritten content byte_type (0 ∷ []) part (byte_elements (all_bytes other)))
+    → ((part : List ℕ) → in_a_row (part ≡ []) (λ sizes. content sizes byte_type (0 ∷ []) part (byte_elements (all_bytes chunk))) (length (byte_elements (all_bytes chunk))) → in_a_row (part ≡ []) (λ sizes. content sizes byte_type (0 ∷ []) part (byte_elements (all_bytes other))) (length (byte_elements (all_bytes other))))
     → VlenWritten wide at_end own index content value chunk → VlenWritten wide at_end own index content value other
 vlen_with wide at_end own index content value chunk other offsets long items w = record {
   index_part = w.index_part;
@@ -127,13 +127,13 @@ string_kept : (wide at_end : Bool) (own keep : Keeping) (index content : Standin
     → VlenWritten wide at_end own index content value chunk → VlenWritten wide at_end own index content value (map string chunk)
 string_kept wide at_end own keep index content string k s law value chunk =
     vlen_with wide at_end own index content value chunk (map string chunk) (sym (offsets_kept keep string s chunk)) (sym (long_kept keep string s chunk))
-    (λ part w. subst (PartWritten content byte_type (0 ∷ []) part) (bytes_alike keep string k s chunk) (part_kept content keep law byte_type (0 ∷ []) part (byte_elements (all_bytes chunk)) w))
+    (λ part w. subst (λ (chunk : Chunk). in_a_row (part ≡ []) (λ sizes. content sizes byte_type (0 ∷ []) part chunk) (length chunk)) (bytes_alike keep string k s chunk) (part_kept content keep law byte_type (0 ∷ []) part (byte_elements (all_bytes chunk)) w))
 
 kept_string : (wide at_end : Bool) (own keep : Keeping) (index content : Standing) (string : Element → Element) → KeepsTypes keep → IsStringKept keep string → KeptWritten content keep → (value : List ℕ) (chunk : Chunk)
     → VlenWritten wide at_end own index content value (map string chunk) → VlenWritten wide at_end own index content value chunk
 kept_string wide at_end own keep index content string k s law value chunk =
     vlen_with wide at_end own index content value (map string chunk) chunk (offsets_kept keep string s chunk) (long_kept keep string s chunk)
-    (λ part w. kept_part content keep law byte_type (0 ∷ []) part (byte_elements (all_bytes chunk)) (items_are (all_bytes chunk)) (subst (PartWritten content byte_type (0 ∷ []) part) (sym (bytes_alike keep string k s chunk)) w))
+    (λ part w. kept_part content keep law byte_type (0 ∷ []) part (byte_elements (all_bytes chunk)) (items_are (all_bytes chunk)) (subst (λ (chunk : Chunk). in_a_row (part ≡ []) (λ sizes. content sizes byte_type (0 ∷ []) part chunk) (length chunk)) (sym (bytes_alike keep string k s chunk)) w))
 
 pub vlen_kept : (wide at_end : Bool) (own keep : Keeping) (index content : Standing) → KeepsTypes keep → WrittenKept content keep → (type : ElementType) (value : List ℕ) (chunk : Chunk)
     → VlenWritten wide at_end own index content value chunk → VlenWritten wide at_end own index content value (map (vlen_normal keep type) chunk)
@@ -191,7 +191,7 @@ optional_kept mask content keep law sizes (optional type) value chunk w = record
   small = w.small;
   parts = w.parts;
   mask_written = subst (mask sizes flag_type (0 ∷ []) w.mask_part) (sym (flags_kept keep type chunk)) w.mask_written;
-  data_written = subst (PartWritten content type (blank_fill type) w.data_part) (sym (present_kept keep type chunk)) (part_kept content keep law type (blank_fill type) w.data_part (present_of chunk) w.data_written);
+  data_written = subst (λ (chunk : Chunk). in_a_row (w.data_part ≡ []) (λ sizes. content sizes type (blank_fill type) w.data_part chunk) (length chunk)) (sym (present_kept keep type chunk)) (part_kept content keep law type (blank_fill type) w.data_part (present_of chunk) w.data_written);
 }
 
 pub kept_optional : (mask content : Standing) (keep : Keeping) → KeptWritten content keep → (sizes : List ℕ) (type : ElementType) (value : List ℕ) (chunk : Chunk) (places : List ℕ) → AreElements type chunk
@@ -208,7 +208,7 @@ kept_optional mask content keep law sizes (optional type) value chunk places eac
       parts = w.parts;
       mask_written = subst (mask sizes flag_type (0 ∷ []) w.mask_part) (flags_kept keep type picked) w.mask_written;
       data_written = kept_part content keep law type (blank_fill type) w.data_part (present_of picked) (present_are type picked (optional_selected type chunk places each))
-          (subst (PartWritten content type (blank_fill type) w.data_part) (present_kept keep type picked) w.data_written);
+          (subst (λ (chunk : Chunk). in_a_row (w.data_part ≡ []) (λ sizes. content sizes type (blank_fill type) w.data_part chunk) (length chunk)) (present_kept keep type picked) w.data_written);
     }
 
 -- ---- packbits

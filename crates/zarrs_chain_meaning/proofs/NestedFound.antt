@@ -21,7 +21,7 @@ use Rattle.zarrs_bytes.proofs.Coding.{demand_ok, ok, bind_ok}
 use Rattle.zarrs_codec.proofs.Fences.{second_true, first_true}
 use Rattle.zarrs_chain_meaning.specs.ArrayStages.{arrays_map}
 use Rattle.zarrs_chain_meaning.specs.BytesStages.{in_memory, outer_value}
-use Rattle.zarrs_chain_meaning.specs.Meaning.{Encoder, part_value, around_value, Measure, around_representation, Standing, PartWritten, WrittenThrough, Keeping}
+use Rattle.zarrs_chain_meaning.specs.Meaning.{Encoder, around_value, Measure, around_representation, Standing, WrittenThrough, Keeping, in_a_row}
 use Rattle.zarrs_chain_meaning.specs.vlen.Vlen.{chunk_offsets, offset_bytes, offset_elements, offset_fits, is_same_bytes, vlen_value, offset_type, VlenWritten, arranged}
 use Rattle.zarrs_chain_meaning.specs.Parts.{byte_elements, all_bytes, byte_type, part_length_bytes}
 use Rattle.zarrs_chain_meaning.specs.optional.Optional.{flag_of, present_of, optional_layout, optional_value, flag_type, blank_fill, OptionalWritten}
@@ -46,7 +46,7 @@ FoundsTaken write encode measure =
 
 -- ---- steps
 
-part_found : (write : Standing) (encode : Encoder) → Founds write encode → (type : ElementType) (fill part : List ℕ) (chunk : Chunk) → AreElements type chunk → part_value encode type fill chunk ≡ Ok part → PartWritten write type fill part chunk
+part_found : (write : Standing) (encode : Encoder) → Founds write encode → (type : ElementType) (fill part : List ℕ) (chunk : Chunk) → AreElements type chunk → in_a_row (Ok []) (λ sizes. encode sizes type fill chunk) (length chunk) ≡ Ok part → in_a_row (part ≡ []) (λ sizes. write sizes type fill part chunk) (length chunk)
 part_found write encode law type fill part [] each e = sym (ok_is [] part e)
 part_found write encode law type fill part (x ∷ chunk) each e =
     law (length (x ∷ chunk) ∷ []) type fill part (x ∷ chunk) (row_positive (suc (length chunk)) (omega arith)) (row_is type (x ∷ chunk) each) e
@@ -95,7 +95,7 @@ vlen_found wide at_end keep iw cw ie ce k ilaw claw value chunk e =
     let i = bind_ok (ie (length rows ∷ []) (offset_type wide) (offset_bytes wide 0) rows) _ value b.2 in
     let same = is_same_bytes (map (keep (offset_type wide)) rows) rows in
     let c = bind_ok (demand same OffsetNotKept) _ value i.2 in
-    let d = bind_ok (part_value ce byte_type (0 ∷ []) (byte_elements a.0)) _ value c.2 in
+    let d = bind_ok (in_a_row (Ok []) (λ sizes. ce sizes byte_type (0 ∷ []) (byte_elements a.0)) (length (byte_elements a.0))) _ value c.2 in
     let whole = in_memory_so (arranged at_end (part_length_bytes i.0) i.0 d.0) value d.2 in
     let fits : offset_fits wide (length a.0) ≡ true = demand_ok (offset_fits wide (length a.0)) OffsetTooLarge b.0 b.1 in
     record {
@@ -107,7 +107,7 @@ vlen_found wide at_end keep iw cw ie ce k ilaw claw value chunk e =
       fit = subst (λ (x : List ℕ). offset_fits wide (length x) ≡ true) all.1 fits;
       kept = offsets_same wide keep k offsets (demand_ok same OffsetNotKept c.0 c.1);
       index_written = ilaw (length rows ∷ []) (offset_type wide) (offset_bytes wide 0) i.0 rows (row_positive (length rows) (omega arith)) (row_is (offset_type wide) rows (offsets_are wide offsets)) i.1;
-      data_written = part_found cw ce claw byte_type (0 ∷ []) d.0 (byte_elements (all_bytes chunk)) (items_are (all_bytes chunk)) (ap (λ (x : List ℕ). part_value ce byte_type (0 ∷ []) (byte_elements x)) (sym all.1) ∙ d.1);
+      data_written = part_found cw ce claw byte_type (0 ∷ []) d.0 (byte_elements (all_bytes chunk)) (items_are (all_bytes chunk)) (ap (λ (x : List ℕ). in_a_row (Ok []) (λ sizes. ce sizes byte_type (0 ∷ []) (byte_elements x)) (length (byte_elements x))) (sym all.1) ∙ d.1);
     }
 
 flag_is : (element : Element) → IsElement flag_type (flag_of element)
@@ -123,7 +123,7 @@ pub optional_found : (mw cw : Standing) (me ce : Encoder) → Founds mw me → F
     → optional_value me ce sizes (optional type) chunk ≡ Ok value → OptionalWritten mw cw sizes type value chunk
 optional_found mw cw me ce mlaw claw sizes type value chunk positive is e =
     let m = bind_ok (me sizes flag_type (0 ∷ []) (map flag_of chunk)) _ value e in
-    let d = bind_ok (part_value ce type (blank_fill type) (present_of chunk)) _ value m.2 in
+    let d = bind_ok (in_a_row (Ok []) (λ sizes. ce sizes type (blank_fill type) (present_of chunk)) (length (present_of chunk))) _ value m.2 in
     let whole = in_memory_so (optional_layout m.0 d.0) value d.2 in
     record {
       mask_part = m.0;

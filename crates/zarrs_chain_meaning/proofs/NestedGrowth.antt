@@ -23,7 +23,7 @@ use Rattle.zarrs_packbits.proofs.Taken as packbits
 use Rattle.zarrs_chain_meaning.specs.ArrayStages.{arrays_map}
 use Rattle.zarrs_chain_meaning.specs.BytesStages.{outer_representation}
 use Rattle.zarrs_chain_meaning.specs.Meaning.{Measure, around_representation}
-use Rattle.zarrs_chain_meaning.specs.optional.Optional.{flag_type, blank_fill, bounded, both_representations, optional_representation}
+use Rattle.zarrs_chain_meaning.specs.optional.Optional.{flag_type, blank_fill, bounded, optional_representation, bounded_total}
 use Rattle.zarrs_chain_meaning.specs.vlen.Vlen.{vlen_representation}
 use Rattle.zarrs_bytes.proofs.Coding.{bind_ok}
 use Rattle.zarrs_chain_meaning.proofs.ArraySteps.{ok_is}
@@ -108,7 +108,7 @@ sum_of (Some m) None = UnboundedSize
 sum_of None (Some d) = UnboundedSize
 sum_of None None = UnboundedSize
 
-both_sum : (m d : BytesRepresentation) → both_representations m d ≡ sum_of (greatest_size m) (greatest_size d)
+both_sum : (m d : BytesRepresentation) → bounded_total (λ mask content. 16 + mask + content) m d ≡ sum_of (greatest_size m) (greatest_size d)
 both_sum (FixedSize m) (FixedSize d) = refl
 both_sum (FixedSize m) (BoundedSize d) = refl
 both_sum (FixedSize m) UnboundedSize = refl
@@ -159,9 +159,9 @@ sums_grow m d (Some n) None h g = unbounded_most (sum_of m d)
 sums_grow m d None (Some e) h g = unbounded_most (sum_of m d)
 sums_grow m d None None h g = unbounded_most (sum_of m d)
 
-both_grow : (m d n e : BytesRepresentation) → IsAtMost m n → IsAtMost d e → IsAtMost (both_representations m d) (both_representations n e)
+both_grow : (m d n e : BytesRepresentation) → IsAtMost m n → IsAtMost d e → IsAtMost (bounded_total (λ mask content. 16 + mask + content) m d) (bounded_total (λ mask content. 16 + mask + content) n e)
 both_grow m d n e h g =
-    subst (λ (x : BytesRepresentation). IsAtMost x (both_representations n e)) (sym (both_sum m d))
+    subst (λ (x : BytesRepresentation). IsAtMost x (bounded_total (λ mask content. 16 + mask + content) n e)) (sym (both_sum m d))
     (subst (λ (x : BytesRepresentation). IsAtMost (sum_of (greatest_size m) (greatest_size d)) x) (sym (both_sum n e)) (sums_grow (greatest_size m) (greatest_size d) (greatest_size n) (greatest_size e) (below_of m n h) (below_of d e g)))
 
 -- of what an optional codec's representation is made
@@ -170,7 +170,7 @@ pub record IsBoth (mask content : Measure) (sizes : List ℕ) (type : ElementTyp
   pub data_size : BytesRepresentation
   pub masked : mask sizes flag_type (0 ∷ []) ≡ Ok mask_size
   pub measured : content sizes type (blank_fill type) ≡ Ok data_size
-  pub is : both_representations mask_size data_size ≡ r
+  pub is : bounded_total (λ mask content. 16 + mask + content) mask_size data_size ≡ r
 
 pub is_both : (mask content : Measure) (sizes : List ℕ) (type : ElementType) (fill : List ℕ) (r : BytesRepresentation) → optional_representation mask content sizes (optional type) fill ≡ Ok r → IsBoth mask content sizes type r
 is_both mask content sizes type fill r e =
@@ -178,13 +178,13 @@ is_both mask content sizes type fill r e =
     let b = bind_ok (checked_u64 (product sizes)) _ r a.2 in
     let m = bind_ok (mask sizes flag_type (0 ∷ [])) _ r b.2 in
     let d = bind_ok (content sizes type (blank_fill type)) _ r m.2 in
-    record { mask_size = m.0; data_size = d.0; masked = m.1; measured = d.1; is = ok_is (both_representations m.0 d.0) r d.2 }
+    record { mask_size = m.0; data_size = d.0; masked = m.1; measured = d.1; is = ok_is (bounded_total (λ mask content. 16 + mask + content) m.0 d.0) r d.2 }
 
 pub optional_grows : (mask content : Measure) → Grows mask → Grows content → Grows (optional_representation mask content)
 optional_grows mask content mg dg sizes others (optional type) fill r s p q h a b =
     let one = is_both mask content sizes type fill r a in
     let two = is_both mask content others type fill s b in
-    subst (λ (x : BytesRepresentation). IsAtMost x s) one.is (subst (λ (x : BytesRepresentation). IsAtMost (both_representations one.mask_size one.data_size) x) two.is
+    subst (λ (x : BytesRepresentation). IsAtMost x s) one.is (subst (λ (x : BytesRepresentation). IsAtMost (bounded_total (λ mask content. 16 + mask + content) one.mask_size one.data_size) x) two.is
     (both_grow one.mask_size one.data_size two.mask_size two.data_size
     (mg sizes others flag_type (0 ∷ []) one.mask_size two.mask_size p q h one.masked two.masked)
     (dg sizes others type (blank_fill type) one.data_size two.data_size p q h one.measured two.measured)))
@@ -198,7 +198,7 @@ optional_by_count mask content mg dg sizes others (optional type) fill r s p q h
     let two = is_both mask content others type fill s b in
     let masks = mg sizes others flag_type (0 ∷ []) one.mask_size two.mask_size p q h one.masked two.masked in
     let items = dg sizes others type (blank_fill type) one.data_size two.data_size p q h one.measured two.measured in
-    sym one.is ∙ ap (λ (x : BytesRepresentation). both_representations x one.data_size) masks ∙ ap (λ (x : BytesRepresentation). both_representations two.mask_size x) items ∙ two.is
+    sym one.is ∙ ap (λ (x : BytesRepresentation). bounded_total (λ mask content. 16 + mask + content) x one.data_size) masks ∙ ap (λ (x : BytesRepresentation). bounded_total (λ mask content. 16 + mask + content) two.mask_size x) items ∙ two.is
 optional_by_count mask content mg dg sizes others (fixed width components sign) fill r s p q h a b = absurd cc
 optional_by_count mask content mg dg sizes others text fill r s p q h a b = absurd cc
 optional_by_count mask content mg dg sizes others bytes fill r s p q h a b = absurd cc

@@ -19,8 +19,8 @@ use Rattle.zarrs_packbits.specs.Laws.{HasBytes}
 use Rattle.zarrs_chain_meaning.specs.BytesStages.{outer_representation}
 use Rattle.zarrs_chain_meaning.specs.vlen.Vlen.{chunk_offsets, offset_bytes, offset_elements, offset_type, VlenWritten, arranged}
 use Rattle.zarrs_chain_meaning.specs.Parts.{part_length_bytes, byte_elements, all_bytes, byte_type}
-use Rattle.zarrs_chain_meaning.specs.optional.Optional.{flag_of, present_of, optional_layout, flag_type, blank_fill, bounded, both_representations, optional_representation}
-use Rattle.zarrs_chain_meaning.specs.Meaning.{Measure, around_representation, Standing, PartWritten, WrittenThrough, Keeping}
+use Rattle.zarrs_chain_meaning.specs.optional.Optional.{flag_of, present_of, optional_layout, flag_type, blank_fill, bounded, optional_representation, bounded_total}
+use Rattle.zarrs_chain_meaning.specs.Meaning.{Measure, around_representation, Standing, WrittenThrough, Keeping, in_a_row}
 use Rattle.zarrs_chain_meaning.proofs.ArraySteps.{ok_is}
 use Rattle.zarrs_chain_meaning.proofs.NestedGrowth.{Grows, is_both}
 use Rattle.zarrs_chain_meaning.proofs.NestedStages.{all_selected, element_bytes, OuterWritten, outer_written, outer_opened, arrays_are_map, row_positive, is_byte}
@@ -97,7 +97,7 @@ present_have (present element ∷ chunk) h = All-cons HasBytes element (present_
 
 -- ---- parts
 
-part_are : (write : Standing) (measure : Measure) → WritesMeasured write measure → (type : ElementType) (fill part : List ℕ) (chunk : Chunk) → All HasBytes chunk → PartWritten write type fill part chunk → AreBytes part
+part_are : (write : Standing) (measure : Measure) → WritesMeasured write measure → (type : ElementType) (fill part : List ℕ) (chunk : Chunk) → All HasBytes chunk → in_a_row (part ≡ []) (λ sizes. write sizes type fill part chunk) (length chunk) → AreBytes part
 part_are write measure law type fill part [] each w = subst AreBytes (sym w) (All-nil is_byte)
 part_are write measure law type fill part (x ∷ chunk) each w =
     (law (length (x ∷ chunk) ∷ []) type fill part (x ∷ chunk) (row_positive (suc (length chunk)) (omega arith)) each w).kept.each
@@ -125,7 +125,7 @@ none_within (BoundedSize n) value e = omega arith
 none_within UnboundedSize value e = tt
 
 part_within : (write : Standing) (measure : Measure) → WritesMeasured write measure → Grows measure → (type : ElementType) (fill part : List ℕ) (chunk : Chunk) (sizes : List ℕ) (s : BytesRepresentation)
-    → All (λ size. 0 < size) sizes → length chunk ≤ product sizes → measure sizes type fill ≡ Ok s → All HasBytes chunk → PartWritten write type fill part chunk → IsWithin s part
+    → All (λ size. 0 < size) sizes → length chunk ≤ product sizes → measure sizes type fill ≡ Ok s → All HasBytes chunk → in_a_row (part ≡ []) (λ sizes. write sizes type fill part chunk) (length chunk) → IsWithin s part
 part_within write measure law grows type fill part [] sizes s positive le e each w = none_within s part (ap length w)
 part_within write measure law grows type fill part (x ∷ chunk) sizes s positive le e each w =
     let row = row_positive (suc (length chunk)) (omega arith) in
@@ -172,7 +172,7 @@ vlen_are wide at_end own index content im dm i d value chunk each w =
     let items : AreBytes w.data_part = part_are content dm d byte_type (0 ∷ []) w.data_part (byte_elements (all_bytes chunk)) (items_have (all_bytes chunk) (all_are chunk each)) w.data_written in
     subst AreBytes (sym w.parts) (layout_are at_end w.index_part w.data_part indices items)
 
-optional_keeps : (m d : BytesRepresentation) (value mask items : List ℕ) → length value ≡ 16 + length mask + length items → KeepsTo m mask → IsWithin d items → KeepsTo (both_representations m d) value
+optional_keeps : (m d : BytesRepresentation) (value mask items : List ℕ) → length value ≡ 16 + length mask + length items → KeepsTo m mask → IsWithin d items → KeepsTo (bounded_total (λ mask content. 16 + mask + content) m d) value
 optional_keeps (FixedSize m) (FixedSize d) value mask items l k h = bounded_keeps (16 + m + d) value (omega (arith, l, k, h))
 optional_keeps (FixedSize m) (BoundedSize d) value mask items l k h = bounded_keeps (16 + m + d) value (omega (arith, l, k, h))
 optional_keeps (FixedSize m) UnboundedSize value mask items l k h = tt

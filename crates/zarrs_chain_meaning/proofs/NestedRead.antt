@@ -20,7 +20,7 @@ use Rattle.zarrs_bytes.specs.BytesCodec.{IsChunk}
 use Rattle.zarrs_bytes.proofs.Coding.{demand_ok, checked_ok, bind_ok}
 use Rattle.zarrs_chain_meaning.specs.ArrayStages.{arrays_map}
 use Rattle.zarrs_chain_meaning.specs.BytesStages.{outer_bytes}
-use Rattle.zarrs_chain_meaning.specs.Meaning.{Decoder, part_chunk, around_chunk, Measure, Standing, PartStands, StandsThrough}
+use Rattle.zarrs_chain_meaning.specs.Meaning.{Decoder, around_chunk, Measure, Standing, StandsThrough, in_a_row}
 use Rattle.zarrs_chain_meaning.specs.vlen.Vlen.{offsets_in_chunk, slices, vlen_value_parts, vlen_chunk, offset_bytes, offset_type, VlenStands}
 use Rattle.zarrs_chain_meaning.specs.optional.Optional.{optional_parts, under_flags, optional_chunk, flag_of, present_of, flag_type, blank_fill, OptionalStands, flag_in}
 use Rattle.zarrs_chain_meaning.specs.Parts.{all_bytes, byte_type, for_each}
@@ -47,13 +47,13 @@ ReadsTaken stand decode measure =
 
 -- a part that stands for elements of the type, so many of them
 abbrev PartReads : Standing → ElementType → List ℕ → ℕ → List ℕ → Chunk → Type 0
-PartReads stand type fill count part chunk = PartStands stand type fill part chunk × (length chunk ≡ count) × AreElements type chunk
+PartReads stand type fill count part chunk = in_a_row (Unit {0}) (λ sizes. stand sizes type fill part chunk) (length chunk) × (length chunk ≡ count) × AreElements type chunk
 
-row_stands : (stand : Standing) (type : ElementType) (fill part : List ℕ) (count : ℕ) (chunk : Chunk) → length chunk ≡ suc count → stand (suc count ∷ []) type fill part chunk → PartStands stand type fill part chunk
+row_stands : (stand : Standing) (type : ElementType) (fill part : List ℕ) (count : ℕ) (chunk : Chunk) → length chunk ≡ suc count → stand (suc count ∷ []) type fill part chunk → in_a_row (Unit {0}) (λ sizes. stand sizes type fill part chunk) (length chunk)
 row_stands stand type fill part count [] long s = absurd (omega (arith, long))
 row_stands stand type fill part count (x ∷ chunk) long s = subst (λ (n : ℕ). stand (n ∷ []) type fill part (x ∷ chunk)) (sym long) s
 
-part_read : (stand : Standing) (decode : Decoder) → Reads stand decode → (type : ElementType) (fill : List ℕ) (count : ℕ) (part : List ℕ) (chunk : Chunk) → part_chunk decode type fill count part ≡ Ok chunk → PartReads stand type fill count part chunk
+part_read : (stand : Standing) (decode : Decoder) → Reads stand decode → (type : ElementType) (fill : List ℕ) (count : ℕ) (part : List ℕ) (chunk : Chunk) → in_a_row (Ok []) (λ sizes. decode sizes type fill part) count ≡ Ok chunk → PartReads stand type fill count part chunk
 part_read stand decode law type fill zero part chunk e = subst (PartReads stand type fill zero part) (ok_is [] chunk e) (tt, refl, All-nil (IsElement type))
 part_read stand decode law type fill (suc count) part chunk e =
     let read = law (suc count ∷ []) type fill part chunk (row_positive (suc count) (omega arith)) e in
@@ -80,7 +80,7 @@ vlen_read wide at_end is cs ie ce ilaw claw count type value chunk v e =
     let i = bind_ok (ie ((count + 1) ∷ []) (offset_type wide) (offset_bytes wide 0) a.0.0) _ chunk b.2 in
     let offsets = offsets_in_chunk wide i.0 in
     let r = bind_ok (demand (rises offsets) InvalidOffsets) _ chunk i.2 in
-    let d = bind_ok (part_chunk ce byte_type (0 ∷ []) (last_of offsets) a.0.1) _ chunk r.2 in
+    let d = bind_ok (in_a_row (Ok []) (λ sizes. ce sizes byte_type (0 ∷ []) a.0.1) (last_of offsets)) _ chunk r.2 in
     let slices_is : slices count offsets (all_bytes d.0) ≡ chunk = ok_is (slices count offsets (all_bytes d.0)) chunk d.2 in
     let index = ilaw ((count + 1) ∷ []) (offset_type wide) (offset_bytes wide 0) a.0.0 i.0 (row_positive (count + 1) (omega arith)) i.1 in
     let items = part_read cs ce claw byte_type (0 ∷ []) (last_of offsets) a.0.1 d.0 d.1 in (
@@ -110,7 +110,7 @@ optional_read ms cs me ce mlaw claw sizes type value chunk positive e =
     let found = optional_cut_found value a.0 a.1 in
     let m = bind_ok (me sizes flag_type (0 ∷ []) a.0.0) _ chunk a.2 in
     let b = bind_ok (for_each flag_in m.0) _ chunk m.2 in
-    let d = bind_ok (part_chunk ce type (blank_fill type) (count_set b.0) a.0.1) _ chunk b.2 in
+    let d = bind_ok (in_a_row (Ok []) (λ sizes. ce sizes type (blank_fill type) a.0.1) (count_set b.0)) _ chunk b.2 in
     let whole : under_flags b.0 d.0 ≡ chunk = ok_is (under_flags b.0 d.0) chunk d.2 in
     let mask = mlaw sizes flag_type (0 ∷ []) a.0.0 m.0 positive m.1 in
     let items = part_read cs ce claw type (blank_fill type) (count_set b.0) a.0.1 d.0 d.1 in
@@ -134,7 +134,7 @@ optional_read ms cs me ce mlaw claw sizes type value chunk positive e =
         small = found.small;
         elements = is;
         mask_stands = subst (ms sizes flag_type (0 ∷ []) a.0.0) marks mask.0;
-        data_stands = subst (PartStands cs type (blank_fill type) a.0.1) present_is items.0;
+        data_stands = subst (λ (chunk : Chunk). in_a_row (Unit {0}) (λ sizes. cs sizes type (blank_fill type) a.0.1 chunk) (length chunk)) present_is items.0;
       },
       is,
     )

@@ -14,7 +14,7 @@ use Rattle.zarrs_chain_meaning.specs.BytesStages.{outer_bytes}
 use Rattle.zarrs_chain_meaning.specs.vlen.Vlen.{offset_bytes, offsets_in_chunk, slices, offset_type, arranged, VlenStands}
 use Rattle.zarrs_chain_meaning.specs.Parts.{all_bytes, length_of, byte_type}
 use Rattle.zarrs_chain_meaning.specs.optional.Optional.{flag_of, present_of, flag_type, blank_fill, OptionalStands}
-use Rattle.zarrs_chain_meaning.specs.Meaning.{Measure, Standing, PartStands, StandsThrough}
+use Rattle.zarrs_chain_meaning.specs.Meaning.{Measure, Standing, StandsThrough, in_a_row}
 use Rattle.zarrs_vlen_v2.proofs.Rows.{front_same}
 use Rattle.zarrs_chain_meaning.proofs.ArraySteps.{ok_is}
 use Rattle.zarrs_chain_meaning.proofs.NestedStages.{arrays_are_map, row_positive}
@@ -46,7 +46,7 @@ arranged_once true head index rest head' index' rest' l a b e =
 
 -- ---- parts of chunks
 
-part_once : (stand : Standing) → StandsOnce stand → (type : ElementType) (fill part : List ℕ) (chunk other : Chunk) → length chunk ≡ length other → PartStands stand type fill part chunk → PartStands stand type fill part other → chunk ≡ other
+part_once : (stand : Standing) → StandsOnce stand → (type : ElementType) (fill part : List ℕ) (chunk other : Chunk) → length chunk ≡ length other → in_a_row (Unit {0}) (λ sizes. stand sizes type fill part chunk) (length chunk) → in_a_row (Unit {0}) (λ sizes. stand sizes type fill part other) (length other) → chunk ≡ other
 part_once stand one type fill part [] [] l a b = refl
 part_once stand one type fill part [] (y ∷ other) l a b = absurd (omega (arith, l))
 part_once stand one type fill part (x ∷ chunk) [] l a b = absurd (omega (arith, l))
@@ -96,7 +96,7 @@ vlen_once wide at_end index content i d count value chunk other a b =
     (subst (λ (p : List ℕ). index ((count + 1) ∷ []) (offset_type wide) (offset_bytes wide 0) p b.offset_chunk) (sym parts.0) b.index_stands) in
     let long : length a.byte_chunk ≡ length b.byte_chunk = a.byte_count ∙ ap (λ (c : Chunk). last_of (offsets_in_chunk wide c)) offsets ∙ sym b.byte_count in
     let items : a.byte_chunk ≡ b.byte_chunk =
-    part_once content d byte_type (0 ∷ []) a.data_part a.byte_chunk b.byte_chunk long a.data_stands (subst (λ (p : List ℕ). PartStands content byte_type (0 ∷ []) p b.byte_chunk) (sym parts.1) b.data_stands) in
+    part_once content d byte_type (0 ∷ []) a.data_part a.byte_chunk b.byte_chunk long a.data_stands (subst (λ (p : List ℕ). in_a_row (Unit {0}) (λ sizes. content sizes byte_type (0 ∷ []) p b.byte_chunk) (length b.byte_chunk)) (sym parts.1) b.data_stands) in
     a.elements ∙ (λ k. slices count (offsets_in_chunk wide (offsets k)) (all_bytes (items k))) ∙ sym b.elements
 
 optional_once : (mask content : Standing) → StandsOnce mask → StandsOnce content → (sizes : List ℕ) (type : ElementType) (value : List ℕ) (chunk other : Chunk) → All (λ size. 0 < size) sizes
@@ -109,7 +109,7 @@ optional_once mask content m d sizes type value chunk other positive a b =
     m sizes flag_type (0 ∷ []) a.mask_part (map flag_of chunk) (map flag_of other) positive a.mask_stands (subst (λ (p : List ℕ). mask sizes flag_type (0 ∷ []) p (map flag_of other)) (sym parts.0) b.mask_stands) in
     let inside : present_of chunk ≡ present_of other =
     part_once content d type (blank_fill type) a.data_part (present_of chunk) (present_of other) (flags_count type chunk other a.elements.each b.elements.each flags) a.data_stands
-    (subst (λ (p : List ℕ). PartStands content type (blank_fill type) p (present_of other)) (sym parts.1) b.data_stands) in
+    (subst (λ (p : List ℕ). in_a_row (Unit {0}) (λ sizes. content sizes type (blank_fill type) p (present_of other)) (length (present_of other))) (sym parts.1) b.data_stands) in
     flags_same type chunk other a.elements.each b.elements.each flags inside
 
 pub optional_once_for : (mask content : Standing) → StandsOnce mask → StandsOnce content → (sizes : List ℕ) (type : ElementType) (value : List ℕ) (chunk other : Chunk) → All (λ size. 0 < size) sizes

@@ -14,7 +14,7 @@ use Rattle.zarrs_chain_meaning.specs.BytesStages.{outer_value}
 use Rattle.zarrs_chain_meaning.specs.vlen.Vlen.{chunk_offsets, offset_bytes, offset_elements, offset_type, VlenWritten, arranged}
 use Rattle.zarrs_chain_meaning.specs.Parts.{byte_elements, all_bytes, byte_type, part_length_bytes}
 use Rattle.zarrs_chain_meaning.specs.optional.Optional.{flag_of, present_of, optional_layout, flag_type, blank_fill, OptionalWritten}
-use Rattle.zarrs_chain_meaning.specs.Meaning.{Measure, Standing, PartWritten, WrittenThrough, Keeping}
+use Rattle.zarrs_chain_meaning.specs.Meaning.{Measure, Standing, WrittenThrough, Keeping, in_a_row}
 use Rattle.zarrs_chain_meaning.proofs.ArraySteps.{ok_is}
 use Rattle.zarrs_chain_meaning.proofs.OptionalFor.{OptionalWrittenFor}
 
@@ -29,7 +29,7 @@ packed_once settings sizes type fill value other chunk one two =
     let same : one.layout ≡ two.layout = ok_is one.layout two.layout (sym one.taken ∙ two.taken) in
     one.spelt ∙ ap (λ l. value_with l (chunk_stream l chunk)) same ∙ sym two.spelt
 
-part_once : (write : Standing) → WritesOnce write → (type : ElementType) (fill part other : List ℕ) (chunk : Chunk) → PartWritten write type fill part chunk → PartWritten write type fill other chunk → part ≡ other
+part_once : (write : Standing) → WritesOnce write → (type : ElementType) (fill part other : List ℕ) (chunk : Chunk) → in_a_row (part ≡ []) (λ sizes. write sizes type fill part chunk) (length chunk) → in_a_row (other ≡ []) (λ sizes. write sizes type fill other chunk) (length chunk) → part ≡ other
 part_once write one type fill part other [] a b = a ∙ sym b
 part_once write one type fill part other (x ∷ chunk) a b = one (length (x ∷ chunk) ∷ []) type fill part other (x ∷ chunk) a b
 

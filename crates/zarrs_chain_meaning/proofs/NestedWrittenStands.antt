@@ -21,7 +21,7 @@ use Rattle.zarrs_chunk.proofs.Inside.{from_lt_test}
 use Rattle.zarrs_chain_meaning.specs.vlen.Vlen.{offsets_in_chunk, slices, chunk_offsets, offset_bytes, offset_elements, vlen_normal, offset_type, vlen_representation, VlenStands, VlenWritten}
 use Rattle.zarrs_chain_meaning.specs.Parts.{part_length_bytes, byte_elements, all_bytes, byte_type}
 use Rattle.zarrs_chain_meaning.specs.optional.Optional.{flag_of, present_of, optional_layout, optional_normal, flag_type, blank_fill}
-use Rattle.zarrs_chain_meaning.specs.Meaning.{Measure, Standing, PartStands, StandsThrough, PartWritten, WrittenThrough, Keeping}
+use Rattle.zarrs_chain_meaning.specs.Meaning.{Measure, Standing, StandsThrough, WrittenThrough, Keeping, in_a_row}
 use Rattle.zarrs_chain_meaning.proofs.NestedFlags.{KeepsFlags, flags_stay}
 use Rattle.zarrs_chain_meaning.proofs.NestedForNormal.{IsStringKept, text_kept, bytes_kept, offsets_kept, all_kept, items_kept, flags_kept, present_kept}
 use Rattle.zarrs_chain_meaning.proofs.NestedKept.{KeepsSize, offsets_have, items_have, all_are, flags_have, present_have, length_long}
@@ -45,7 +45,7 @@ StandsTaken write stand measure keep =
 
 -- ---- parts
 
-part_stands : (write stand : Standing) (keep : Keeping) → StandsKept write stand keep → (type : ElementType) (fill part : List ℕ) (chunk : Chunk) → All HasBytes chunk → PartWritten write type fill part chunk → PartStands stand type fill part (map (keep type) chunk)
+part_stands : (write stand : Standing) (keep : Keeping) → StandsKept write stand keep → (type : ElementType) (fill part : List ℕ) (chunk : Chunk) → All HasBytes chunk → in_a_row (part ≡ []) (λ sizes. write sizes type fill part chunk) (length chunk) → in_a_row (Unit {0}) (λ sizes. stand sizes type fill part (map (keep type) chunk)) (length (map (keep type) chunk))
 part_stands write stand keep law type fill part [] each w = tt
 part_stands write stand keep law type fill part (x ∷ chunk) each w =
     subst (λ (n : ℕ). stand (n ∷ []) type fill part (map (keep type) (x ∷ chunk))) (sym (length-map (x ∷ chunk) (keep type)))
@@ -85,7 +85,7 @@ string_stands wide at_end own keep iw cw is cs string ilaw claw k s type count v
       index_stands = subst (λ (n : ℕ). is (n ∷ []) (offset_type wide) (offset_bytes wide 0) w.index_part rows) counted found;
       rising = ap rises numbers ∙ offsets_rise chunk;
       byte_count = items_long (map (kept_byte keep) items) ∙ all_long ∙ sym (offsets_last chunk) ∙ ap last_of (sym numbers);
-      data_stands = subst (PartStands cs byte_type (0 ∷ []) w.data_part) (items_kept keep k items) (part_stands cw cs keep claw byte_type (0 ∷ []) w.data_part (byte_elements items) (items_have items (all_are chunk each)) w.data_written);
+      data_stands = subst (λ (chunk : Chunk). in_a_row (Unit {0}) (λ sizes. cs sizes byte_type (0 ∷ []) w.data_part chunk) (length chunk)) (items_kept keep k items) (part_stands cw cs keep claw byte_type (0 ∷ []) w.data_part (byte_elements items) (items_have items (all_are chunk each)) w.data_written);
       elements = sym again ∙ (λ i. slices (strings i) (offs i) (alls i));
     }
 
@@ -132,7 +132,7 @@ optional_stands keep mkeep mw cw ms cs mlaw flags claw t sizes (optional type) v
       small = w.small;
       elements = record { count_is = length-map chunk (optional_normal keep (optional type)) ∙ h.count_is; each = all_kept_are (optional_normal keep) t (optional type) chunk h.each };
       mask_stands = subst (ms sizes flag_type (0 ∷ []) w.mask_part) (sym (flags_kept keep type chunk)) found;
-      data_stands = subst (PartStands cs type (blank_fill type) w.data_part) (sym (present_kept keep type chunk)) (part_stands cw cs keep claw type (blank_fill type) w.data_part (present_of chunk) (present_have chunk each) w.data_written);
+      data_stands = subst (λ (chunk : Chunk). in_a_row (Unit {0}) (λ sizes. cs sizes type (blank_fill type) w.data_part chunk) (length chunk)) (sym (present_kept keep type chunk)) (part_stands cw cs keep claw type (blank_fill type) w.data_part (present_of chunk) (present_have chunk each) w.data_written);
     }
 
 -- ---- chains

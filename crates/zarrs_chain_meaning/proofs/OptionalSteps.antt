@@ -1,5 +1,5 @@
 -- The steps of the codec `optional`, as the code takes them.
-use Rattle.std.proofs.Common.{◌≡◌, ℕ, zero, suc, ◌<◌, ◌^◌, nat_eq, nat_lt, Bool, true, false, List, [], ◌∷◌, length, replicate, get_or, map, Result, Ok, Err, arith, refl, ap, sym, subst, ◌∙◌}
+use Rattle.std.proofs.Common.{◌≡◌, ℕ, zero, suc, ◌<◌, ◌^◌, nat_eq, nat_lt, Bool, true, false, List, [], ◌∷◌, length, replicate, get_or, map, Result, Ok, Err, arith, refl, ap, sym, subst, ◌∙◌, ◌+◌}
 use Rattle.std.specs.List.{list_all}
 use Rattle.std.proofs.lemmas.Bool.{eq-eqb, eqb-true}
 use Rattle.std.proofs.lemmas.List.{length-map, length-replicate}
@@ -26,8 +26,8 @@ use Rattle.zarrs_chain_meaning.specs.PlainChain.{PlainChain, optional_codec_of}
 use Rattle.zarrs_chain_meaning.specs.ArrayStages.{arrays_map}
 use Rattle.zarrs_chain_meaning.specs.BytesStages.{in_memory, outer_bytes}
 use Rattle.zarrs_chain_meaning.specs.Chain.{held_value, held_part}
-use Rattle.zarrs_chain_meaning.specs.Meaning.{Decoder, part_chunk, Encoder, part_value}
-use Rattle.zarrs_chain_meaning.specs.optional.Optional.{optional_parts, under_flags, flag_of, present_of, optional_layout, optional_value, flag_type, blank_fill, both_representations}
+use Rattle.zarrs_chain_meaning.specs.Meaning.{Decoder, Encoder, in_a_row}
+use Rattle.zarrs_chain_meaning.specs.optional.Optional.{optional_parts, under_flags, flag_of, present_of, optional_layout, optional_value, flag_type, blank_fill, bounded_total}
 use Rattle.zarrs_chain_meaning.specs.CodecMeaning.{chain_chunk, codec_chunk, chain_value, codec_value, chain_representation, codec_representation, meaning}
 use Rattle.zarrs_chain_meaning.specs.Parts.{byte_elements}
 use Rattle.zarrs_chain_meaning.specs.optional.OptionalParts.{optional_inner, elements_under, present_part}
@@ -86,7 +86,7 @@ inside_valid held inner mask type count is valid =
 
 pub representation_opened : {B : Type 0} (f : BytesCodecs B) (mask content : PlainChain B) (sizes : List ℕ) (type : ElementType) (fill : List ℕ)
     → codec_representation f (optional_codec_of mask content) sizes type fill
-    ≡ optional_inner type >>= (λ inner. demand (fill_fits type fill) InvalidFillValue >>= (λ _. checked_u64 (product sizes) >>= (λ _. chain_representation f mask sizes flag_type (0 ∷ []) >>= (λ m. chain_representation f content sizes inner (blank_fill inner) >>= (λ d. ok (both_representations m d))))))
+    ≡ optional_inner type >>= (λ inner. demand (fill_fits type fill) InvalidFillValue >>= (λ _. checked_u64 (product sizes) >>= (λ _. chain_representation f mask sizes flag_type (0 ∷ []) >>= (λ m. chain_representation f content sizes inner (blank_fill inner) >>= (λ d. ok (bounded_total (λ mask content. 16 + mask + content) m d))))))
 unfolding meaning
 representation_opened f mask content sizes (fixed width components sign) fill = refl
 representation_opened f mask content sizes text fill = refl
@@ -133,7 +133,7 @@ mask_answers view result f chain sizes fill raw long counted gives =
     subst (λ (x : Result (List ℕ) CodecError). Answers memory view result x) (mask_value f chain sizes raw.items fill raw refl long (omega (arith, long, small))) gives
 
 -- a container of a row is encoded as the row
-held_part_is : {B : Type 0} (f : BytesCodecs B) (chain : PlainChain B) (count : ℕ) (type : ElementType) (fill : List ℕ) (held : Held) (chunk : Chunk) → Holds type held chunk → length chunk ≡ count → held_part f chain count type fill held ≡ part_value (chain_value f chain) type fill chunk
+held_part_is : {B : Type 0} (f : BytesCodecs B) (chain : PlainChain B) (count : ℕ) (type : ElementType) (fill : List ℕ) (held : Held) (chunk : Chunk) → Holds type held chunk → length chunk ≡ count → held_part f chain count type fill held ≡ in_a_row (Ok []) (λ sizes. chain_value f chain sizes type fill chunk) (length chunk)
 held_part_is f chain zero type fill held [] holds long = refl
 held_part_is f chain zero type fill held (x ∷ chunk) holds long = absurd (omega (arith, long))
 held_part_is f chain (suc count) type fill held [] holds long = absurd (omega (arith, long))
@@ -152,7 +152,7 @@ present_many type inner mask count e =
 
 -- what is taken out of a container is encoded as the present elements
 pub present_value : {B : Type 0} (f : BytesCodecs B) (chain : PlainChain B) (count : ℕ) (type : ElementType) (fill : List ℕ) (inner held : Held) (mask : List ℕ) → validity type (length mask) inner ≡ Ok tt → present_count mask ≡ Ok count
-    → AnswersBy {E = CodecError} memory (Holds type) (Ok held) (present_chunk type inner mask) → held_part f chain count type fill held ≡ part_value (chain_value f chain) type fill (elements_under type inner mask)
+    → AnswersBy {E = CodecError} memory (Holds type) (Ok held) (present_chunk type inner mask) → held_part f chain count type fill held ≡ in_a_row (Ok []) (λ sizes. chain_value f chain sizes type fill (elements_under type inner mask)) (length (elements_under type inner mask))
 present_value f chain count type fill inner held mask valid counted gives =
     let is : present_chunk type inner mask ≡ ok (elements_under type inner mask) = rw valid refl in
     let holds : Holds type held (elements_under type inner mask) = subst (λ (r : Result Chunk CodecError). AnswersBy memory (Holds type) (Ok held) r) is gives in
@@ -161,18 +161,18 @@ present_value f chain count type fill inner held mask valid counted gives =
 -- the chunk of a container under a mask is encoded by the mask bytes and the present elements
 value_of_masked : (me ce : Encoder) (sizes : List ℕ) (type : ElementType) (inner : Held) (mask : Raw) → list_all (λ byte. nat_lt byte 2) mask.items ≡ true → validity (optional type) (product sizes) (masked inner mask) ≡ Ok tt
     → optional_value me ce sizes (optional type) (elements (optional type) (product sizes) (masked inner mask))
-    ≡ me sizes flag_type (0 ∷ []) (byte_elements mask.items) >>= (λ m. part_value ce type (blank_fill type) (elements_under type inner mask.items) >>= (λ d. in_memory (optional_layout m d)))
+    ≡ me sizes flag_type (0 ∷ []) (byte_elements mask.items) >>= (λ m. in_a_row (Ok []) (λ sizes. ce sizes type (blank_fill type) (elements_under type inner mask.items)) (length (elements_under type inner mask.items)) >>= (λ d. in_memory (optional_layout m d)))
 value_of_masked me ce sizes type inner mask flags valid =
     let n = product sizes in
     let chunk = elements (optional type) n (masked inner mask) in
     let known = present_held type inner mask chunk (holds_elements (optional type) n (masked inner mask) valid) flags in
     let marks : map flag_of chunk ≡ byte_elements mask.items = flags_bytes chunk ∙ ap byte_elements known.mask in
     let items : present_of chunk ≡ elements_under type inner mask.items = sym (present_same chunk) ∙ ap (λ (k : ℕ). present_elements (elements (optional type) k (masked inner mask))) (sym (mask_long_so inner mask type n valid)) in
-    λ i. me sizes flag_type (0 ∷ []) (marks i) >>= (λ m. part_value ce type (blank_fill type) (items i) >>= (λ d. in_memory (optional_layout m d)))
+    λ i. me sizes flag_type (0 ∷ []) (marks i) >>= (λ m. in_a_row (Ok []) (λ sizes. ce sizes type (blank_fill type) (items i)) (length (items i)) >>= (λ d. in_memory (optional_layout m d)))
 
 pub value_by_mask : (me ce : Encoder) (sizes : List ℕ) (type : ElementType) (held inner : Held) (mask : Raw) → held ≡ masked inner mask → list_all (λ byte. nat_lt byte 2) mask.items ≡ true → validity (optional type) (product sizes) held ≡ Ok tt
     → optional_value me ce sizes (optional type) (elements (optional type) (product sizes) held)
-    ≡ me sizes flag_type (0 ∷ []) (byte_elements mask.items) >>= (λ m. part_value ce type (blank_fill type) (elements_under type inner mask.items) >>= (λ d. in_memory (optional_layout m d)))
+    ≡ me sizes flag_type (0 ∷ []) (byte_elements mask.items) >>= (λ m. in_a_row (Ok []) (λ sizes. ce sizes type (blank_fill type) (elements_under type inner mask.items)) (length (elements_under type inner mask.items)) >>= (λ d. in_memory (optional_layout m d)))
 value_by_mask me ce sizes type held inner mask is flags valid =
     ap (λ (h : Held). optional_value me ce sizes (optional type) (elements (optional type) (product sizes) h)) is
     ∙ value_of_masked me ce sizes type inner mask flags (subst (λ (h : Held). validity (optional type) (product sizes) h ≡ Ok tt) is valid)
@@ -190,7 +190,7 @@ pub mask_not_written : (me ce : Encoder) (sizes : List ℕ) (type : ElementType)
 mask_not_written me ce sizes type held inner mask cause is flags valid e = value_by_mask me ce sizes type held inner mask is flags valid ∙ rw e refl
 
 pub part_written : {B : Type 0} (f : BytesCodecs B) (content : PlainChain B) (sizes : List ℕ) (type : ElementType) (held inner present : Held) (mask : Raw) (count : ℕ) → held ≡ masked inner mask → validity (optional type) (product sizes) held ≡ Ok tt → present_count mask.items ≡ Ok count
-    → AnswersBy {E = CodecError} memory (Holds type) (Ok present) (present_chunk type inner mask.items) → held_part f content count type (blank_fill type) present ≡ part_value (chain_value f content) type (blank_fill type) (elements_under type inner mask.items)
+    → AnswersBy {E = CodecError} memory (Holds type) (Ok present) (present_chunk type inner mask.items) → held_part f content count type (blank_fill type) present ≡ in_a_row (Ok []) (λ sizes. chain_value f content sizes type (blank_fill type) (elements_under type inner mask.items)) (length (elements_under type inner mask.items))
 part_written f content sizes type held inner present mask count is valid counted gives =
     present_value f content count type (blank_fill type) inner present mask.items (inside_valid held inner mask type (product sizes) is valid) counted gives
 
@@ -244,7 +244,7 @@ chunk_long f chain sizes type fill value chunk e =
     let c = bind_ok (codec_chunk f chain.array_to_bytes m.0.encoded type fill below.0) _ chunk below.2 in
     ap (λ (x : Chunk). length x) (sym (ok_is (moved_chunk (inverse_map sizes m.0) c.0) chunk c.2)) ∙ length-moved (inverse_map sizes m.0) c.0
 
-pub part_long : {B : Type 0} (f : BytesCodecs B) (chain : PlainChain B) (type : ElementType) (fill : List ℕ) (count : ℕ) (part : List ℕ) (chunk : Chunk) → part_chunk (chain_chunk f chain) type fill count part ≡ Ok chunk → length chunk ≡ count
+pub part_long : {B : Type 0} (f : BytesCodecs B) (chain : PlainChain B) (type : ElementType) (fill : List ℕ) (count : ℕ) (part : List ℕ) (chunk : Chunk) → in_a_row (Ok []) (λ sizes. chain_chunk f chain sizes type fill part) count ≡ Ok chunk → length chunk ≡ count
 part_long f chain type fill zero part chunk e = ap (λ (x : Chunk). length x) (sym (ok_is [] chunk e))
 part_long f chain type fill (suc count) part chunk e = omega (arith, chunk_long f chain (suc count ∷ []) type fill part chunk e)
 
@@ -255,26 +255,26 @@ refused_so false flags n cause g e = cc e
 -- a byte that is no flag is rejected
 pub mask_refused : (decode : Decoder) (type : ElementType) (mask part : List ℕ) (cause : CodecError) → present_count mask ≡ Err cause → present_part decode type (byte_elements mask) part ≡ Err cause
 mask_refused decode type mask part cause e =
-    let after : List Bool → Result Chunk CodecError = λ flags. part_chunk decode type (blank_fill type) (count_set flags) part >>= (λ items. ok (under_flags flags items)) in
+    let after : List Bool → Result Chunk CodecError = λ flags. in_a_row (Ok []) (λ sizes. decode sizes type (blank_fill type) part) (count_set flags) >>= (λ items. ok (under_flags flags items)) in
     ap (λ (r : Result (List Bool) CodecError). r >>= after) (flags_read mask) ∙ refused_so (list_all (λ byte. nat_lt byte 2) mask) (set_in mask) (length (present_places mask)) cause after e
 
-pub present_opened : (decode : Decoder) (type : ElementType) (mask : List ℕ) (count : ℕ) (part : List ℕ) → present_count mask ≡ Ok count → present_part decode type (byte_elements mask) part ≡ part_chunk decode type (blank_fill type) count part >>= (λ items. ok (expansion mask items))
+pub present_opened : (decode : Decoder) (type : ElementType) (mask : List ℕ) (count : ℕ) (part : List ℕ) → present_count mask ≡ Ok count → present_part decode type (byte_elements mask) part ≡ in_a_row (Ok []) (λ sizes. decode sizes type (blank_fill type) part) count >>= (λ items. ok (expansion mask items))
 present_opened decode type mask count part e =
     let found = count_found mask count e in
-    let after : List Bool → Result Chunk CodecError = λ flags. part_chunk decode type (blank_fill type) (count_set flags) part >>= (λ items. ok (under_flags flags items)) in
+    let after : List Bool → Result Chunk CodecError = λ flags. in_a_row (Ok []) (λ sizes. decode sizes type (blank_fill type) part) (count_set flags) >>= (λ items. ok (under_flags flags items)) in
     let number : count_set (set_in mask) ≡ count = count_present mask ∙ found.1 in
     ap (λ (r : Result (List Bool) CodecError). r >>= after) (flags_read mask ∙ ap (λ (b : Bool). flags_or_refusal b (set_in mask)) found.0)
-    ∙ (λ i. part_chunk decode type (blank_fill type) (number i) part >>= (λ items. ok (sym (expansion_under mask items) i)))
+    ∙ (λ i. in_a_row (Ok []) (λ sizes. decode sizes type (blank_fill type) part) (number i) >>= (λ items. ok (sym (expansion_under mask items) i)))
 
-pub part_refused : (decode : Decoder) (type : ElementType) (mask : List ℕ) (count : ℕ) (part : List ℕ) (cause : CodecError) → present_count mask ≡ Ok count → part_chunk decode type (blank_fill type) count part ≡ Err cause → present_part decode type (byte_elements mask) part ≡ Err cause
+pub part_refused : (decode : Decoder) (type : ElementType) (mask : List ℕ) (count : ℕ) (part : List ℕ) (cause : CodecError) → present_count mask ≡ Ok count → in_a_row (Ok []) (λ sizes. decode sizes type (blank_fill type) part) count ≡ Err cause → present_part decode type (byte_elements mask) part ≡ Err cause
 part_refused decode type mask count part cause e refused = present_opened decode type mask count part e ∙ rw refused refl
 
 -- what is put back are the elements that the part stands for, at the places whose flags are set
 pub part_expanded : {B : Type 0} (result : Result Held CodecError) (f : BytesCodecs B) (chain : PlainChain B) (type : ElementType) (held : Held) (mask : List ℕ) (count : ℕ) (part : List ℕ) → present_count mask ≡ Ok count → sizes_fit type (length mask) ≡ Ok tt
-    → AnswersBy {E = CodecError} memory (Holds type) (Ok held) (part_chunk (chain_chunk f chain) type (blank_fill type) count part) → AnswersBy memory (Holds (optional type)) result (expanded_chunk type held mask)
+    → AnswersBy {E = CodecError} memory (Holds type) (Ok held) (in_a_row (Ok []) (λ sizes. chain_chunk f chain sizes type (blank_fill type) part) count) → AnswersBy memory (Holds (optional type)) result (expanded_chunk type held mask)
     → AnswersBy memory (Holds (optional type)) result (present_part (chain_chunk f chain) type (byte_elements mask) part)
 part_expanded result f chain type held mask count part e fits read gives =
-    let c = held_chunk type held (part_chunk (chain_chunk f chain) type (blank_fill type) count part) read in
+    let c = held_chunk type held (in_a_row (Ok []) (λ sizes. chain_chunk f chain sizes type (blank_fill type) part) count) read in
     let long : length c.0 ≡ count = part_long f chain type (blank_fill type) count part c.0 c.1 in
     let opened : present_part (chain_chunk f chain) type (byte_elements mask) part ≡ ok (expansion mask c.0) =
     present_opened (chain_chunk f chain) type mask count part e ∙ ap (λ (r : Result Chunk CodecError). r >>= (λ items. ok (expansion mask items))) c.1 in

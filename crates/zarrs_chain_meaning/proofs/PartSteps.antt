@@ -12,7 +12,7 @@ use Rattle.zarrs_array_bytes.specs.Chunks.{fill_chunk}
 use Rattle.zarrs_array_bytes.specs.Held.{Held}
 use Rattle.zarrs_array_bytes.specs.Validity.{sizes_fit, Holds}
 use Rattle.zarrs_chain_meaning.specs.Chain.{row_sizes}
-use Rattle.zarrs_chain_meaning.specs.Meaning.{Decoder, part_chunk}
+use Rattle.zarrs_chain_meaning.specs.Meaning.{Decoder, in_a_row}
 use Rattle.zarrs_bytes.proofs.Coding.{ok}
 
 test_of_suc : (count : ℕ) → (suc count == 0) ≡ false
@@ -38,7 +38,7 @@ none_filled : (type : ElementType) (fill : List ℕ) → fill_fits type fill ≡
 none_filled type fill fits = rw (fits, none_fit type) refl
 
 pub chunk_of_none : (result : Result Held CodecError) (decode : Decoder) (count : ℕ) (type : ElementType) (fill part : List ℕ)
-    → ok (row_sizes count) ≡ ok None → fill_fits type fill ≡ true → AnswersBy memory (Holds type) result (fill_chunk type 0 fill) → AnswersBy memory (Holds type) result (part_chunk decode type fill count part)
+    → ok (row_sizes count) ≡ ok None → fill_fits type fill ≡ true → AnswersBy memory (Holds type) result (fill_chunk type 0 fill) → AnswersBy memory (Holds type) result (in_a_row (Ok []) (λ sizes. decode sizes type fill part) count)
 chunk_of_none result decode zero type fill part e fits h =
     subst (λ (x : Result Chunk CodecError). AnswersBy memory (Holds type) result x) (none_filled type fill fits) h
 chunk_of_none result decode (suc count) type fill part e fits h = absurd cc

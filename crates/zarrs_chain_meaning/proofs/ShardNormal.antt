@@ -1,6 +1,6 @@
 -- What `sharding_indexed` writes is what it writes of the normal form; and what it answers is written.
 use Rattle.std.proofs.Common.{◌≡◌, ℕ, zero, suc, ◌+◌, ◌*◌, ◌<◌, ◌^◌, nat_eq, nat_lt, ◌&&◌, Bool, true, false, Option, Some, None, get_or, List, [], ◌∷◌, ◌++◌, length, map, Ok, arith, refl, ap, sym, subst, ◌∙◌}
-use Rattle.std.specs.List.{All}
+use Rattle.std.specs.List.{All, AllZip}
 use Rattle.std.proofs.lemmas.List.{length-map}
 use Rattle.std.proofs.lemmas.List.Elements.{All-nil, All-cons, All-head, All-tail}
 use Rattle.std.proofs.Math.Nat.{mul_assoc}
@@ -16,7 +16,7 @@ use Rattle.zarrs_chain_meaning.proofs.NestedNormal.{KeepsTypes, KeepsTwice, Keep
 use Rattle.zarrs_chain_meaning.proofs.NestedStages.{in_memory_so, is_positive}
 use Rattle.zarrs_chain_meaning.specs.Meaning.{Measure, Encoder, Standing, Keeping}
 use Rattle.zarrs_chain_meaning.specs.sharding.InnerChunks.{is_divided, grid, inner_chunk_count, inner_chunks_of}
-use Rattle.zarrs_chain_meaning.specs.sharding.Sharding.{index_shape, index_size, shard_bound, shard_representation, is_same_element, is_kept_as_fill, is_left_out, inner_value, inner_values, joined_values, index_numbers, first_offset, shard_layout, shard_value, InnerChunkWritten, InnerChunksWritten, ShardWritten}
+use Rattle.zarrs_chain_meaning.specs.sharding.Sharding.{index_shape, index_size, shard_representation, is_same_element, is_kept_as_fill, is_left_out, inner_value, joined_values, index_numbers, first_offset, shard_layout, shard_value, InnerChunkWritten, ShardWritten}
 use Rattle.zarrs_chain_meaning.specs.vlen.Vlen.{offset_type, offset_bytes, offset_elements, is_same_bytes}
 use Rattle.zarrs_chunk.proofs.Inside.{from_lt_test}
 use Rattle.zarrs_chunk.specs.Answer.{demand, checked_u64}
@@ -25,6 +25,9 @@ use Rattle.zarrs_chunk.specs.declared.codec_error.CodecError.TheVariants.{Incomp
 use Rattle.zarrs_codec.specs.declared.bytes_representation.BytesRepresentation.{BytesRepresentation}
 use Rattle.zarrs_data_type.specs.Element.{plain, absent, Chunk, IsElement, AreElements, fill_element}
 use Rattle.zarrs_data_type.specs.ElementType.{ElementType}
+use Rattle.zarrs_chain_meaning.specs.Parts.{for_each}
+use Rattle.zarrs_chain_meaning.specs.optional.Optional.{bounded_total}
+use Rattle.zarrs_codec.specs.declared.bytes_representation.BytesRepresentation.TheVariants.{FixedSize}
 
 -- ---- what the representation says
 
@@ -37,7 +40,7 @@ pub record IsShardTaken (shape : List ℕ) (keep : Keeping) (inner index : Measu
   pub filled : is_kept_as_fill keep type fill (fill_element type fill) ≡ true
   pub size : ℕ
   pub sized : index_size index shape sizes ≡ Ok size
-  pub is : shard_bound (inner_chunk_count shape sizes) inner_size size ≡ r
+  pub is : bounded_total (λ inner index. inner_chunk_count shape sizes * inner + index) inner_size (FixedSize size) ≡ r
 
 pub shard_taken : (shape : List ℕ) (keep : Keeping) (inner index : Measure) (sizes : List ℕ) (type : ElementType) (fill : List ℕ) (r : BytesRepresentation) → shard_representation shape keep inner index sizes type fill ≡ Ok r → IsShardTaken shape keep inner index sizes type fill r
 shard_taken shape keep inner index sizes type fill r e =
@@ -57,7 +60,7 @@ shard_taken shape keep inner index sizes type fill r e =
       filled = demand_ok (is_kept_as_fill keep type fill (fill_element type fill)) InvalidFillValue h.0 h.1;
       size = s.0;
       sized = s.1;
-      is = ok_is (shard_bound (inner_chunk_count shape sizes) d.0 s.0) r s.2;
+      is = ok_is (bounded_total (λ inner index. inner_chunk_count shape sizes * inner + index) d.0 (FixedSize s.0)) r s.2;
     }
 
 -- ---- normal forms
@@ -85,7 +88,7 @@ kept_chunk inner keep law false shape type fill inner_chunk None is w = absurd w
 kept_chunk inner keep law false shape type fill inner_chunk (Some part) is w = law shape type fill part inner_chunk is w
 
 each_kept : (inner : Standing) (keep : Keeping) → KeepsTwice keep → WrittenKept inner keep → (shape : List ℕ) (type : ElementType) (fill : List ℕ) (inner_chunks : List Chunk) (parts : List (Option (List ℕ))) → All (IsChunk type (product shape)) inner_chunks
-    → InnerChunksWritten keep inner shape type fill inner_chunks parts → InnerChunksWritten keep inner shape type fill (map (map (keep type)) inner_chunks) parts
+    → AllZip (λ inner_chunk part. InnerChunkWritten (is_left_out keep type fill inner_chunk) inner shape type fill inner_chunk part) inner_chunks parts → AllZip (λ inner_chunk part. InnerChunkWritten (is_left_out keep type fill inner_chunk) inner shape type fill inner_chunk part) (map (map (keep type)) inner_chunks) parts
 each_kept inner keep t law shape type fill [] [] are w = tt
 each_kept inner keep t law shape type fill [] (part ∷ parts) are w = absurd w
 each_kept inner keep t law shape type fill (inner_chunk ∷ inner_chunks) [] are w = absurd w
@@ -96,7 +99,7 @@ each_kept inner keep t law shape type fill (inner_chunk ∷ inner_chunks) (part 
     )
 
 kept_each : (inner : Standing) (keep : Keeping) → KeepsTwice keep → KeptWritten inner keep → (shape : List ℕ) (type : ElementType) (fill : List ℕ) (inner_chunks : List Chunk) (parts : List (Option (List ℕ))) → All (IsChunk type (product shape)) inner_chunks
-    → InnerChunksWritten keep inner shape type fill (map (map (keep type)) inner_chunks) parts → InnerChunksWritten keep inner shape type fill inner_chunks parts
+    → AllZip (λ inner_chunk part. InnerChunkWritten (is_left_out keep type fill inner_chunk) inner shape type fill inner_chunk part) (map (map (keep type)) inner_chunks) parts → AllZip (λ inner_chunk part. InnerChunkWritten (is_left_out keep type fill inner_chunk) inner shape type fill inner_chunk part) inner_chunks parts
 kept_each inner keep t law shape type fill [] [] are w = tt
 kept_each inner keep t law shape type fill [] (part ∷ parts) are w = absurd w
 kept_each inner keep t law shape type fill (inner_chunk ∷ inner_chunks) [] are w = absurd w
@@ -108,7 +111,7 @@ kept_each inner keep t law shape type fill (inner_chunk ∷ inner_chunks) (part 
 
 -- with the same inner values another chunk is written alike
 shard_with : (shape : List ℕ) (at_end : Bool) (keep index_keep : Keeping) (measure : Measure) (inner index : Standing) (sizes : List ℕ) (type : ElementType) (fill value : List ℕ) (chunk other : Chunk) → (w : ShardWritten shape at_end keep index_keep measure inner index sizes type fill value chunk)
-    → IsChunk type (product sizes) other → InnerChunksWritten keep inner shape type fill (inner_chunks_of shape sizes other) w.values → ShardWritten shape at_end keep index_keep measure inner index sizes type fill value other
+    → IsChunk type (product sizes) other → AllZip (λ inner_chunk part. InnerChunkWritten (is_left_out keep type fill inner_chunk) inner shape type fill inner_chunk part) (inner_chunks_of shape sizes other) w.values → ShardWritten shape at_end keep index_keep measure inner index sizes type fill value other
 shard_with shape at_end keep index_keep measure inner index sizes type fill value chunk other w is inner_chunks = record {
   divided = w.divided;
   size = w.size;
@@ -128,7 +131,7 @@ pub shard_kept : (shape : List ℕ) (at_end : Bool) (keep index_keep : Keeping) 
     → WrittenKept (ShardWritten shape at_end keep index_keep measure inner index) keep
 shard_kept shape at_end keep index_keep measure inner index types twice absents law sizes type fill value chunk w =
     shard_with shape at_end keep index_keep measure inner index sizes type fill value chunk (map (keep type) chunk) w (kept_elements keep types type (product sizes) chunk w.elements)
-    (subst (λ (b : List Chunk). InnerChunksWritten keep inner shape type fill b w.values) (inner_chunks_kept shape sizes keep absents type chunk)
+    (subst (λ (b : List Chunk). AllZip (λ inner_chunk part. InnerChunkWritten (is_left_out keep type fill inner_chunk) inner shape type fill inner_chunk part) b w.values) (inner_chunks_kept shape sizes keep absents type chunk)
     (each_kept inner keep twice law shape type fill (inner_chunks_of shape sizes chunk) w.values (inner_chunks_are shape sizes type chunk w.divided w.elements) w.inner_chunks))
 
 -- a selected element is of the type where it is kept as one
@@ -152,7 +155,7 @@ kept_shard shape at_end keep index_keep measure inner index twice absents law si
     let is : IsChunk type (product sizes) other = record { count_is = sym (length-map other (keep type)) ∙ w.elements.count_is; each = selected_elements keep absents type chunk places each w.elements.each } in
     shard_with shape at_end keep index_keep measure inner index sizes type fill value (map (keep type) other) other w is
     (kept_each inner keep twice law shape type fill (inner_chunks_of shape sizes other) w.values (inner_chunks_are shape sizes type other w.divided is)
-    (subst (λ (b : List Chunk). InnerChunksWritten keep inner shape type fill b w.values) (sym (inner_chunks_kept shape sizes keep absents type other)) w.inner_chunks))
+    (subst (λ (b : List Chunk). AllZip (λ inner_chunk part. InnerChunkWritten (is_left_out keep type fill inner_chunk) inner shape type fill inner_chunk part) b w.values) (sym (inner_chunks_kept shape sizes keep absents type other)) w.inner_chunks))
 
 -- ---- what is answered is written
 
@@ -164,14 +167,14 @@ chunk_by inner encode law false shape type fill inner_chunk part p is e =
     subst (InnerChunkWritten false inner shape type fill inner_chunk) (ok_is (Some a.0) part a.2) (law shape type fill a.0 inner_chunk p is a.1)
 
 chunks_by : (keep : Keeping) (inner : Standing) (encode : Encoder) → Founds inner encode → (shape : List ℕ) (type : ElementType) (fill : List ℕ) (inner_chunks : List Chunk) (parts : List (Option (List ℕ))) → All is_positive shape → All (IsChunk type (product shape)) inner_chunks
-    → inner_values keep encode shape type fill inner_chunks ≡ Ok parts → InnerChunksWritten keep inner shape type fill inner_chunks parts × (length parts ≡ length inner_chunks)
-chunks_by keep inner encode law shape type fill [] parts p are e = subst (λ (ps : List (Option (List ℕ))). InnerChunksWritten keep inner shape type fill [] ps × (length ps ≡ 0)) (ok_is [] parts e) (tt, refl)
+    → for_each (λ inner_chunk. inner_value (is_left_out keep type fill inner_chunk) (encode shape type fill inner_chunk)) inner_chunks ≡ Ok parts → AllZip (λ inner_chunk part. InnerChunkWritten (is_left_out keep type fill inner_chunk) inner shape type fill inner_chunk part) inner_chunks parts × (length parts ≡ length inner_chunks)
+chunks_by keep inner encode law shape type fill [] parts p are e = subst (λ (ps : List (Option (List ℕ))). AllZip (λ inner_chunk part. InnerChunkWritten (is_left_out keep type fill inner_chunk) inner shape type fill inner_chunk part) [] ps × (length ps ≡ 0)) (ok_is [] parts e) (tt, refl)
 chunks_by keep inner encode law shape type fill (inner_chunk ∷ inner_chunks) parts p are e =
     let a = bind_ok (inner_value (is_left_out keep type fill inner_chunk) (encode shape type fill inner_chunk)) _ parts e in
-    let b = bind_ok (inner_values keep encode shape type fill inner_chunks) _ parts a.2 in
+    let b = bind_ok (for_each (λ inner_chunk. inner_value (is_left_out keep type fill inner_chunk) (encode shape type fill inner_chunk)) inner_chunks) _ parts a.2 in
     let first = chunk_by inner encode law (is_left_out keep type fill inner_chunk) shape type fill inner_chunk a.0 p (All-head (IsChunk type (product shape)) inner_chunk inner_chunks are) a.1 in
     let rest = chunks_by keep inner encode law shape type fill inner_chunks b.0 p (All-tail (IsChunk type (product shape)) inner_chunk inner_chunks are) b.1 in
-    subst (λ (ps : List (Option (List ℕ))). InnerChunksWritten keep inner shape type fill (inner_chunk ∷ inner_chunks) ps × (length ps ≡ suc (length inner_chunks))) (ok_is (a.0 ∷ b.0) parts b.2) ((first, rest.0), ap suc rest.1)
+    subst (λ (ps : List (Option (List ℕ))). AllZip (λ inner_chunk part. InnerChunkWritten (is_left_out keep type fill inner_chunk) inner shape type fill inner_chunk part) (inner_chunk ∷ inner_chunks) ps × (length ps ≡ suc (length inner_chunks))) (ok_is (a.0 ∷ b.0) parts b.2) ((first, rest.0), ap suc rest.1)
 
 pub numbers_long : (at : ℕ) (parts : List (Option (List ℕ))) → length (index_numbers at parts) ≡ length parts * 2
 numbers_long at [] = refl
@@ -192,7 +195,7 @@ shard_founds shape at_end keep index_keep im measure inner index encode index_en
     let taken = shard_taken shape keep im measure sizes type fill r t in
     let cut = is_cut shape sizes p taken.divided in
     let a = bind_ok (index_size measure shape sizes) _ value e in
-    let b = bind_ok (inner_values keep encode shape type fill (inner_chunks_of shape sizes chunk)) _ value a.2 in
+    let b = bind_ok (for_each (λ inner_chunk. inner_value (is_left_out keep type fill inner_chunk) (encode shape type fill inner_chunk)) (inner_chunks_of shape sizes chunk)) _ value a.2 in
     let at = first_offset at_end a.0 in
     let c = bind_ok (demand (nat_lt (at + length (joined_values b.0)) (2 ^ 64)) Overflow) _ value b.2 in
     let numbers = index_numbers at b.0 in

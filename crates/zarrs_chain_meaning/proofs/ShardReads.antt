@@ -1,6 +1,6 @@
 -- What `sharding_indexed` answers of a value stands.
 use Rattle.std.proofs.Common.{◌≡◌, ℕ, zero, suc, ◌+◌, ◌-◌, ◌*◌, ◌<◌, ◌≤◌, nat_le, Bool, true, false, get_or, List, [], ◌∷◌, length, take, drop, replicate, Ok, arith, refl, ap, sym, subst, ◌∙◌}
-use Rattle.std.specs.List.{All}
+use Rattle.std.specs.List.{All, AllZip}
 use Rattle.std.proofs.lemmas.List.{length-map, length-drop, length-take-le, take-append-drop, length-replicate}
 use Rattle.std.proofs.lemmas.List.Elements.{All-nil, All-cons}
 use Rattle.std.proofs.lemmas.List.FromFn.{get_or-map-range_with_len}
@@ -13,7 +13,7 @@ use Rattle.zarrs_chain_meaning.proofs.NestedRoom.{HasFill}
 use Rattle.zarrs_chain_meaning.proofs.NestedStages.{is_positive}
 use Rattle.zarrs_chain_meaning.specs.Meaning.{Measure, Decoder, Standing, Keeping}
 use Rattle.zarrs_chain_meaning.specs.sharding.InnerChunks.{grid, inner_chunk_count, inner_chunk_of, place_inside, inner_chunks_of, joined_inner_chunks, IsCut}
-use Rattle.zarrs_chain_meaning.specs.sharding.Sharding.{index_shape, index_size, Span, is_stored, spans_of, shard_representation, shard_layout, index_part_of, spanned_bytes, inner_chunk_at, inner_chunks_at, shard_chunk, InnerChunkStands, InnerChunksStand, ShardStands}
+use Rattle.zarrs_chain_meaning.specs.sharding.Sharding.{index_shape, index_size, Span, is_stored, spans_of, shard_representation, shard_layout, index_part_of, spanned_bytes, inner_chunk_at, inner_chunks_at, shard_chunk, InnerChunkStands, ShardStands}
 use Rattle.zarrs_chain_meaning.specs.vlen.Vlen.{offset_type, offset_bytes, offsets_in_chunk}
 use Rattle.zarrs_chunk.proofs.Inside.{from_le_test}
 use Rattle.zarrs_chunk.specs.Answer.{demand}
@@ -49,7 +49,7 @@ chunk_read inner decode law true shape type fill value span inner_chunk p h e =
     ((inside, read.0), read.1)
 
 record InnerChunksRead (inner : Standing) (shape : List ℕ) (type : ElementType) (fill value : List ℕ) (spans : List Span) (inner_chunks : List Chunk) : Type 0 where
-  pub stand : InnerChunksStand inner shape type fill value spans inner_chunks
+  pub stand : AllZip (λ span inner_chunk. InnerChunkStands (is_stored span) inner shape type fill value span inner_chunk) spans inner_chunks
   pub are : All (IsChunk type (product shape)) inner_chunks
   pub long : length inner_chunks ≡ length spans
 
@@ -120,7 +120,7 @@ shard_reads shape at_end keep im measure inner index decode index_decode p fills
         index_long = split.2;
         index_stands = rows.0;
         elements = is;
-        inner_chunks = subst (InnerChunksStand inner shape type fill value (spans_of numbers)) (sym again) read.stand;
+        inner_chunks = subst (AllZip (λ span inner_chunk. InnerChunkStands (is_stored span) inner shape type fill value span inner_chunk) (spans_of numbers)) (sym again) read.stand;
       },
       is,
     )

@@ -1,6 +1,6 @@
 -- How many bytes `sharding_indexed` writes; and what it asks of chunks.
 use Rattle.std.proofs.Common.{◌≡◌, ℕ, suc, ◌+◌, ◌*◌, ◌/◌, ◌%◌, ◌≤◌, nat_eq, nat_le, Bool, true, false, Option, Some, None, List, [], ◌∷◌, length, Ok, arith, refl, ap, sym, subst, ◌∙◌}
-use Rattle.std.specs.List.{All}
+use Rattle.std.specs.List.{All, AllZip}
 use Rattle.std.proofs.lemmas.Bool.{eqb-true}
 use Rattle.std.proofs.lemmas.List.{length-append}
 use Rattle.std.proofs.lemmas.List.Elements.{All-nil, All-head, All-tail, All-append}
@@ -15,7 +15,7 @@ use Rattle.zarrs_chain_meaning.proofs.NestedRoom.{HasRoom, HasFill}
 use Rattle.zarrs_chain_meaning.proofs.NestedStages.{is_byte, is_positive}
 use Rattle.zarrs_chain_meaning.specs.Meaning.{Measure, Decoder, Standing, Keeping}
 use Rattle.zarrs_chain_meaning.specs.sharding.InnerChunks.{is_divided, grid, inner_chunk_count, inner_chunks_of, joined_inner_chunks}
-use Rattle.zarrs_chain_meaning.specs.sharding.Sharding.{index_shape, fixed_size, index_size, spans_of, shard_bound, shard_representation, is_left_out, joined_values, index_numbers, first_offset, shard_layout, index_part_of, inner_chunks_at, shard_chunk, InnerChunkWritten, InnerChunksWritten, ShardWritten}
+use Rattle.zarrs_chain_meaning.specs.sharding.Sharding.{index_shape, fixed_size, index_size, spans_of, shard_representation, is_left_out, joined_values, index_numbers, first_offset, shard_layout, index_part_of, inner_chunks_at, shard_chunk, InnerChunkWritten, ShardWritten}
 use Rattle.zarrs_chain_meaning.specs.vlen.Vlen.{offset_type, offset_bytes, offset_elements, offsets_in_chunk}
 use Rattle.zarrs_chunk.specs.Answer.{demand, checked_u64}
 use Rattle.zarrs_chunk.specs.ChunkShape.{product}
@@ -28,6 +28,7 @@ use Rattle.zarrs_data_type.specs.Element.{Chunk}
 use Rattle.zarrs_data_type.specs.ElementType.{ElementType}
 use Rattle.zarrs_packbits.specs.Laws.{HasBytes}
 use Rattle.zarrs_chain_meaning.proofs.ShardNormal.{shard_taken, product_two}
+use Rattle.zarrs_chain_meaning.specs.optional.Optional.{bounded_total}
 
 -- ---- sizes
 
@@ -57,7 +58,7 @@ record AreMeasured (s : BytesRepresentation) (count : ℕ) (values : List ℕ) :
   pub within : AreWithin s count (length values)
 
 chunks_measured : (keep : Keeping) (inner : Standing) (measure : Measure) → WritesMeasured inner measure → (shape : List ℕ) (type : ElementType) (fill : List ℕ) (s : BytesRepresentation) (inner_chunks : List Chunk) (parts : List (Option (List ℕ))) → All is_positive shape
-    → measure shape type fill ≡ Ok s → All (All HasBytes) inner_chunks → InnerChunksWritten keep inner shape type fill inner_chunks parts → AreMeasured s (length inner_chunks) (joined_values parts)
+    → measure shape type fill ≡ Ok s → All (All HasBytes) inner_chunks → AllZip (λ inner_chunk part. InnerChunkWritten (is_left_out keep type fill inner_chunk) inner shape type fill inner_chunk part) inner_chunks parts → AreMeasured s (length inner_chunks) (joined_values parts)
 chunks_measured keep inner measure law shape type fill s [] [] p m have w = record { each = All-nil is_byte; within = none_within s }
 chunks_measured keep inner measure law shape type fill s [] (part ∷ parts) p m have w = absurd w
 chunks_measured keep inner measure law shape type fill s (inner_chunk ∷ inner_chunks) [] p m have w = absurd w
@@ -85,7 +86,7 @@ layout_long : (at_end : Bool) (index values : List ℕ) → length (shard_layout
 layout_long false index values = let l = length-append index values in omega (arith, l)
 layout_long true index values = length-append values index
 
-bound_keeps : (s : BytesRepresentation) (count size long : ℕ) (value : List ℕ) → AreWithin s count long → length value ≡ long + size → KeepsTo (shard_bound count s size) value
+bound_keeps : (s : BytesRepresentation) (count size long : ℕ) (value : List ℕ) → AreWithin s count long → length value ≡ long + size → KeepsTo (bounded_total (λ inner index. count * inner + index) s (FixedSize size)) value
 bound_keeps (FixedSize inner) count size long value h l = bounded_keeps (count * inner + size) value (omega (arith, h, l))
 bound_keeps (BoundedSize inner) count size long value h l = bounded_keeps (count * inner + size) value (omega (arith, h, l))
 bound_keeps UnboundedSize count size long value h l = tt
@@ -129,7 +130,7 @@ count_grows : (shape sizes others : List ℕ) → All is_positive shape → is_d
 count_grows shape sizes others p d g h =
     le_of_mul-le-mul_right (subst (λ (n : ℕ). n ≤ inner_chunk_count shape others * product shape) (sym (cut_count shape sizes d)) (subst (λ (n : ℕ). product sizes ≤ n) (sym (cut_count shape others g)) h)) (positive_product shape p)
 
-bound_grows : (s : BytesRepresentation) (m n a b : ℕ) → m ≤ n → a ≤ b → IsAtMost (shard_bound m s a) (shard_bound n s b)
+bound_grows : (s : BytesRepresentation) (m n a b : ℕ) → m ≤ n → a ≤ b → IsAtMost (bounded_total (λ inner index. m * inner + index) s (FixedSize a)) (bounded_total (λ inner index. n * inner + index) s (FixedSize b))
 bound_grows (FixedSize inner) m n a b h g = let k = mul-le-mul_right inner h in bounded_grows (m * inner + a) (n * inner + b) (omega (arith, k, g))
 bound_grows (BoundedSize inner) m n a b h g = let k = mul-le-mul_right inner h in bounded_grows (m * inner + a) (n * inner + b) (omega (arith, k, g))
 bound_grows UnboundedSize m n a b h g = tt
@@ -149,7 +150,7 @@ shard_grows shape keep im measure p grows sizes others type fill r s positive al
     let index = grows (index_shape shape sizes) (index_shape shape others) (offset_type true) (offset_bytes true 0) i.0 j.0 (index_positive shape sizes positive (is_cut shape sizes p one.divided)) (index_positive shape others also (is_cut shape others p two.divided)) more i.1 j.1 in
     let sizes_grow : one.size ≤ two.size = subst (λ (x : BytesRepresentation). IsAtMost x (FixedSize two.size)) (fixed_is i.0 one.size i.2) (subst (λ (x : BytesRepresentation). IsAtMost i.0 x) (fixed_is j.0 two.size j.2) index) in
     subst (λ (x : BytesRepresentation). IsAtMost x s) one.is
-    (subst (λ (x : BytesRepresentation). IsAtMost (shard_bound (inner_chunk_count shape sizes) one.inner_size one.size) x) (ap (λ (x : BytesRepresentation). shard_bound (inner_chunk_count shape others) x two.size) inner ∙ two.is)
+    (subst (λ (x : BytesRepresentation). IsAtMost (bounded_total (λ inner index. inner_chunk_count shape sizes * inner + index) one.inner_size (FixedSize one.size)) x) (ap (λ (x : BytesRepresentation). bounded_total (λ inner index. (inner_chunk_count shape others) * inner + index) x (FixedSize two.size)) inner ∙ two.is)
     (bound_grows one.inner_size (inner_chunk_count shape sizes) (inner_chunk_count shape others) one.size two.size count sizes_grow))
 
 -- ---- of as many elements it is the same
@@ -175,7 +176,7 @@ shard_by_count shape keep im measure p by_count sizes others type fill r s posit
     product_two (grid shape sizes) ∙ ap (λ (n : ℕ). n * 2) count ∙ sym (product_two (grid shape others)) in
     let index = by_count (index_shape shape sizes) (index_shape shape others) (offset_type true) (offset_bytes true 0) i.0 j.0 (index_positive shape sizes positive (is_cut shape sizes p one.divided)) (index_positive shape others also (is_cut shape others p two.divided)) as_many i.1 j.1 in
     let same : one.size ≡ two.size = fixed_same i.0 j.0 one.size two.size i.2 j.2 index in
-    sym one.is ∙ (λ k. shard_bound (count k) (inner k) (same k)) ∙ two.is
+    sym one.is ∙ (λ k. bounded_total (λ inner index. (count k) * inner + index) (inner k) (FixedSize (same k))) ∙ two.is
 
 -- ---- what memory has room for, and fill values
 

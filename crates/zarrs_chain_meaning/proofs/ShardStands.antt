@@ -1,6 +1,6 @@
 -- A value of `sharding_indexed` stands for one chunk, and for a chunk one value is written, which stands for the normal form.
 use Rattle.std.proofs.Common.{◌≡◌, ℕ, ◌+◌, ◌-◌, ◌<◌, ◌≤◌, ◌^◌, nat_eq, nat_lt, nat_le, not, ◌&&◌, Bool, true, false, Option, Some, None, List, [], ◌∷◌, ◌++◌, length, take, drop, map, replicate, Ok, arith, refl, ap, sym, subst, ◌∙◌}
-use Rattle.std.specs.List.{All, list_all}
+use Rattle.std.specs.List.{All, list_all, AllZip}
 use Rattle.std.proofs.lemmas.Bool.{eqb-true, eq-eqb}
 use Rattle.std.proofs.lemmas.List.{append_assoc, length-append, take_at, drop_at}
 use Rattle.std.proofs.lemmas.List.Elements.{All-head, All-tail}
@@ -22,7 +22,7 @@ use Rattle.zarrs_chain_meaning.specs.BytesStages.{in_memory}
 use Rattle.zarrs_chain_meaning.proofs.NestedStages.{is_positive}
 use Rattle.zarrs_chain_meaning.specs.Meaning.{Measure, Encoder, Decoder, Standing, Keeping}
 use Rattle.zarrs_chain_meaning.specs.sharding.InnerChunks.{inner_chunks_of, joined_inner_chunks}
-use Rattle.zarrs_chain_meaning.specs.sharding.Sharding.{index_shape, fixed_size, index_size, missing, Span, is_stored, spans_of, is_same_element, is_kept_as_fill, is_left_out, inner_value, inner_values, joined_values, index_numbers, first_offset, shard_layout, shard_value, index_part_of, spanned_bytes, inner_chunk_at, inner_chunks_at, shard_chunk, InnerChunkStands, InnerChunksStand, ShardStands, InnerChunkWritten, InnerChunksWritten, ShardWritten}
+use Rattle.zarrs_chain_meaning.specs.sharding.Sharding.{index_shape, fixed_size, index_size, missing, Span, is_stored, spans_of, is_same_element, is_kept_as_fill, is_left_out, inner_value, joined_values, index_numbers, first_offset, shard_layout, shard_value, index_part_of, spanned_bytes, inner_chunk_at, inner_chunks_at, shard_chunk, InnerChunkStands, ShardStands, InnerChunkWritten, ShardWritten}
 use Rattle.zarrs_chain_meaning.specs.vlen.Vlen.{offset_type, offset_bytes, offset_of, offset_elements, offsets_in_chunk, is_same_bytes}
 use Rattle.zarrs_chunk.proofs.Inside.{le_test, lt_test}
 use Rattle.zarrs_chunk.specs.ChunkShape.{product}
@@ -34,6 +34,7 @@ use Rattle.zarrs_data_type.specs.Element.{Element, plain, absent, present, Chunk
 use Rattle.zarrs_data_type.specs.ElementType.{ElementType}
 use Rattle.zarrs_packbits.specs.Laws.{HasBytes}
 use Rattle.zarrs_bytes.specs.PartialWrite.{filled_chunk}
+use Rattle.zarrs_chain_meaning.specs.Parts.{for_each}
 
 -- ---- a value stands for one chunk
 
@@ -43,7 +44,7 @@ chunk_once inner law false shape type fill value span inner_chunk other p a b = 
 chunk_once inner law true shape type fill value span inner_chunk other p a b = law shape type fill (spanned_bytes value span) inner_chunk other p a.1 b.1
 
 chunks_once : (inner : Standing) → StandsOnce inner → (shape : List ℕ) (type : ElementType) (fill value : List ℕ) (spans : List Span) (inner_chunks others : List Chunk) → All is_positive shape
-    → InnerChunksStand inner shape type fill value spans inner_chunks → InnerChunksStand inner shape type fill value spans others → inner_chunks ≡ others
+    → AllZip (λ span inner_chunk. InnerChunkStands (is_stored span) inner shape type fill value span inner_chunk) spans inner_chunks → AllZip (λ span inner_chunk. InnerChunkStands (is_stored span) inner shape type fill value span inner_chunk) spans others → inner_chunks ≡ others
 chunks_once inner law shape type fill value [] [] [] p a b = refl
 chunks_once inner law shape type fill value [] [] (other ∷ others) p a b = absurd b
 chunks_once inner law shape type fill value [] (inner_chunk ∷ inner_chunks) others p a b = absurd a
@@ -67,7 +68,7 @@ shard_once shape at_end measure inner index p i d sizes type fill value chunk ot
     (subst (λ (x : List ℕ). index (index_shape shape sizes) (offset_type true) (offset_bytes true 0) x b.rows) (sym part) b.index_stands) in
     let inner_chunks : inner_chunks_of shape sizes chunk ≡ inner_chunks_of shape sizes other =
     chunks_once inner i shape type fill value (spans_of (offsets_in_chunk true a.rows)) (inner_chunks_of shape sizes chunk) (inner_chunks_of shape sizes other) p a.inner_chunks
-    (subst (λ (x : Chunk). InnerChunksStand inner shape type fill value (spans_of (offsets_in_chunk true x)) (inner_chunks_of shape sizes other)) (sym rows) b.inner_chunks) in
+    (subst (λ (x : Chunk). AllZip (λ span inner_chunk. InnerChunkStands (is_stored span) inner shape type fill value span inner_chunk) (spans_of (offsets_in_chunk true x)) (inner_chunks_of shape sizes other)) (sym rows) b.inner_chunks) in
     sym (joined_again shape sizes chunk (is_cut shape sizes p a.divided) a.elements.count_is) ∙ ap (joined_inner_chunks shape sizes) inner_chunks ∙ joined_again shape sizes other (is_cut shape sizes p b.divided) b.elements.count_is
 
 -- ---- for a chunk one value is written
@@ -82,7 +83,7 @@ chunk_written_once inner law false shape type fill inner_chunk (Some part) None 
 chunk_written_once inner law false shape type fill inner_chunk (Some part) (Some other) a b = ap (λ (x : List ℕ). Some x) (law shape type fill part other inner_chunk a b)
 
 chunks_written_once : (keep : Keeping) (inner : Standing) → WritesOnce inner → (shape : List ℕ) (type : ElementType) (fill : List ℕ) (inner_chunks : List Chunk) (parts others : List (Option (List ℕ)))
-    → InnerChunksWritten keep inner shape type fill inner_chunks parts → InnerChunksWritten keep inner shape type fill inner_chunks others → parts ≡ others
+    → AllZip (λ inner_chunk part. InnerChunkWritten (is_left_out keep type fill inner_chunk) inner shape type fill inner_chunk part) inner_chunks parts → AllZip (λ inner_chunk part. InnerChunkWritten (is_left_out keep type fill inner_chunk) inner shape type fill inner_chunk part) inner_chunks others → parts ≡ others
 chunks_written_once keep inner law shape type fill [] [] [] a b = refl
 chunks_written_once keep inner law shape type fill [] [] (other ∷ others) a b = absurd b
 chunks_written_once keep inner law shape type fill [] (part ∷ parts) others a b = absurd a
@@ -115,7 +116,7 @@ chunk_only inner encode law false shape type fill inner_chunk None w = absurd w
 chunk_only inner encode law false shape type fill inner_chunk (Some part) w = rw (law shape type fill part inner_chunk w) refl
 
 chunks_only : (keep : Keeping) (inner : Standing) (encode : Encoder) → Encodes inner encode → (shape : List ℕ) (type : ElementType) (fill : List ℕ) (inner_chunks : List Chunk) (parts : List (Option (List ℕ)))
-    → InnerChunksWritten keep inner shape type fill inner_chunks parts → inner_values keep encode shape type fill inner_chunks ≡ Ok parts
+    → AllZip (λ inner_chunk part. InnerChunkWritten (is_left_out keep type fill inner_chunk) inner shape type fill inner_chunk part) inner_chunks parts → for_each (λ inner_chunk. inner_value (is_left_out keep type fill inner_chunk) (encode shape type fill inner_chunk)) inner_chunks ≡ Ok parts
 chunks_only keep inner encode law shape type fill [] [] w = refl
 chunks_only keep inner encode law shape type fill [] (part ∷ parts) w = absurd w
 chunks_only keep inner encode law shape type fill (inner_chunk ∷ inner_chunks) [] w = absurd w
@@ -123,7 +124,7 @@ chunks_only keep inner encode law shape type fill (inner_chunk ∷ inner_chunks)
     rw (chunk_only inner encode law (is_left_out keep type fill inner_chunk) shape type fill inner_chunk part w.0, chunks_only keep inner encode law shape type fill inner_chunks parts w.1) refl
 
 value_steps : (shape : List ℕ) (at_end : Bool) (keep index_keep : Keeping) (measure : Measure) (inner index : Encoder) (sizes : List ℕ) (type : ElementType) (fill : List ℕ) (chunk : Chunk) (size : ℕ) (parts : List (Option (List ℕ))) (part : List ℕ)
-    → index_size measure shape sizes ≡ Ok size → inner_values keep inner shape type fill (inner_chunks_of shape sizes chunk) ≡ Ok parts → nat_lt (first_offset at_end size + length (joined_values parts)) (2 ^ 64) ≡ true
+    → index_size measure shape sizes ≡ Ok size → for_each (λ inner_chunk. inner_value (is_left_out keep type fill inner_chunk) (inner shape type fill inner_chunk)) (inner_chunks_of shape sizes chunk) ≡ Ok parts → nat_lt (first_offset at_end size + length (joined_values parts)) (2 ^ 64) ≡ true
     → index (index_shape shape sizes) (offset_type true) (offset_bytes true 0) (offset_elements true (index_numbers (first_offset at_end size) parts)) ≡ Ok part
     → is_same_bytes (map (index_keep (offset_type true)) (offset_elements true (index_numbers (first_offset at_end size) parts))) (offset_elements true (index_numbers (first_offset at_end size) parts)) ≡ true
     → shard_value shape at_end keep index_keep measure inner index sizes type fill chunk ≡ in_memory (shard_layout at_end part (joined_values parts))
@@ -148,7 +149,7 @@ chunk_found inner decode law false shape type fill value span inner_chunk p s = 
 chunk_found inner decode law true shape type fill value span inner_chunk p s = rw (le_test (span.0 + span.1) (length value) s.0) (law shape type fill (spanned_bytes value span) inner_chunk p s.1)
 
 chunks_found : (inner : Standing) (decode : Decoder) → Decodes inner decode → (shape : List ℕ) (type : ElementType) (fill value : List ℕ) (spans : List Span) (inner_chunks : List Chunk) → All is_positive shape
-    → InnerChunksStand inner shape type fill value spans inner_chunks → inner_chunks_at decode shape type fill value spans ≡ Ok inner_chunks
+    → AllZip (λ span inner_chunk. InnerChunkStands (is_stored span) inner shape type fill value span inner_chunk) spans inner_chunks → inner_chunks_at decode shape type fill value spans ≡ Ok inner_chunks
 chunks_found inner decode law shape type fill value [] [] p s = refl
 chunks_found inner decode law shape type fill value [] (inner_chunk ∷ inner_chunks) p s = absurd s
 chunks_found inner decode law shape type fill value (span ∷ spans) [] p s = absurd s
@@ -246,7 +247,7 @@ at_span inner shape type fill value span inner_chunk stored e s = subst (λ (b :
 -- the value's bytes before the inner values, they, and the bytes behind them
 chunks_stand : (keep : Keeping) (write stand : Standing) → StandsKept write stand keep → (shape : List ℕ) (type : ElementType) (fill value front tail : List ℕ) (at : ℕ) (inner_chunks : List Chunk) (parts : List (Option (List ℕ))) → All is_positive shape
     → All (IsChunk type (product shape)) inner_chunks → All (All HasBytes) inner_chunks → length front ≡ at → value ≡ front ++ (joined_values parts ++ tail) → at + length (joined_values parts) < 2 ^ 64
-    → InnerChunksWritten keep write shape type fill inner_chunks parts → InnerChunksStand stand shape type fill value (spans_of (index_numbers at parts)) (map (map (keep type)) inner_chunks)
+    → AllZip (λ inner_chunk part. InnerChunkWritten (is_left_out keep type fill inner_chunk) write shape type fill inner_chunk part) inner_chunks parts → AllZip (λ span inner_chunk. InnerChunkStands (is_stored span) stand shape type fill value span inner_chunk) (spans_of (index_numbers at parts)) (map (map (keep type)) inner_chunks)
 chunks_stand keep write stand law shape type fill value front tail at [] [] p are have f v l w = tt
 chunks_stand keep write stand law shape type fill value front tail at [] (part ∷ parts) p are have f v l w = absurd w
 chunks_stand keep write stand law shape type fill value front tail at (inner_chunk ∷ inner_chunks) [] p are have f v l w = absurd w
@@ -319,7 +320,7 @@ shard_stands shape at_end keep index_keep measure iw is dw ds p types absents i 
     let found : ds (index_shape shape sizes) (offset_type true) (offset_bytes true 0) w.index_part rows =
     subst (ds (index_shape shape sizes) (offset_type true) (offset_bytes true 0) w.index_part) w.kept
     (d (index_shape shape sizes) (offset_type true) (offset_bytes true 0) w.index_part rows inside (offsets_have true numbers) w.index_written) in
-    let stand : InnerChunksStand is shape type fill value (spans_of numbers) (map (map (keep type)) (inner_chunks_of shape sizes chunk)) =
+    let stand : AllZip (λ span inner_chunk. InnerChunkStands (is_stored span) is shape type fill value span inner_chunk) (spans_of numbers) (map (map (keep type)) (inner_chunks_of shape sizes chunk)) =
     chunks_stand keep iw is i shape type fill value at.front at.tail (first_offset at_end w.size) (inner_chunks_of shape sizes chunk) w.values p (inner_chunks_are shape sizes type chunk w.divided w.elements) (inner_chunks_have shape sizes chunk each) at.long at.is w.counted w.inner_chunks in
     record {
       divided = w.divided;
@@ -332,6 +333,6 @@ shard_stands shape at_end keep index_keep measure iw is dw ds p types absents i 
       index_long = long;
       index_stands = found;
       elements = kept_elements keep types type (product sizes) chunk w.elements;
-      inner_chunks = subst (λ (x : List ℕ). InnerChunksStand is shape type fill value (spans_of x) (inner_chunks_of shape sizes (map (keep type) chunk))) (sym (numbers_again (first_offset at_end w.size) w.values w.counted))
-          (subst (InnerChunksStand is shape type fill value (spans_of numbers)) (inner_chunks_kept shape sizes keep absents type chunk) stand);
+      inner_chunks = subst (λ (x : List ℕ). AllZip (λ span inner_chunk. InnerChunkStands (is_stored span) is shape type fill value span inner_chunk) (spans_of x) (inner_chunks_of shape sizes (map (keep type) chunk))) (sym (numbers_again (first_offset at_end w.size) w.values w.counted))
+          (subst (AllZip (λ span inner_chunk. InnerChunkStands (is_stored span) is shape type fill value span inner_chunk) (spans_of numbers)) (inner_chunks_kept shape sizes keep absents type chunk) stand);
     }

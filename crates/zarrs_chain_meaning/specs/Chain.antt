@@ -17,7 +17,7 @@ use Rattle.zarrs_chain_meaning.specs.CodecFacts.{facts}
 use Rattle.zarrs_chain_meaning.specs.PlainChain.{PlainCodec, PlainChain}
 use Rattle.zarrs_chain_meaning.specs.ArrayStages.{arrays_map}
 use Rattle.zarrs_chain_meaning.specs.Meaning.{Decoder}
-use Rattle.zarrs_chain_meaning.specs.CodecMeaning.{meaning, chain_meaning, codec_chunk, codec_value, chain_value, codec_representation}
+use Rattle.zarrs_chain_meaning.specs.CodecMeaning.{meaning, chain_meaning, codec_chunk, codec_value, codec_representation}
 
 -- the sizes of the chunk that a chain's array-to-bytes codec gets, and how many bytes it makes of it; or the first error
 abbrev pub taken_form : {B : Type 0} → BytesCodecs B → PlainChain B → List ℕ → ElementType → List ℕ → Result (List ℕ × BytesRepresentation) CodecError
@@ -44,7 +44,7 @@ abbrev pub held_value : {B : Type 0} → BytesCodecs B → PlainChain B → List
 held_value f chain sizes type fill held = do
   _ ← (chain_meaning chain).representation f sizes type fill
   _ ← validity type (product sizes) held
-  chain_value f chain sizes type fill (elements type (product sizes) held)
+  (chain_meaning chain).value f sizes type fill (elements type (product sizes) held)
 
 -- the sizes of a row of so many elements, if there are any
 abbrev pub row_sizes : ℕ → Option (List ℕ)

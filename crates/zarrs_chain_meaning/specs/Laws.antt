@@ -10,7 +10,7 @@ use Rattle.zarrs_array_to_array.specs.ArrayToArrayCodec.{IsMapping}
 use Rattle.zarrs_bytes.specs.BytesCodec.{IsChunk}
 use Rattle.zarrs_packbits.specs.Laws.{HasBytes}
 use Rattle.zarrs_chain_meaning.specs.PlainChain.{PlainCodec, PlainChain}
-use Rattle.zarrs_chain_meaning.specs.CodecMeaning.{meaning, chain_chunk, chain_value, normal_form, chain_representation, ChainStands, ChainWritten}
+use Rattle.zarrs_chain_meaning.specs.CodecMeaning.{meaning, normal_form, chain_representation, chain_meaning}
 
 -- a chain whose array-to-array codecs, and those of all chains inside, are what their types hold to
 pub record IsChainOfMappings {B : Type 0} (chain : PlainChain B) : Type 0 where
@@ -22,41 +22,41 @@ abbrev pub ChainWrittenStands : {B : Type 0} → BytesCodecs B → Type 0
 ChainWrittenStands {B} f =
     (chain : PlainChain B) (sizes : List ℕ) (type : ElementType) (fill value : List ℕ) (chunk : Chunk)
     → IsLawful f → IsChainOfMappings chain → All HasBytes chunk → All (λ size. 0 < size) sizes
-    → ChainWritten f chain sizes type fill value chunk → ChainStands f chain sizes type fill value (normal_form chain.array_to_bytes type chunk)
+    → (chain_meaning chain).Written f sizes type fill value chunk → (chain_meaning chain).Stands f sizes type fill value (normal_form chain.array_to_bytes type chunk)
 
 -- A value stands for at most one chunk.
 abbrev pub ChainStandsForOne : {B : Type 0} → BytesCodecs B → Type 0
 ChainStandsForOne {B} f =
     (chain : PlainChain B) (sizes : List ℕ) (type : ElementType) (fill value : List ℕ) (chunk other : Chunk)
     → IsChainOfMappings chain → All (λ size. 0 < size) sizes
-    → ChainStands f chain sizes type fill value chunk → ChainStands f chain sizes type fill value other → chunk ≡ other
+    → (chain_meaning chain).Stands f sizes type fill value chunk → (chain_meaning chain).Stands f sizes type fill value other → chunk ≡ other
 
 -- The chunk that a value stands for is what a chain answers.
 abbrev pub StandsIsAnswered : {B : Type 0} → BytesCodecs B → Type 0
 StandsIsAnswered {B} f =
     (chain : PlainChain B) (sizes : List ℕ) (type : ElementType) (fill value : List ℕ) (chunk : Chunk)
     → IsChainOfMappings chain → All (λ size. 0 < size) sizes
-    → ChainStands f chain sizes type fill value chunk → chain_chunk f chain sizes type fill value ≡ Ok chunk
+    → (chain_meaning chain).Stands f sizes type fill value chunk → (chain_meaning chain).chunk f sizes type fill value ≡ Ok chunk
 
 -- What a chain answers of a value is a chunk that it stands for.
 abbrev pub AnsweredStands : {B : Type 0} → BytesCodecs B → Type 0
 AnsweredStands {B} f =
     (chain : PlainChain B) (sizes : List ℕ) (type : ElementType) (fill value : List ℕ) (chunk : Chunk)
     → IsChainOfMappings chain → All (λ size. 0 < size) sizes
-    → chain_chunk f chain sizes type fill value ≡ Ok chunk → ChainStands f chain sizes type fill value chunk
+    → (chain_meaning chain).chunk f sizes type fill value ≡ Ok chunk → (chain_meaning chain).Stands f sizes type fill value chunk
 
 -- For a chunk at most one value is written.
 abbrev pub ChainWrittenOnce : {B : Type 0} → BytesCodecs B → Type 0
 ChainWrittenOnce {B} f =
     (chain : PlainChain B) (sizes : List ℕ) (type : ElementType) (fill value other : List ℕ) (chunk : Chunk)
-    → ChainWritten f chain sizes type fill value chunk → ChainWritten f chain sizes type fill other chunk → value ≡ other
+    → (chain_meaning chain).Written f sizes type fill value chunk → (chain_meaning chain).Written f sizes type fill other chunk → value ≡ other
 
 -- A chain answers a value for a chunk of the sizes and the type exactly where the value is written for it.
 abbrev pub ValueIsWritten : {B : Type 0} → BytesCodecs B → Type 0
 ValueIsWritten {B} f =
     (chain : PlainChain B) (sizes : List ℕ) (type : ElementType) (fill value : List ℕ) (chunk : Chunk)
     → IsChainOfMappings chain → All (λ size. 0 < size) sizes → IsChunk type (product sizes) chunk
-    → (chain_value f chain sizes type fill chunk ≡ Ok value) ↔ ChainWritten f chain sizes type fill value chunk
+    → ((chain_meaning chain).value f sizes type fill chunk ≡ Ok value) ↔ (chain_meaning chain).Written f sizes type fill value chunk
 
 -- The normal form of an updated chunk is the normal form updated with that of the new elements.
 abbrev pub NormalFormUpdated : Type 0 → Type 0
@@ -68,14 +68,14 @@ NormalFormUpdated B =
 abbrev pub WrittenForNormal : {B : Type 0} → BytesCodecs B → Type 0
 WrittenForNormal {B} f =
     (chain : PlainChain B) (sizes : List ℕ) (type : ElementType) (fill value : List ℕ) (chunk : Chunk)
-    → IsChunk type (product sizes) chunk → ChainWritten f chain sizes type fill value chunk ↔ ChainWritten f chain sizes type fill value (normal_form chain.array_to_bytes type chunk)
+    → IsChunk type (product sizes) chunk → (chain_meaning chain).Written f sizes type fill value chunk ↔ (chain_meaning chain).Written f sizes type fill value (normal_form chain.array_to_bytes type chunk)
 
 -- Two chunks are written alike exactly if their normal forms are equal.
 abbrev pub ChainWrittenAlike : {B : Type 0} → BytesCodecs B → Type 0
 ChainWrittenAlike {B} f =
     (chain : PlainChain B) (sizes : List ℕ) (type : ElementType) (fill value other_value : List ℕ) (chunk other : Chunk)
     → IsLawful f → IsChainOfMappings chain → All HasBytes chunk → All HasBytes other → All (λ size. 0 < size) sizes
-    → ChainWritten f chain sizes type fill value chunk → ChainWritten f chain sizes type fill other_value other
+    → (chain_meaning chain).Written f sizes type fill value chunk → (chain_meaning chain).Written f sizes type fill other_value other
     → (value ≡ other_value) ↔ (normal_form chain.array_to_bytes type chunk ≡ normal_form chain.array_to_bytes type other)
 
 -- A written value is as many bytes as the representation says.
@@ -83,7 +83,7 @@ abbrev pub WrittenKeeps : {B : Type 0} → BytesCodecs B → Type 0
 WrittenKeeps {B} f =
     (chain : PlainChain B) (sizes : List ℕ) (type : ElementType) (fill value : List ℕ) (chunk : Chunk) (r : BytesRepresentation)
     → IsLawful f → IsChainOfMappings chain → All HasBytes chunk → All (λ size. 0 < size) sizes
-    → ChainWritten f chain sizes type fill value chunk → chain_representation f chain sizes type fill ≡ Ok r → KeepsTo r value
+    → (chain_meaning chain).Written f sizes type fill value chunk → chain_representation f chain sizes type fill ≡ Ok r → KeepsTo r value
 
 -- Of the chunks of one type and fill value that a chain takes, those with as many elements have one representation, however they are shaped.
 abbrev pub SizesGoByCount : {B : Type 0} → BytesCodecs B → Type 0

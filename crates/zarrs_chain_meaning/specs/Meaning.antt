@@ -59,25 +59,10 @@ leaf_meaning keep measure encode decode stand write = record {
   Written = λ f sizes type fill. write (form_of sizes type fill);
 }
 
--- nothing is written of no elements
-abbrev pub part_value : Encoder → ElementType → List ℕ → Chunk → Result (List ℕ) CodecError
-part_value encode type fill [] = Ok []
-part_value encode type fill (element ∷ chunk) = encode (length (element ∷ chunk) ∷ []) type fill (element ∷ chunk)
-
--- nothing is read of no elements
-abbrev pub part_chunk : Decoder → ElementType → List ℕ → ℕ → List ℕ → Result Chunk CodecError
-part_chunk decode type fill zero part = Ok []
-part_chunk decode type fill (suc count) part = decode (suc count ∷ []) type fill part
-
--- a part that stands for these elements in a row; of none it is free
-abbrev pub PartStands : Standing → ElementType → List ℕ → List ℕ → Chunk → Type 0
-PartStands stand type fill part [] = Unit {0}
-PartStands stand type fill part (element ∷ chunk) = stand (length (element ∷ chunk) ∷ []) type fill part (element ∷ chunk)
-
--- the part that is written for these elements in a row; nothing for none
-abbrev pub PartWritten : Standing → ElementType → List ℕ → List ℕ → Chunk → Type 0
-PartWritten write type fill part [] = part ≡ []
-PartWritten write type fill part (element ∷ chunk) = write (length (element ∷ chunk) ∷ []) type fill part (element ∷ chunk)
+-- what is asked of so many elements in a row: of none this, of more what is asked of a chunk of one axis
+abbrev pub in_a_row {ℓ} : {A : Type ℓ} → A → (List ℕ → A) → ℕ → A
+in_a_row none asked zero = none
+in_a_row none asked (suc count) = asked (suc count ∷ [])
 
 -- ---- chains
 

@@ -25,12 +25,12 @@ none_behind : {A : Type 0} (r : Result (List A) CodecError) → (r >>= λ part. 
 none_behind (Ok part) = ap (λ xs. ok xs) (append-nil part)
 none_behind (Err cause) = refl
 
-one_read : (read : PlaceReader) (shape : List ℕ) (type : ElementType) (fill : List ℕ) (stored : Option (List ℕ)) (spans : List Span) (it : ℕ × List ℕ)
+pub one_read : (read : PlaceReader) (shape : List ℕ) (type : ElementType) (fill : List ℕ) (stored : Option (List ℕ)) (spans : List Span) (it : ℕ × List ℕ)
     → stored_groups_read read shape type fill stored spans (it ∷ []) ≡ stored_span_read read shape type fill stored (get_or spans it.0 (0, 0)) it.1
 one_read read shape type fill None spans it = refl
 one_read read shape type fill (Some value) spans it = none_behind (stored_span_read read shape type fill (Some value) (get_or spans it.0 (0, 0)) it.1)
 
-one_rests : (rests : Resting) (shape : List ℕ) (type : ElementType) (fill : List ℕ) (stored : Option (List ℕ)) (spans : List Span) (it : ℕ × List ℕ)
+pub one_rests : (rests : Resting) (shape : List ℕ) (type : ElementType) (fill : List ℕ) (stored : Option (List ℕ)) (spans : List Span) (it : ℕ × List ℕ)
     → stored_groups_rest rests shape type fill stored spans (it ∷ []) ≡ stored_span_rests rests shape type fill stored (get_or spans it.0 (0, 0)) it.1
 one_rests rests shape type fill None spans it = refl
 one_rests rests shape type fill (Some value) spans it = none_behind (stored_span_rests rests shape type fill (Some value) (get_or spans it.0 (0, 0)) it.1)

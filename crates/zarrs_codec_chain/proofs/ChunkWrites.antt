@@ -24,7 +24,7 @@ use Rattle.zarrs_bytes.specs.BytesCodec.{IsChunk}
 use Rattle.zarrs_bytes.specs.PartialWrite.{filled_chunk}
 use Rattle.zarrs_chain_meaning.specs.Chain.{held_value}
 use Rattle.zarrs_chain_meaning.specs.ChunkForm.{ChunkForm}
-use Rattle.zarrs_codec_chain.specs.ChunkWrite.{edited_value, started_chunk, value_left}
+use Rattle.zarrs_codec_chain.specs.ChunkWrite.{started_chunk, value_left}
 use Rattle.zarrs_chain_meaning.specs.Laws.{IsChainOfMappings}
 use Rattle.zarrs_bytes.proofs.Coding.{ok, bind_ok}
 use Rattle.zarrs_array_bytes.proofs.UpdatedLemmas.{length-elements}
@@ -33,6 +33,7 @@ use Rattle.zarrs_chain_meaning.proofs.ChainRelations.{held_value_is}
 use Rattle.zarrs_chain_meaning.proofs.CodecLaws.{chain_read_found}
 use Rattle.zarrs_codec_chain.proofs.PartialCalls.{held_of}
 use Rattle.zarrs_array_bytes.proofs.UpdateCalls.{All-update}
+use Rattle.zarrs_chain_meaning.specs.CodecMeaning.{chain_meaning}
 
 -- ---- new elements in a container
 
@@ -42,7 +43,7 @@ updated_so type count places held new valid fit = rw (valid, fit) refl
 -- the value of the updated container is that of the chunk with the new elements
 pub value_answer : {B X : Type 0} (view : X → List ℕ) (result : Result X CodecError) (f : BytesCodecs B) (form : ChunkForm B) (held edited new : Held) (places : List ℕ) → validity form.type (product form.sizes) held ≡ Ok tt → data_fit form.type (length places) new ≡ Ok tt
     → IsOkAnd (update_at_places form.type (product form.sizes) places held new) (Holds form.type edited) → Answers memory view result (held_value f form.chain form.sizes form.type form.fill edited)
-    → Answers memory view result (edited_value f form (elements form.type (product form.sizes) held) places new)
+    → Answers memory view result ((chain_meaning form.chain).value f form.sizes form.type form.fill (with_elements form.type (elements form.type (product form.sizes) held) places new))
 value_answer view result f form held edited new places valid fit u h =
     let n = product form.sizes in
     let old = elements form.type n held in
@@ -70,8 +71,8 @@ pub started_held : {B : Type 0} (f : BytesCodecs B) (form : ChunkForm B) (stored
     → (started_chunk f form stored ≡ ok (elements form.type (product form.sizes) held)) × (validity form.type (product form.sizes) held ≡ Ok tt)
 started_held f form stored held is positive h = held_of form.type (product form.sizes) held (started_chunk f form stored) (started_count f form stored is positive) h
 
-left_is : {B : Type 0} (f : BytesCodecs B) (form : ChunkForm B) (stored : Option (List ℕ)) (chunk : Chunk) (places : List ℕ) (new : Held) → started_chunk f form stored ≡ ok chunk → value_left f form None stored places new ≡ edited_value f form chunk places new
-left_is f form None chunk places new e = ap (λ (c : Chunk). edited_value f form c places new) (filled_so form.type (product form.sizes) form.fill chunk e)
+left_is : {B : Type 0} (f : BytesCodecs B) (form : ChunkForm B) (stored : Option (List ℕ)) (chunk : Chunk) (places : List ℕ) (new : Held) → started_chunk f form stored ≡ ok chunk → value_left f form None stored places new ≡ (chain_meaning form.chain).value f form.sizes form.type form.fill (with_elements form.type chunk places new)
+left_is f form None chunk places new e = ap (λ (c : Chunk). (chain_meaning form.chain).value f form.sizes form.type form.fill (with_elements form.type c places new)) (filled_so form.type (product form.sizes) form.fill chunk e)
 left_is f form (Some value) chunk places new e = rw e refl
 
 weaker : {X V : Type 0} (view : X → V) (r : Result X CodecError) (expected : Result V CodecError) → Answers memory view r expected → Answers memory_or_fault view r expected
@@ -84,7 +85,7 @@ weaker view (Err e) expected h = λ m. h (first_false (memory e) (fault e) m)
 
 -- the value that is left is the one of the chunk that an edit starts from
 pub left_answer : {B X : Type 0} (view : X → List ℕ) (result : Result X CodecError) (f : BytesCodecs B) (form : ChunkForm B) (stored : Option (List ℕ)) (chunk : Chunk) (places : List ℕ) (new : Held) → started_chunk f form stored ≡ ok chunk
-    → Answers memory view result (edited_value f form chunk places new) → Answers memory_or_fault view result (value_left f form None stored places new)
+    → Answers memory view result ((chain_meaning form.chain).value f form.sizes form.type form.fill (with_elements form.type chunk places new)) → Answers memory_or_fault view result (value_left f form None stored places new)
 left_answer view result f form stored chunk places new e h =
     weaker view result (value_left f form None stored places new) (subst (λ (x : Result (List ℕ) CodecError). Answers memory view result x) (sym (left_is f form stored chunk places new e)) h)
 

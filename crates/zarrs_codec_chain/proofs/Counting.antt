@@ -11,7 +11,7 @@ use Rattle.zarrs_array_bytes.specs.Held.{Held}
 use Rattle.zarrs_array_regions.specs.KeptRegions.{kept_region}
 use Rattle.zarrs_bytes.specs.PartialRead.{place_bytes, place_size}
 use Rattle.zarrs_bytes.specs.PartialWrite.{bytes_left, bytes_replaced}
-use Rattle.zarrs_codec_chain.specs.ChunkCalls.{ReplacesPlaces, replaced_in_place}
+use Rattle.zarrs_codec_chain.specs.ChunkCalls.{ReplacesPlaces}
 use Rattle.zarrs_codec_chain.specs.ChunkRead.{asks_in_part, form_in_place, planned_order, planned_region}
 use Rattle.zarrs_chain_meaning.specs.ChunkForm.{ChunkForm}
 use Rattle.zarrs_codec_chain.specs.CodecPart.{order_in_place, Part}
@@ -19,6 +19,7 @@ use Rattle.zarrs_chain_meaning.specs.PlainChain.{PlainCodec}
 use Rattle.zarrs_codec.specs.Calls.{Calls, MakesWrite, after_reads, after_replacing, after_write}
 use Rattle.zarrs_codec.specs.StorageState.{StorageState, value_indices}
 use Rattle.zarrs_codec_chain.proofs.LawfulPart.{part_laws}
+use Rattle.std.specs.Option.{option_map_or}
 
 -- what holds anyway holds of an answer
 pub anyway : {T E : Type 0} (r : Result T E) (P : Type 0) → P → OnOk r P
@@ -43,7 +44,7 @@ replaced_all (Err e) value after old mid new wrote read is = tt
 -- ---- in place
 
 replaced_by : {T : Type 0} (r : Result T CodecError) (order : Option Endianness) (form : Form) (stored after : Option (List ℕ)) (places there : List ℕ) (new : Held) (mid now : Option Calls) → OnOk r (after ≡ Some (bytes_left order form stored places new)) → places ≡ there
-    → OnOk r (now ≡ after_replacing (bytes_replaced order form stored places new) mid) → OnOk r (now ≡ after_replacing (replaced_in_place form.type stored after there) mid)
+    → OnOk r (now ≡ after_replacing (bytes_replaced order form stored places new) mid) → OnOk r (now ≡ after_replacing (option_map_or (λ _. place_bytes (place_size form.type) there) stored (value_indices after)) mid)
 replaced_by (Ok x) order form None after places there new mid now left same counted = counted ∙ ap (λ v. after_replacing (value_indices v) mid) (sym left)
 replaced_by (Ok x) order form (Some value) after places there new mid now left same counted = counted ∙ ap (λ ps. after_replacing (place_bytes (place_size form.type) ps) mid) same
 replaced_by (Err e) order form stored after places there new mid now left same counted = tt
@@ -54,7 +55,7 @@ left_so (Err e) after value h = tt
 
 -- what a write of `bytes` replaces, in the chain's words
 pub replaced_so : (r : Result (Unit {0}) CodecError) (order : Option Endianness) (form : Form) (stored after : Option (List ℕ)) (places there : List ℕ) (new : Held) (mid now : Option Calls) → Answers memory_or_fault (λ _. after) r (Ok (Some (bytes_left order form stored places new))) → places ≡ there
-    → OnOk r (now ≡ after_replacing (bytes_replaced order form stored places new) mid) → OnOk r (now ≡ after_replacing (replaced_in_place form.type stored after there) mid)
+    → OnOk r (now ≡ after_replacing (bytes_replaced order form stored places new) mid) → OnOk r (now ≡ after_replacing (option_map_or (λ _. place_bytes (place_size form.type) there) stored (value_indices after)) mid)
 replaced_so r order form stored after places there new mid now answer same counted =
     replaced_by r order form stored after places there new mid now (left_so r after (Some (bytes_left order form stored places new)) answer) same counted
 

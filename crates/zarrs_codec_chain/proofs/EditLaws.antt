@@ -25,7 +25,7 @@ use Rattle.zarrs_packbits.specs.Laws.{HasBytes}
 use Rattle.zarrs_chain_meaning.specs.ChunkForm.{ChunkForm}
 use Rattle.zarrs_codec_chain.specs.CodecPart.{order_in_place}
 use Rattle.zarrs_codec_chain.specs.ChunkWrite.{stored_written, value_left, IsStoredFor}
-use Rattle.zarrs_codec_chain.specs.Edits.{edited_state, states_edited, edited_store, stores_edited, AcceptsEdits, edit_excuse, excuse_at, EditHasBytes}
+use Rattle.zarrs_codec_chain.specs.Edits.{edited_state, edited_store, AcceptsEdits, edit_excuse, excuse_at, EditHasBytes, all_made}
 use Rattle.zarrs_chain_meaning.specs.Laws.{IsChainOfMappings}
 use Rattle.zarrs_chain_meaning.specs.CodecMeaning.{normal_form, ChainWritten}
 use Rattle.zarrs_chain_meaning.specs.MachineBytes.{HeldHasBytes}
@@ -150,18 +150,18 @@ module _ {B : Type 0} (f : BytesCodecs B) (form : ChunkForm B) (encoded : List �
       (subst (λ (x : Option (List ℕ)). IsNext x (Some (with_elements form.type (unwrap_or state (filled_chunk form.sizes form.type form.fill)) a.0 new))) v.2 next)
 
   -- edits of a value that is written for a chunk, or of nothing, leave what is written for the edited chunk, or nothing
-  pub edits_written : (edits : List Edit) (stored after : Option (List ℕ)) (state : Option Chunk) → IfSome state (All HasBytes) → All EditHasBytes edits → IsStoredFor f form stored state → stores_edited f form edits stored ≡ Ok after → IsOkAnd (states_edited form edits state) (IsStoredFor f form after)
+  pub edits_written : (edits : List Edit) (stored after : Option (List ℕ)) (state : Option Chunk) → IfSome state (All HasBytes) → All EditHasBytes edits → IsStoredFor f form stored state → all_made (edited_store f form) edits stored ≡ Ok after → IsOkAnd (all_made (edited_state form) edits state) (IsStoredFor f form after)
   edits_written [] stored after state here there is e = subst (λ (v : Option (List ℕ)). IsStoredFor f form v state) (same_stored stored after e) is
   edits_written (edit ∷ edits) stored after state here there is e =
-      let a = bind_ok (edited_store f form stored edit) (stores_edited f form edits) after e in
+      let a = bind_ok (edited_store f form stored edit) (all_made (edited_store f form) edits) after e in
       let s = found (edited_state form state edit) (IsNext a.0) (edited_step stored a.0 state edit here (All-head EditHasBytes edit edits there) is a.1) in
-      then_at (edited_state form state edit) (states_edited form edits) (IsStoredFor f form after) s.0 s.1 (edits_written edits a.0 after s.0 s.2.1 (All-tail EditHasBytes edit edits there) s.2.0 a.2)
+      then_at (edited_state form state edit) (all_made (edited_state form) edits) (IsStoredFor f form after) s.0 s.1 (edits_written edits a.0 after s.0 s.2.1 (All-tail EditHasBytes edit edits there) s.2.0 a.2)
 
   -- each of them was accepted
-  pub edits_accepted : (edits : List Edit) (stored after : Option (List ℕ)) (state : Option Chunk) → IfSome state (All HasBytes) → All EditHasBytes edits → IsStoredFor f form stored state → stores_edited f form edits stored ≡ Ok after → AcceptsEdits f form edits state
+  pub edits_accepted : (edits : List Edit) (stored after : Option (List ℕ)) (state : Option Chunk) → IfSome state (All HasBytes) → All EditHasBytes edits → IsStoredFor f form stored state → all_made (edited_store f form) edits stored ≡ Ok after → AcceptsEdits f form edits state
   edits_accepted [] stored after state here there is e = tt
   edits_accepted (edit ∷ edits) stored after state here there is e =
-      let a = bind_ok (edited_store f form stored edit) (stores_edited f form edits) after e in
+      let a = bind_ok (edited_store f form stored edit) (all_made (edited_store f form) edits) after e in
       let s = found (edited_state form state edit) (IsNext a.0) (edited_step stored a.0 state edit here (All-head EditHasBytes edit edits there) is a.1) in
       holds_at (edited_state form state edit) (λ next. ((stored : Option (List ℕ)) × IsStoredFor f form stored next) × AcceptsEdits f form edits next) s.0 s.1
       ((a.0, s.2.0), edits_accepted edits a.0 after s.0 s.2.1 (All-tail EditHasBytes edit edits there) s.2.0 a.2)
@@ -199,17 +199,17 @@ module _ {B : Type 0} (f : BytesCodecs B) (form : ChunkForm B) (encoded : List �
       not_refused (Some v.0) e (sym due ∙ refused)
 
   -- the same behind accepted edits
-  edits_refused : (edits : List Edit) (edit : Edit) (stored last : Option (List ℕ)) (state : Option Chunk) (e : CodecError) → IfSome state (All HasBytes) → All EditHasBytes edits → IsStoredFor f form stored state → stores_edited f form edits stored ≡ Ok last → edited_store f form last edit ≡ Err e
+  edits_refused : (edits : List Edit) (edit : Edit) (stored last : Option (List ℕ)) (state : Option Chunk) (e : CodecError) → IfSome state (All HasBytes) → All EditHasBytes edits → IsStoredFor f form stored state → all_made (edited_store f form) edits stored ≡ Ok last → edited_store f form last edit ≡ Err e
       → AcceptsEdits f form (edits ++ edit ∷ []) state → ⊥
   edits_refused [] edit stored last state e here there is ran refused accepts =
       refused_step stored state edit e here is (subst (λ (v : Option (List ℕ)). edited_store f form v edit ≡ Err e) (sym (same_stored stored last ran)) refused) accepts
   edits_refused (first ∷ edits) edit stored last state e here there is ran refused accepts =
-      let a = bind_ok (edited_store f form stored first) (stores_edited f form edits) last ran in
+      let a = bind_ok (edited_store f form stored first) (all_made (edited_store f form) edits) last ran in
       let s = both_found (edited_state form state first) (IsNext a.0) (λ next. ((stored : Option (List ℕ)) × IsStoredFor f form stored next) × AcceptsEdits f form (edits ++ edit ∷ []) next) (edited_step stored a.0 state first here (All-head EditHasBytes first edits there) is a.1) accepts in
       edits_refused edits edit a.0 last s.0 e s.1.1 (All-tail EditHasBytes first edits there) s.1.0 a.2 refused s.2.1
 
   -- the edit behind so many accepted ones
-  pub more_refused : (edits : List Edit) (n : ℕ) (edit : Edit) (stored last : Option (List ℕ)) (state : Option Chunk) (e : CodecError) → n < length edits → edit ≡ get_or edits n edit → IfSome state (All HasBytes) → All EditHasBytes (take n edits) → IsStoredFor f form stored state → stores_edited f form (take n edits) stored ≡ Ok last
+  pub more_refused : (edits : List Edit) (n : ℕ) (edit : Edit) (stored last : Option (List ℕ)) (state : Option Chunk) (e : CodecError) → n < length edits → edit ≡ get_or edits n edit → IfSome state (All HasBytes) → All EditHasBytes (take n edits) → IsStoredFor f form stored state → all_made (edited_store f form) (take n edits) stored ≡ Ok last
       → edited_store f form last edit ≡ Err e → AcceptsEdits f form (take (n + 1) edits) state → ⊥
   more_refused edits n edit stored last state e lt is here there written ran refused accepts =
       edits_refused (take n edits) edit stored last state e here there written ran refused
@@ -232,12 +232,12 @@ bind_last : {A : Type 0} (r : Result A CodecError) → (r >>= λ x. Ok x) ≡ r
 bind_last (Ok x) = refl
 bind_last (Err e) = refl
 
-edits_push : {B : Type 0} (f : BytesCodecs B) (form : ChunkForm B) (edits : List Edit) (edit : Edit) (stored : Option (List ℕ)) → stores_edited f form (edits ++ edit ∷ []) stored ≡ (stores_edited f form edits stored >>= λ v. edited_store f form v edit)
+edits_push : {B : Type 0} (f : BytesCodecs B) (form : ChunkForm B) (edits : List Edit) (edit : Edit) (stored : Option (List ℕ)) → all_made (edited_store f form) (edits ++ edit ∷ []) stored ≡ (all_made (edited_store f form) edits stored >>= λ v. edited_store f form v edit)
 edits_push f form [] edit stored = bind_last (edited_store f form stored edit)
-edits_push f form (first ∷ edits) edit stored = bind_twice (edited_store f form stored first) (stores_edited f form (edits ++ edit ∷ [])) (stores_edited f form edits) (λ v. edited_store f form v edit) (λ v. edits_push f form edits edit v)
+edits_push f form (first ∷ edits) edit stored = bind_twice (edited_store f form stored first) (all_made (edited_store f form) (edits ++ edit ∷ [])) (all_made (edited_store f form) edits) (λ v. edited_store f form v edit) (λ v. edits_push f form edits edit v)
 
-pub edits_more : {B : Type 0} (f : BytesCodecs B) (form : ChunkForm B) (edits : List Edit) (n : ℕ) (edit : Edit) (stored here : Option (List ℕ)) (r : Result (Option (List ℕ)) CodecError) → n < length edits → edit ≡ get_or edits n edit → stores_edited f form (take n edits) stored ≡ Ok here → edited_store f form here edit ≡ r
-    → stores_edited f form (take (n + 1) edits) stored ≡ r
+pub edits_more : {B : Type 0} (f : BytesCodecs B) (form : ChunkForm B) (edits : List Edit) (n : ℕ) (edit : Edit) (stored here : Option (List ℕ)) (r : Result (Option (List ℕ)) CodecError) → n < length edits → edit ≡ get_or edits n edit → all_made (edited_store f form) (take n edits) stored ≡ Ok here → edited_store f form here edit ≡ r
+    → all_made (edited_store f form) (take (n + 1) edits) stored ≡ r
 edits_more f form edits n edit stored here r lt is ran e =
-    ap (λ (l : List Edit). stores_edited f form l stored) (take_more edits n edit lt) ∙ ap (λ (x : Edit). stores_edited f form (take n edits ++ x ∷ []) stored) (sym is)
+    ap (λ (l : List Edit). all_made (edited_store f form) l stored) (take_more edits n edit lt) ∙ ap (λ (x : Edit). all_made (edited_store f form) (take n edits ++ x ∷ []) stored) (sym is)
     ∙ edits_push f form (take n edits) edit stored ∙ ap (λ (o : Result (Option (List ℕ)) CodecError). o >>= λ v. edited_store f form v edit) ran ∙ e

@@ -30,7 +30,7 @@ use Rattle.zarrs_codec_chain.specs.ChunkRead.{are_given_sure}
 use Rattle.zarrs_codec_chain.specs.CodecPart.{codec_read}
 use Rattle.zarrs_codec_chain.specs.PartRead.{PlaceReader}
 use Rattle.zarrs_codec_chain.specs.PlaceLaws.{Resting, ReadsEach, read_through}
-use Rattle.zarrs_codec_chain.specs.ShardRead.{spans_by, spans_read, groups_read, index_bytes_at, span_rests, inner_rests, inner_chunks_rest, spans_rest, groups_rest, shard_rests}
+use Rattle.zarrs_codec_chain.specs.ShardRead.{spans_by, spans_read, groups_read, index_bytes_at, span_rests, spans_rest, groups_rest, shard_rests, of_any, each_inner}
 use Rattle.zarrs_data_type.specs.Element.{Chunk, Element}
 use Rattle.zarrs_data_type.specs.ElementType.{ElementType}
 use Rattle.zarrs_shard_runs.specs.GroupedRuns.{group_elements, IsReadingOrder}
@@ -129,22 +129,22 @@ none_first (Err cause) = refl
 
 module _ (rests : Resting) (shape sizes : List ℕ) (type : ElementType) (fill value places : List ℕ) (spans : List Span) where
   one_rests : (span : Span) (number : ℕ) (ps : List ℕ) (groups : List (ℕ × List ℕ)) → get_or spans number (0, 0) ≡ span
-      → (inner_rests rests shape type fill value span ps >>= λ here. groups_rest rests shape type fill value spans groups >>= λ behind. ok (here ++ behind)) ≡ groups_rest rests shape type fill value spans (if_any number ps groups)
+      → (of_any (span_rests (is_stored span) rests shape type fill value span) ps >>= λ here. groups_rest rests shape type fill value spans groups >>= λ behind. ok (here ++ behind)) ≡ groups_rest rests shape type fill value spans (if_any number ps groups)
   one_rests span number [] groups is = none_first (groups_rest rests shape type fill value spans groups)
   one_rests span number (p ∷ ps) groups is =
       ap (λ (s : Span). span_rests (is_stored s) rests shape type fill value s (p ∷ ps) >>= λ here. groups_rest rests shape type fill value spans groups >>= λ behind. ok (here ++ behind)) (sym is)
 
   chunks_are : (number : ℕ) (rest : List Span) → AreFrom spans number rest
-      → inner_chunks_rest rests shape sizes type fill value places number rest ≡ groups_rest rests shape type fill value spans (groups_among shape sizes places (range_with_len number (length rest)))
+      → each_inner ◌++◌ (λ span. span_rests (is_stored span) rests shape type fill value span) shape sizes places number rest ≡ groups_rest rests shape type fill value spans (groups_among shape sizes places (range_with_len number (length rest)))
   chunks_are number [] are = refl
   chunks_are number (span ∷ rest) are =
-      ap (λ (r : Result (List ℕ) CodecError). inner_rests rests shape type fill value span (places_of_inner shape sizes number places) >>= λ here. r >>= λ behind. ok (here ++ behind))
+      ap (λ (r : Result (List ℕ) CodecError). of_any (span_rests (is_stored span) rests shape type fill value span) (places_of_inner shape sizes number places) >>= λ here. r >>= λ behind. ok (here ++ behind))
       (chunks_are (suc number) rest (are_tail spans rest number span are) ∙ ap (λ (n : ℕ). groups_rest rests shape type fill value spans (groups_among shape sizes places (range_with_len n (length rest)))) (suc-eq-add-one number))
       ∙ one_rests span number (places_of_inner shape sizes number places) (groups_among shape sizes places (range_with_len (number + 1) (length rest))) (are_head spans rest number span are)
 
 -- group by group is what the reads of the inner chunks rest on
 pub grouped_rests : (rests : Resting) (shape sizes : List ℕ) (type : ElementType) (fill value places : List ℕ) (spans : List Span) → length spans ≡ inner_chunk_count shape sizes
-    → inner_chunks_rest rests shape sizes type fill value places 0 spans ≡ groups_rest rests shape type fill value spans (groups_of shape sizes places)
+    → each_inner ◌++◌ (λ span. span_rests (is_stored span) rests shape type fill value span) shape sizes places 0 spans ≡ groups_rest rests shape type fill value spans (groups_of shape sizes places)
 grouped_rests rests shape sizes type fill value places spans count =
     chunks_are rests shape sizes type fill value places spans 0 spans (are_all spans)
     ∙ ap (λ (n : ℕ). groups_rest rests shape type fill value spans (groups_among shape sizes places (range_with_len 0 n))) count

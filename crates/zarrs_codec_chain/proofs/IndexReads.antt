@@ -25,7 +25,7 @@ use Rattle.zarrs_codec_chain.proofs.LawfulPart.{part_laws, same_sure}
 use Rattle.zarrs_codec_chain.proofs.PartialReads.{IsReadable, is_readable, stored_selects, unstored_read}
 use Rattle.zarrs_codec_chain.proofs.SureReads.{where_sure}
 use Rattle.zarrs_codec_chain.specs.ChunkRead.{ReadsStoredChunk, are_given_sure, asks_in_part, encoded_places, outer_stored, stored_read, WhereSureBy}
-use Rattle.zarrs_codec_chain.specs.CodecPart.{IndexPart, codec_read, codec_rests_on, part_of, rests_behind, rests_where}
+use Rattle.zarrs_codec_chain.specs.CodecPart.{IndexPart, codec_read, codec_rests_on, part_of, rests_where}
 use Rattle.zarrs_codec_chain.specs.KeptIndex.{IsIndexOf, asks_index, bytes_with, codec_index, codec_spans, index_rests_on, index_seen, keeps_nothing, knows_index, spans_with}
 use Rattle.zarrs_codec_chain.specs.PlaceLaws.{Resting, RestsEach, SameMembers}
 use Rattle.zarrs_codec_chain.specs.PartRead.{PlaceReader}
@@ -139,7 +139,7 @@ module _ {B : Type 0} (f : BytesCodecs B) where
 
   -- where all is sure that a read rests on, what it rests on behind the index is
   pub behind_sure : (codec : PlainCodec B) (sizes : List ℕ) (type : ElementType) (fill : List ℕ) (stored : Option (List ℕ)) (places : List ℕ) (sure : Option (ℕ → Bool)) → are_given_sure sure (codec_rests_on f codec sizes type fill stored places) ≡ true
-      → are_given_sure sure (rests_behind f codec sizes type fill stored places) ≡ true
+      → are_given_sure sure (rests_where true f codec sizes type fill stored places) ≡ true
   behind_sure codec sizes type fill stored places sure e = with_behind f (codec_read f codec) (codec_rests_on f codec) sizes type fill (part_of codec).indexed (laws_of codec) stored places sure e
 
   -- and so are the index's bytes
@@ -171,10 +171,10 @@ module _ {B : Type 0} (f : BytesCodecs B) where
       last asks behind (Err x) more h = tt
 
       steps : (p : Result (List ℕ) CodecError) (t : Result (List ℕ × BytesRepresentation) CodecError)
-          → IfOk (p >>= λ places. t >>= λ taken. rests_behind f form.chain.array_to_bytes taken.0 form.type form.fill before.value places >>= λ numbers. ok (if asks_in_part form.chain.bytes_to_bytes form.chain.array_to_bytes then Some numbers else None)) (SureSo before P)
+          → IfOk (p >>= λ places. t >>= λ taken. rests_where true f form.chain.array_to_bytes taken.0 form.type form.fill before.value places >>= λ numbers. ok (if asks_in_part form.chain.bytes_to_bytes form.chain.array_to_bytes then Some numbers else None)) (SureSo before P)
           → IfOk (p >>= λ places. t >>= λ taken. codec_rests_on f form.chain.array_to_bytes taken.0 form.type form.fill before.value places >>= λ numbers. ok (if asks_in_part form.chain.bytes_to_bytes form.chain.array_to_bytes then Some numbers else None)) (SureSo before P)
       steps (Ok places) (Ok taken) h =
-          last (asks_in_part form.chain.bytes_to_bytes form.chain.array_to_bytes) (rests_behind f form.chain.array_to_bytes taken.0 form.type form.fill before.value places) (codec_rests_on f form.chain.array_to_bytes taken.0 form.type form.fill before.value places)
+          last (asks_in_part form.chain.bytes_to_bytes form.chain.array_to_bytes) (rests_where true f form.chain.array_to_bytes taken.0 form.type form.fill before.value places) (codec_rests_on f form.chain.array_to_bytes taken.0 form.type form.fill before.value places)
           (behind_sure form.chain.array_to_bytes taken.0 form.type form.fill before.value places before.sure) h
       steps (Ok places) (Err x) h = tt
       steps (Err x) t h = tt

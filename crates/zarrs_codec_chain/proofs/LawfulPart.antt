@@ -30,7 +30,7 @@ use Rattle.zarrs_chain_meaning.proofs.ArraySteps.{ok_is}
 use Rattle.zarrs_chain_meaning.specs.CodecFacts.{facts, Facts, whole_facts}
 use Rattle.zarrs_chain_meaning.specs.CodecMeaning.{codec_chunk, codec_representation, HasMappings, meaning, bytes_meaning, packbits_meaning}
 use Rattle.zarrs_chain_meaning.specs.Meaning.{Meaning, through}
-use Rattle.zarrs_chain_meaning.specs.PlainChain.{PlainCodec, bytes_codec, packbits_codec, vlen_v2_codec, vlen_codec, optional_codec, sharding_codec}
+use Rattle.zarrs_chain_meaning.specs.PlainChain.{PlainCodec, bytes_codec, packbits_codec, vlen_codec, sharding_codec}
 use Rattle.zarrs_chain_meaning.specs.sharding.Sharding.{shard_meaning}
 use Rattle.zarrs_chain_meaning.specs.vlen.PlainForm.{PlainForm}
 use Rattle.zarrs_plain_vlen.specs.PlainRead.{plain_read}
@@ -203,10 +203,9 @@ pub part_laws : {B : Type 0} (codec : PlainCodec B) → IsLawfulPart (meaning co
 unfolding meaning
 part_laws (bytes_codec order) = bytes_part_laws order
 part_laws (packbits_codec settings) = packbits_part_laws settings
-part_laws (vlen_v2_codec codec) = whole_part_laws (meaning (vlen_v2_codec codec)) whole_facts refl refl refl
 part_laws (vlen_codec ia ix ib da dx db wide at_end) = vlen_part_laws (vlen_codec ia ix ib da dx db wide at_end) (facts (vlen_codec ia ix ib da dx db wide at_end)).plain refl refl refl
-part_laws (optional_codec ma mx mb da dx db) = whole_part_laws (meaning (optional_codec ma mx mb da dx db)) whole_facts refl refl refl
 part_laws (sharding_codec sa sx sb ia ix ib shape at_end) = shard_part_laws sa (meaning sx) (part_of sx) sb (through ia (meaning ix) ib) shape at_end (part_laws sx).places
+part_laws codec = whole_part_laws (meaning codec) (facts codec) refl refl refl
 
 -- ---- what follows
 

@@ -44,3 +44,5 @@ pub mod JointReads
 pub mod StoredIndex
 pub mod GroupSteps
 pub mod AloneGroup
+pub mod LoneBoxes
+pub mod BoxReads

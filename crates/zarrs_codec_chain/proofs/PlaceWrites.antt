@@ -35,9 +35,9 @@ use Rattle.zarrs_chain_meaning.proofs.NestedEncode.{memory_so}
 use Rattle.zarrs_codec_chain.specs.ChunkRead.{encoded_places}
 use Rattle.zarrs_chain_meaning.specs.ChunkForm.{ChunkForm}
 use Rattle.zarrs_codec_chain.specs.CodecPart.{order_in_place, part_of}
-use Rattle.zarrs_codec_chain.specs.ChunkWrite.{edited_value, EditStarts, selection_left, stored_written, IsStoredFor, value_left, written_places}
+use Rattle.zarrs_codec_chain.specs.ChunkWrite.{EditStarts, selection_left, stored_written, IsStoredFor, value_left, written_places}
 use Rattle.zarrs_chain_meaning.specs.Laws.{IsChainOfMappings}
-use Rattle.zarrs_chain_meaning.specs.CodecMeaning.{bytes_meaning, codec_representation, CodecStands, ChainStands, CodecWritten, ChainWritten, meaning}
+use Rattle.zarrs_chain_meaning.specs.CodecMeaning.{bytes_meaning, codec_representation, CodecStands, ChainStands, CodecWritten, ChainWritten, meaning, chain_meaning}
 use Rattle.zarrs_chain_meaning.specs.Meaning.{Meaning}
 use Rattle.zarrs_chain_meaning.specs.PlainChain.{PlainCodec}
 use Rattle.zarrs_bytes.proofs.Coding.{ok, bind_ok}
@@ -259,11 +259,11 @@ module _ {B : Type 0} (f : BytesCodecs B) (form : ChunkForm B) (encoded : List �
       )
     where
       edited : Chunk → List ℕ → Held → Result (List ℕ) CodecError
-      edited c places new = edited_value f form c places new
+      edited c places new = (chain_meaning form.chain).value f form.sizes form.type form.fill (with_elements form.type c places new)
   left_by None alone (Some stored) chunk places new starts inside fit =
       let is = edited_is form.sizes form.type chunk places new (starts_is (Some stored) chunk starts) fit in
       let read = chain_chunk_only f form.chain chain_is form.sizes form.type form.fill stored chunk positive starts in
-      let same : value_left f form None (Some stored) places new ≡ edited_value f form chunk places new = rw read refl in (
+      let same : value_left f form None (Some stored) places new ≡ (chain_meaning form.chain).value f form.sizes form.type form.fill (with_elements form.type chunk places new) = rw read refl in (
         (λ value e. chain_value_found f form.chain chain_is form.sizes form.type form.fill value (with_elements form.type chunk places new) positive is (sym same ∙ e)),
         (λ value w. same ∙ chain_value_only f form.chain form.sizes form.type form.fill value (with_elements form.type chunk places new) w),
       )

@@ -30,9 +30,10 @@ use Rattle.zarrs_chain_meaning.specs.ArrayStages.{arrays_map}
 use Rattle.zarrs_bytes.proofs.Coding.{ok, bind_ok}
 use Rattle.zarrs_chain_meaning.proofs.ArraySteps.{ok_is}
 use Rattle.zarrs_chain_meaning.proofs.NestedStages.{chained_of}
-use Rattle.zarrs_codec_chain.specs.ChunkRead.{encoded_places, planned_order, places_in_order, planned_region, form_in_place, standing_places}
+use Rattle.zarrs_codec_chain.specs.ChunkRead.{encoded_places, planned_order, planned_region, form_in_place, standing_places}
 use Rattle.zarrs_chain_meaning.specs.ChunkForm.{ChunkForm}
 use Rattle.zarrs_codec_chain.specs.ReadLaws.{PlannedPlacesAreMeant}
+use Rattle.std.specs.Option.{option_map_or}
 
 -- ---- items that are rearranged one to one
 
@@ -100,7 +101,7 @@ module _ (type : ElementType) (arrays : List ArrayMapping) (sizes : List ℕ) (s
         Rises-increasing 0 (product last.sizes) (window_places last) (Rises-box last.sizes last.region.starts last.region.lengths keeps.next_is.inside),
       )
 
-  in_order : (planned : Option Region) (ordered : List ℕ) → ((region : Region) → planned ≡ Some region → IsKept arrays sizes selection region) → seen (places_in_order arrays sizes planned) (ok meant) ≡ Ok ordered
+  in_order : (planned : Option Region) (ordered : List ℕ) → ((region : Region) → planned ≡ Some region → IsKept arrays sizes selection region) → seen (option_map_or (standing_places arrays sizes) planned) (ok meant) ≡ Ok ordered
       → IsPermutation meant ordered × IfSome planned (λ _. IsStrictlyIncreasing ordered)
   in_order None ordered kept is = (subst (λ ps. IsPermutation meant ps) (ok_is meant ordered is) (IsPermutation-refl meant), tt)
   in_order (Some region) ordered kept is =
@@ -114,10 +115,9 @@ planned_kept false found region e = absurd (cc)
 
 pub planned_are_meant : (B : Type 0) → PlannedPlacesAreMeant B
 planned_are_meant B form selection meant ordered mappings positive e is =
-    let o = in_order form.type form.chain.array_to_array form.sizes selection meant mappings.mappings positive e (planned_region form selection) ordered
+    in_order form.type form.chain.array_to_array form.sizes selection meant mappings.mappings positive e (planned_region form selection) ordered
     (λ region p. kept_is form.chain.array_to_array form.sizes selection region (planned_kept (is_some (form_in_place form)) (kept_region form.chain.array_to_array form.sizes selection) region p))
-    (ap (seen (places_in_order form.chain.array_to_array form.sizes (planned_region form selection))) (sym e) ∙ is) in
-    record { same = o.0; rising = o.1 }
+    (ap (seen (option_map_or (standing_places form.chain.array_to_array form.sizes) (planned_region form selection))) (sym e) ∙ is)
 
 -- ---- calls
 
@@ -125,15 +125,15 @@ planned_are_meant B form selection meant ordered mappings positive e is =
 pub standing_is : {B : Type 0} (form : ChunkForm B) (selection : Selection) (region : Region) (meant : List ℕ) → planned_region form selection ≡ Some region → encoded_places form.type form.chain.array_to_array form.sizes selection ≡ Ok meant
     → planned_order form selection ≡ Ok (standing_places form.chain.array_to_array form.sizes region)
 standing_is form selection region meant p e =
-    ap (λ (r : Option Region). seen (places_in_order form.chain.array_to_array form.sizes r) (encoded_places form.type form.chain.array_to_array form.sizes selection)) p
-    ∙ ap (seen (places_in_order form.chain.array_to_array form.sizes (Some region))) e
+    ap (λ (r : Option Region). seen (option_map_or (standing_places form.chain.array_to_array form.sizes) r) (encoded_places form.type form.chain.array_to_array form.sizes selection)) p
+    ∙ ap (seen (option_map_or (standing_places form.chain.array_to_array form.sizes) (Some region))) e
 
-own_order : (arrays : List ArrayMapping) (sizes : List ℕ) (r : Result (List ℕ) CodecError) → seen (places_in_order arrays sizes None) r ≡ r
+own_order : (arrays : List ArrayMapping) (sizes : List ℕ) (r : Result (List ℕ) CodecError) → seen (option_map_or (standing_places arrays sizes) None) r ≡ r
 own_order arrays sizes (Ok places) = refl
 own_order arrays sizes (Err e) = refl
 
 -- and all others come in their own
 pub others_are : {B : Type 0} (form : ChunkForm B) (selection : Selection) → planned_region form selection ≡ None → planned_order form selection ≡ encoded_places form.type form.chain.array_to_array form.sizes selection
 others_are form selection p =
-    ap (λ (r : Option Region). seen (places_in_order form.chain.array_to_array form.sizes r) (encoded_places form.type form.chain.array_to_array form.sizes selection)) p
+    ap (λ (r : Option Region). seen (option_map_or (standing_places form.chain.array_to_array form.sizes) r) (encoded_places form.type form.chain.array_to_array form.sizes selection)) p
     ∙ own_order form.chain.array_to_array form.sizes (encoded_places form.type form.chain.array_to_array form.sizes selection)

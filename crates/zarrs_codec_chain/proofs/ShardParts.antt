@@ -26,13 +26,14 @@ use Rattle.zarrs_codec.specs.StorageState.{StorageState}
 use Rattle.zarrs_codec_chain.proofs.GroupWalks.{places_of_groups, span_count}
 use Rattle.zarrs_codec_chain.proofs.ShardSpans.{StoredShard, is_shard, shard_takes}
 use Rattle.zarrs_codec_chain.proofs.SpanSeen.{stands_value}
-use Rattle.zarrs_codec_chain.specs.CodecPart.{codec_read, part_of}
+use Rattle.zarrs_codec_chain.specs.CodecPart.{codec_read}
 use Rattle.zarrs_codec_chain.specs.PartRead.{AnswersEach, PlaceReader}
 use Rattle.zarrs_codec_chain.specs.ShardRead.{groups_read, span_read}
 use Rattle.zarrs_codec_chain.specs.SpanReads.{StandsIn, chain_read, seen_state}
 use Rattle.zarrs_codec_chain.specs.declared.sharding.value_span.ValueSpan.{ValueSpan}
 use Rattle.zarrs_data_type.specs.Element.{Chunk, fill_element}
 use Rattle.zarrs_data_type.specs.ElementType.{ElementType}
+use Rattle.zarrs_codec_chain.specs.CountLaws.{part_counted}
 
 pub is_ok_so : {A : Type 0} (r : Result A CodecError) → is_ok r ≡ true → IsOk r
 is_ok_so (Ok x) h = refl
@@ -50,7 +51,7 @@ chain_count f chain sizes type fill (Some value) places chunk e =
     let m = moved.given in
     let measured = passed (codec_representation f chain.array_to_bytes m.encoded type fill) (λ r. outer_bytes f chain.bytes_to_bytes r value >>= λ below. codec_read f chain.array_to_bytes m.encoded type fill (Some below) (map m.to places)) chunk moved.second_is in
     let opened = passed (outer_bytes f chain.bytes_to_bytes measured.given value) (λ below. codec_read f chain.array_to_bytes m.encoded type fill (Some below) (map m.to places)) chunk measured.second_is in
-    (part_of chain.array_to_bytes).counted f m.encoded type fill (Some opened.given) (map m.to places) chunk opened.second_is ∙ length-map places m.to
+    part_counted f chain.array_to_bytes m.encoded type fill (Some opened.given) (map m.to places) chunk opened.second_is ∙ length-map places m.to
 
 pub groups_long : (read : PlaceReader) → AnswersEach read → (shape : List ℕ) (type : ElementType) (fill value : List ℕ) (spans : List Span) (groups : List (ℕ × List ℕ)) (chunk : Chunk) → groups_read read shape type fill value spans groups ≡ Ok chunk → length chunk ≡ length (places_of_groups groups)
 groups_long read each shape type fill value spans [] chunk e = ap length (sym (ok_is [] chunk e))

@@ -35,7 +35,7 @@ use Rattle.zarrs_codec.specs.declared.bytes_representation.BytesRepresentation.{
 use Rattle.zarrs_codec_chain.proofs.ShardReads.{members_mapped, members_inside, parts_of, picked, in_turn_is, shard_each, through_each}
 use Rattle.zarrs_codec_chain.specs.PartRead.{PlaceReader}
 use Rattle.zarrs_codec_chain.specs.PlaceLaws.{Resting, read_through, rests_through, SameMembers, RestsEach, IsSame, ReadsBy, SelectsOfChunk, IsLawfulReader}
-use Rattle.zarrs_codec_chain.specs.ShardRead.{spans_by, spans_in, span_read, inner_read, inner_reads, in_turn, spans_read, shard_read, index_bytes_at, span_rests, inner_rests, inner_chunks_rest, spans_rest, shard_rests, shard_rests_behind}
+use Rattle.zarrs_codec_chain.specs.ShardRead.{spans_by, spans_in, span_read, in_turn, spans_read, shard_read, index_bytes_at, span_rests, spans_rest, shard_rests, shard_rests_behind, of_any, each_inner}
 use Rattle.zarrs_data_type.specs.Element.{Element, absent, Chunk, fill_element}
 use Rattle.zarrs_data_type.specs.ElementType.{ElementType}
 use Rattle.zarrs_shard_runs.specs.PlacesInside.{places_of_inner}
@@ -70,21 +70,21 @@ module _ (rests : Resting) (shape sizes : List ℕ) (type : ElementType) (fill v
       if_seen (list_all test) (nat_le (span.0 + span.1) (length value)) (seen (map (λ number. at + number)) (rests shape type fill there ps)) (seen (map (λ number. at + number)) (rests shape type fill there qs))
       (moved_seen test at (rests shape type fill there ps) ∙ law there ps qs same (λ number. test (at + number)) ∙ sym (moved_seen test at (rests shape type fill there qs)))
 
-  inner_same : (span : Span) → RestsEach (inner_rests rests shape type fill value span)
+  inner_same : (span : Span) → RestsEach (of_any (span_rests (is_stored span) rests shape type fill value span))
   inner_same span [] [] same test = refl
   inner_same span [] (q ∷ qs) same test = absurd (true≢false (same (λ _. false)))
   inner_same span (p ∷ ps) [] same test = absurd (false≢true (same (λ _. false)))
   inner_same span (p ∷ ps) (q ∷ qs) same test = span_same (is_stored span) span (p ∷ ps) (q ∷ qs) same test
 
   chunks_same : (ps qs : List ℕ) → SameMembers ps qs → (test : ℕ → Bool) (number : ℕ) (spans : List Span)
-      → seen (list_all test) (inner_chunks_rest rests shape sizes type fill value ps number spans) ≡ seen (list_all test) (inner_chunks_rest rests shape sizes type fill value qs number spans)
+      → seen (list_all test) (each_inner ◌++◌ (λ span. span_rests (is_stored span) rests shape type fill value span) shape sizes ps number spans) ≡ seen (list_all test) (each_inner ◌++◌ (λ span. span_rests (is_stored span) rests shape type fill value span) shape sizes qs number spans)
   chunks_same ps qs same test number [] = refl
   chunks_same ps qs same test number (span ∷ spans) =
       let first = inner_same span (places_of_inner shape sizes number ps) (places_of_inner shape sizes number qs) (members_inside shape sizes number ps qs same) test in
       let rest = chunks_same ps qs same test (suc number) spans in
-      two_seen test (inner_rests rests shape type fill value span (places_of_inner shape sizes number ps)) (inner_chunks_rest rests shape sizes type fill value ps (suc number) spans)
+      two_seen test (of_any (span_rests (is_stored span) rests shape type fill value span) (places_of_inner shape sizes number ps)) (each_inner ◌++◌ (λ span. span_rests (is_stored span) rests shape type fill value span) shape sizes ps (suc number) spans)
       ∙ (λ i. first i >>= λ x. rest i >>= λ y. ok (x && y))
-      ∙ sym (two_seen test (inner_rests rests shape type fill value span (places_of_inner shape sizes number qs)) (inner_chunks_rest rests shape sizes type fill value qs (suc number) spans))
+      ∙ sym (two_seen test (of_any (span_rests (is_stored span) rests shape type fill value span) (places_of_inner shape sizes number qs)) (each_inner ◌++◌ (λ span. span_rests (is_stored span) rests shape type fill value span) shape sizes qs (suc number) spans))
 
   spans_same : (ps qs : List ℕ) → SameMembers ps qs → (test : ℕ → Bool) (spans : Result (List Span) CodecError)
       → seen (list_all test) (spans_rest rests shape sizes type fill value ps spans) ≡ seen (list_all test) (spans_rest rests shape sizes type fill value qs spans)
@@ -140,7 +140,7 @@ if_found true r found = found
 if_found false r found = refl
 
 module _ (rests : Resting) (shape sizes : List ℕ) (type : ElementType) (fill value : List ℕ) (law : (stored : Option (List ℕ)) (places : List ℕ) → IsOk (rests shape type fill stored places)) where
-  inner_found : (span : Span) (places : List ℕ) → IsOk (inner_rests rests shape type fill value span places)
+  inner_found : (span : Span) (places : List ℕ) → IsOk (of_any (span_rests (is_stored span) rests shape type fill value span) places)
   inner_found span [] = refl
   inner_found span (p ∷ ps) = span_found (is_stored span) span (p ∷ ps)
     where
@@ -150,12 +150,12 @@ module _ (rests : Resting) (shape sizes : List ℕ) (type : ElementType) (fill v
           let there = rests shape type fill (Some (spanned_bytes value span)) places in
           if_found (nat_le (span.0 + span.1) (length value)) (seen (map (λ number. span.0 + number)) there) (seen_found (map (λ number. span.0 + number)) there (law (Some (spanned_bytes value span)) places))
 
-  chunks_found : (places : List ℕ) (number : ℕ) (spans : List Span) → IsOk (inner_chunks_rest rests shape sizes type fill value places number spans)
+  chunks_found : (places : List ℕ) (number : ℕ) (spans : List Span) → IsOk (each_inner ◌++◌ (λ span. span_rests (is_stored span) rests shape type fill value span) shape sizes places number spans)
   chunks_found places number [] = refl
   chunks_found places number (span ∷ spans) =
-      then_found (inner_rests rests shape type fill value span (places_of_inner shape sizes number places)) (λ here. inner_chunks_rest rests shape sizes type fill value places (suc number) spans >>= λ behind. ok (here ++ behind))
+      then_found (of_any (span_rests (is_stored span) rests shape type fill value span) (places_of_inner shape sizes number places)) (λ here. each_inner ◌++◌ (λ span. span_rests (is_stored span) rests shape type fill value span) shape sizes places (suc number) spans >>= λ behind. ok (here ++ behind))
       (inner_found span (places_of_inner shape sizes number places))
-      (λ here. then_found (inner_chunks_rest rests shape sizes type fill value places (suc number) spans) (λ behind. ok (here ++ behind)) (chunks_found places (suc number) spans) (λ behind. refl))
+      (λ here. then_found (each_inner ◌++◌ (λ span. span_rests (is_stored span) rests shape type fill value span) shape sizes places (suc number) spans) (λ behind. ok (here ++ behind)) (chunks_found places (suc number) spans) (λ behind. refl))
 
   spans_found : (places : List ℕ) (spans : Result (List Span) CodecError) → IsOk (spans_rest rests shape sizes type fill value places spans)
   spans_found places (Ok spans) = chunks_found places 0 spans
@@ -221,12 +221,12 @@ module _ (measure : Measure) (decode : Decoder) (read : PlaceReader) (law : Sele
       let a = bind_ok (demand (nat_le (span.0 + span.1) (length value)) InvalidByteRange) _ chunk e in
       rw (demand_ok (nat_le (span.0 + span.1) (length value)) InvalidByteRange a.0 a.1) (law shape type fill (spanned_bytes value span) measured.0 chunk ps positive measured.1 a.2 below)
 
-  inner_selects : (span : Span) (chunk : Chunk) (ps : List ℕ) → inner_chunk_at (is_stored span) decode shape type fill value span ≡ Ok chunk → All (λ q. q < product shape) ps → inner_read read shape type fill value span ps ≡ Ok (select chunk ps)
+  inner_selects : (span : Span) (chunk : Chunk) (ps : List ℕ) → inner_chunk_at (is_stored span) decode shape type fill value span ≡ Ok chunk → All (λ q. q < product shape) ps → of_any (span_read (is_stored span) read shape type fill value span) ps ≡ Ok (select chunk ps)
   inner_selects span chunk [] e below = refl
   inner_selects span chunk (p ∷ ps) e below = span_selects (is_stored span) span chunk (p ∷ ps) e below
 
   chunks_select : (sizes : List ℕ) (number : ℕ) (spans : List Span) (chunks : List Chunk) (ps : List ℕ) → IsCut shape sizes → All (λ p. p < product sizes) ps → inner_chunks_at decode shape type fill value spans ≡ Ok chunks
-      → inner_reads read shape sizes type fill value ps number spans ≡ Ok (parts_of element_of shape sizes ps number chunks)
+      → each_inner ◌∷◌ (λ span. span_read (is_stored span) read shape type fill value span) shape sizes ps number spans ≡ Ok (parts_of element_of shape sizes ps number chunks)
   chunks_select sizes number [] chunks ps cut below e = ap (λ (c : List Chunk). ok (parts_of element_of shape sizes ps number c)) (ok_is [] chunks e)
   chunks_select sizes number (span ∷ spans) chunks ps cut below e =
       let a = bind_ok (inner_chunk_at (is_stored span) decode shape type fill value span) _ chunks e in
@@ -389,16 +389,16 @@ module _ (read : PlaceReader) (rests : Resting) (law : ReadsBy read rests) (shap
           rw (t, sym longs ∙ t) (law shape type fill (spanned_bytes value span) (spanned_bytes other span) ps found.0 long found.1 (spanned_same value other span found.0 l within (subst (All (IsSame value other)) (sym found.2) h)))
       by false t = rw (t, sym longs ∙ t) refl
 
-  inner_alike : (span : Span) (ps numbers : List ℕ) → inner_rests rests shape type fill value span ps ≡ Ok numbers → All (IsSame value other) numbers → inner_read read shape type fill value span ps ≡ inner_read read shape type fill other span ps
+  inner_alike : (span : Span) (ps numbers : List ℕ) → of_any (span_rests (is_stored span) rests shape type fill value span) ps ≡ Ok numbers → All (IsSame value other) numbers → of_any (span_read (is_stored span) read shape type fill value span) ps ≡ of_any (span_read (is_stored span) read shape type fill other span) ps
   inner_alike span [] numbers e h = refl
   inner_alike span (p ∷ ps) numbers e h = span_alike (is_stored span) span (p ∷ ps) numbers e h
 
-  chunks_alike : (ps : List ℕ) (number : ℕ) (spans : List Span) (numbers : List ℕ) → inner_chunks_rest rests shape sizes type fill value ps number spans ≡ Ok numbers → All (IsSame value other) numbers
-      → inner_reads read shape sizes type fill value ps number spans ≡ inner_reads read shape sizes type fill other ps number spans
+  chunks_alike : (ps : List ℕ) (number : ℕ) (spans : List Span) (numbers : List ℕ) → each_inner ◌++◌ (λ span. span_rests (is_stored span) rests shape type fill value span) shape sizes ps number spans ≡ Ok numbers → All (IsSame value other) numbers
+      → each_inner ◌∷◌ (λ span. span_read (is_stored span) read shape type fill value span) shape sizes ps number spans ≡ each_inner ◌∷◌ (λ span. span_read (is_stored span) read shape type fill other span) shape sizes ps number spans
   chunks_alike ps number [] numbers e h = refl
   chunks_alike ps number (span ∷ spans) numbers e h =
-      let a = bind_ok (inner_rests rests shape type fill value span (places_of_inner shape sizes number ps)) _ numbers e in
-      let b = bind_ok (inner_chunks_rest rests shape sizes type fill value ps (suc number) spans) _ numbers a.2 in
+      let a = bind_ok (of_any (span_rests (is_stored span) rests shape type fill value span) (places_of_inner shape sizes number ps)) _ numbers e in
+      let b = bind_ok (each_inner ◌++◌ (λ span. span_rests (is_stored span) rests shape type fill value span) shape sizes ps (suc number) spans) _ numbers a.2 in
       let both : All (IsSame value other) (a.0 ++ b.0) = subst (All (IsSame value other)) (sym (ok_is (a.0 ++ b.0) numbers b.2)) h in
       let first = inner_alike span (places_of_inner shape sizes number ps) a.0 a.1 (All-first (IsSame value other) a.0 b.0 both) in
       let rest = chunks_alike ps (suc number) spans b.0 b.1 (All-second (IsSame value other) a.0 b.0 both) in

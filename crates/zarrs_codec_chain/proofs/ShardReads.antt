@@ -17,7 +17,7 @@ use Rattle.zarrs_chunk.specs.declared.codec_error.CodecError.TheVariants.{Invali
 use Rattle.zarrs_codec.specs.BytesToBytesCodec.{BytesCodecs}
 use Rattle.zarrs_codec_chain.specs.PartRead.{PlaceReader}
 use Rattle.zarrs_codec_chain.specs.PlaceLaws.{read_through, SameMembers, ReadsEach}
-use Rattle.zarrs_codec_chain.specs.ShardRead.{spans_in, span_read, inner_read, inner_reads, without_first, in_turn, spans_read, shard_read}
+use Rattle.zarrs_codec_chain.specs.ShardRead.{spans_in, span_read, without_first, in_turn, spans_read, shard_read, of_any, each_inner}
 use Rattle.zarrs_data_type.specs.Element.{Element, absent, Chunk, fill_element}
 use Rattle.zarrs_data_type.specs.ElementType.{ElementType}
 use Rattle.zarrs_shard_runs.specs.PlacesInside.{places_of_inner}
@@ -101,7 +101,7 @@ unless_same refusal law [] (q ∷ qs) same = absurd (true≢false (same (λ _. f
 unless_same refusal law (p ∷ ps) [] same = absurd (false≢true (same (λ _. false)))
 unless_same refusal law (p ∷ ps) (q ∷ qs) same = law (p ∷ ps) (q ∷ qs) same
 
-pub inner_each : (read : PlaceReader) (shape : List ℕ) (type : ElementType) (fill value : List ℕ) (span : Span) → ((s : Option (List ℕ)) → ReadsEach (read shape type fill s)) → ReadsEach (inner_read read shape type fill value span)
+pub inner_each : (read : PlaceReader) (shape : List ℕ) (type : ElementType) (fill value : List ℕ) (span : Span) → ((s : Option (List ℕ)) → ReadsEach (read shape type fill s)) → ReadsEach (of_any (span_read (is_stored span) read shape type fill value span))
 inner_each read shape type fill value span each =
     let here = span_each (is_stored span) read shape type fill value span each in
     record {
@@ -111,7 +111,7 @@ inner_each read shape type fill value span each =
       is = is here;
     }
   where
-    is : (here : ReadsEach (span_read (is_stored span) read shape type fill value span)) (ps : List ℕ) → inner_read read shape type fill value span ps ≡ (unless_none here.refusal ps >>= λ _. ok (map here.element ps))
+    is : (here : ReadsEach (span_read (is_stored span) read shape type fill value span)) (ps : List ℕ) → of_any (span_read (is_stored span) read shape type fill value span) ps ≡ (unless_none here.refusal ps >>= λ _. ok (map here.element ps))
     is here [] = refl
     is here (p ∷ ps) = here.is (p ∷ ps)
 
@@ -175,7 +175,7 @@ in_turn_is pick xs shape sizes (place ∷ places) =
 -- ---- a shard's places, each by itself
 
 module _ (read : PlaceReader) (shape sizes : List ℕ) (type : ElementType) (fill value : List ℕ) (each : (s : Option (List ℕ)) → ReadsEach (read shape type fill s)) where
-  abbrev pub each_at : (span : Span) → ReadsEach (inner_read read shape type fill value span)
+  abbrev pub each_at : (span : Span) → ReadsEach (of_any (span_read (is_stored span) read shape type fill value span))
   each_at span = inner_each read shape type fill value span each
 
   -- the element at a place of the inner chunk at a span
@@ -198,7 +198,7 @@ module _ (read : PlaceReader) (shape sizes : List ℕ) (type : ElementType) (fil
   joined_reads (Ok x) (Err e) part parts = refl
   joined_reads (Err e) second part parts = refl
 
-  reads_are : (places : List ℕ) (number : ℕ) (spans : List Span) → inner_reads read shape sizes type fill value places number spans ≡ (refusals places number spans >>= λ _. ok (parts_of pick_at shape sizes places number spans))
+  reads_are : (places : List ℕ) (number : ℕ) (spans : List Span) → each_inner ◌∷◌ (λ span. span_read (is_stored span) read shape type fill value span) shape sizes places number spans ≡ (refusals places number spans >>= λ _. ok (parts_of pick_at shape sizes places number spans))
   reads_are places number [] = refl
   reads_are places number (span ∷ spans) =
       let first = (each_at span).is (places_of_inner shape sizes number places) in

@@ -1,5 +1,5 @@
 -- What is read of a shard that stands in a span: by its index and its groups.
-use Rattle.std.proofs.Common.{◌≡◌, ℕ, ◌+◌, ◌<◌, nat_le, Bool, true, Option, Some, get_or, List, length, Result, Ok, Err, arith, refl, ap, sym, subst, ◌∙◌}
+use Rattle.std.proofs.Common.{◌≡◌, ℕ, ◌+◌, ◌<◌, nat_le, Bool, true, false, Option, Some, get_or, List, length, map, Result, Ok, Err, arith, refl, ap, sym, subst, ◌∙◌}
 use Rattle.std.specs.List.{range_with_len}
 use Rattle.std.specs.Prelude.{IfOk, IsOk}
 use Rattle.std.proofs.lemmas.List.{ext_get_or}
@@ -25,12 +25,12 @@ use Rattle.zarrs_codec.specs.declared.bytes_representation.BytesRepresentation.{
 use Rattle.zarrs_codec_chain.proofs.GroupedReads.{moved_sure, shard_sure, span_sure}
 use Rattle.zarrs_codec_chain.proofs.SpanSeen.{HasValue, IsInside, inside_seen, span_value, stands_value}
 use Rattle.zarrs_codec_chain.specs.ChunkRead.{are_given_sure}
-use Rattle.zarrs_codec_chain.specs.CodecPart.{codec_read, codec_rests_on, rests_behind}
+use Rattle.zarrs_codec_chain.specs.CodecPart.{codec_read, codec_rests_on, rests_where}
 use Rattle.zarrs_codec_chain.specs.KeptIndex.{IsIndex, codec_spans}
 use Rattle.zarrs_codec_chain.specs.ShardRead.{index_bytes_at, span_read, span_rests, spans_read, spans_rest, shard_rests}
 use Rattle.zarrs_codec_chain.specs.SpanReads.{StandsIn, chain_read, chain_rests, inner_span, seen_state, span_parts, stored_index_bytes, stored_span_read, stored_span_rests, stored_spans}
 use Rattle.zarrs_codec_chain.specs.declared.sharding.value_span.ValueSpan.{ValueSpan}
-use Rattle.zarrs_data_type.specs.Element.{absent, Chunk}
+use Rattle.zarrs_data_type.specs.Element.{absent, Chunk, fill_element}
 use Rattle.zarrs_data_type.specs.ElementType.{ElementType}
 
 -- ---- one inner chunk
@@ -49,6 +49,10 @@ module _ {B : Type 0} (f : BytesCodecs B) (chain : PlainChain B) (shape : List �
   wanted_is stored e =
       ap (λ (v : Option (List ℕ)). stored_span_read (chain_read f chain) shape type fill v at places) there.is
       ∙ ap (λ (b : Bool). span_read b (chain_read f chain) shape type fill there.value at places) e
+
+  -- where it isn't stored, is filled
+  pub filled_is : is_stored at ≡ false → ok (map (λ _. fill_element type fill) places) ≡ wanted
+  filled_is e = sym (wanted_is false e)
 
   module _ (inside : ValueSpan) (e : is_stored at ≡ true) (parts : ok (span_parts inside) ≡ inner_span span at.0 at.1) where
     found : IsInside span inside at.0 at.1 state
@@ -106,7 +110,7 @@ unfolding meaning
 spans_are f inner index shape at_end sizes value = refl
 
 pub behind_are : {B : Type 0} (f : BytesCodecs B) (inner index : PlainChain B) (shape : List ℕ) (at_end : Bool) (sizes : List ℕ) (type : ElementType) (fill value places : List ℕ)
-    → rests_behind f (sharding_codec_of inner index shape at_end) sizes type fill (Some value) places ≡ spans_rest (chain_rests f inner) shape sizes type fill value places (stored_spans f index shape at_end sizes (Some value))
+    → rests_where true f (sharding_codec_of inner index shape at_end) sizes type fill (Some value) places ≡ spans_rest (chain_rests f inner) shape sizes type fill value places (stored_spans f index shape at_end sizes (Some value))
 unfolding meaning
 behind_are f inner index shape at_end sizes type fill value places = refl
 

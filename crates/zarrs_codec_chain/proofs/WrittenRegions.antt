@@ -1,30 +1,41 @@
 -- Regions that are written as regions.
-use Rattle.std.proofs.Common.{◌≡◌, ◌==◌, ◌^◌, ◌<◌, ℕ, Bool, true, false, Option, Some, None, List, [], ◌∷◌, length, map, Ok, if◌then◌else◌, refl, ap, ◌∙◌, sym, arith}
+use Rattle.std.proofs.Common.{◌≡◌, ◌==◌, ◌^◌, ◌<◌, ℕ, Bool, true, false, Option, Some, None, List, [], ◌∷◌, length, map, Ok, if◌then◌else◌, refl, ap, ◌∙◌, sym, subst, arith}
 use Rattle.std.specs.Prelude.{is_some, option_map, IfNone, IfSome}
 use Rattle.std.specs.List.{All}
 use Rattle.std.proofs.lemmas.Bool.{eqb-true}
 use Rattle.std.proofs.lemmas.List.{map-id}
 use Rattle.zarrs_chunk.specs.ChunkShape.{product}
 use Rattle.zarrs_chunk.specs.Region.{Region}
+use Rattle.zarrs_chunk.specs.Runs.{EndWithin, joined_runs}
 use Rattle.zarrs_chunk.specs.Selection.{Selection, subset, indices}
 use Rattle.zarrs_chunk.specs.Tuples.{is_box_inside}
 use Rattle.zarrs_data_type.specs.ElementType.{ElementType}
 use Rattle.zarrs_data_type.specs.declared.endianness.Endianness.{Endianness}
+use Rattle.zarrs_array_bytes.specs.Held.{Held}
+use Rattle.zarrs_array_bytes.specs.Validity.{Holds}
 use Rattle.zarrs_codec.specs.BytesToBytesCodec.{BytesCodecs}
 use Rattle.zarrs_codec.specs.declared.bytes_representation.BytesRepresentation.{BytesRepresentation}
 use Rattle.zarrs_array_to_array.specs.ArrayToArrayCodec.{ArrayMapping, IsMapping}
 use Rattle.zarrs_array_to_array.specs.Mapping.{mapping_of}
 use Rattle.zarrs_array_to_array.specs.declared.array_to_array_codec.ArrayToArrayCodec.{ArrayToArrayCodec}
 use Rattle.zarrs_array_regions.specs.KeptRegions.{kept_region, IsKept}
-use Rattle.zarrs_array_regions.specs.Windows.{window_of, window_places}
+use Rattle.zarrs_array_regions.specs.FewRuns.{HasRegionRuns}
+use Rattle.zarrs_array_regions.specs.Windows.{TakesRegion, TakeType, window_of, window_places, window_elements, encoded_elements}
+use Rattle.zarrs_array_regions.specs.declared.window.Window.{Window}
 use Rattle.zarrs_array_regions.proofs.KeptWindows.{places_are}
 use Rattle.zarrs_bytes.proofs.Coding.{ok}
 use Rattle.zarrs_chain_meaning.specs.ChunkForm.{ChunkForm}
+use Rattle.zarrs_chain_meaning.proofs.ArraySteps.{ok_is}
+use Rattle.zarrs_codec_chain.specs.ChunkCoder.{coder_form, coder_keeps_regions, IsInPlace}
 use Rattle.zarrs_codec_chain.specs.ChunkRead.{encoded_places, form_in_place, planned_order, standing_places}
+use Rattle.zarrs_codec_chain.specs.ChunkWrite.{LendsData}
+use Rattle.zarrs_codec_chain.specs.ChunkWriter.{reader_functions, StandsThere}
+use Rattle.zarrs_codec_chain.specs.declared.chunk_coder.ChunkCoder.{ChunkCoder}
 use Rattle.zarrs_codec_chain.proofs.Counting.{in_place_region}
-use Rattle.zarrs_codec_chain.proofs.PartialReads.{IsReadable}
+use Rattle.zarrs_codec_chain.proofs.PartialReads.{IsReadable, is_readable}
 use Rattle.zarrs_codec_chain.proofs.PlannedPlaces.{others_are, standing_is}
-use Rattle.zarrs_codec_chain.proofs.RegionReads.{region_goes}
+use Rattle.zarrs_codec_chain.proofs.RegionReads.{region_goes, runs_at, takes_region, takes_type}
+use Rattle.zarrs_codec_chain.proofs.RegionWrites.{region_leaves, region_fits}
 
 -- ---- one that is kept
 
@@ -78,3 +89,39 @@ own_planned form selection region e kept counted =
     ∙ ap (λ (s : Selection). encoded_places form.type [] form.sizes s) kept.selection_is
     ∙ own_places form.type form.sizes region kept.inside counted
     ∙ sym (ap (λ (cs : List ArrayMapping). ok (standing_places cs form.sizes region)) e)
+
+-- ---- its new elements there
+
+module _ {B : Type 0} {b : _} (coder : ChunkCoder B b) (are : All IsMapping (coder_form coder).chain.array_to_array) (positive : All (λ size. 0 < size) (coder_form coder).sizes) (region : Region) (inside : is_box_inside (coder_form coder).sizes region.starts region.lengths ≡ true)
+    (kept : coder_keeps_regions coder ≡ true) (codecs : List ArrayMapping) (same : codecs ≡ (coder_form coder).chain.array_to_array) where
+  abbrev form : ChunkForm B
+  form = coder_form coder
+
+  abbrev window : Window
+  window = window_of form.sizes region
+
+  readable : IsReadable (reader_functions coder) form.chain form.sizes form.type form.fill coder.encoded coder.representation
+  readable = is_readable (reader_functions coder) form.chain form.sizes form.type form.fill coder.encoded coder.representation are positive coder.taken
+
+  -- the codecs accept the chunk and its type
+  pub coder_takes : TakesRegion codecs form.sizes region
+  coder_takes = subst (λ cs. TakesRegion cs form.sizes region) (sym same) (takes_region (reader_functions coder) form coder.encoded coder.representation readable are positive coder.counted_whole region inside kept)
+
+  pub coder_takes_type : TakeType codecs form.type
+  coder_takes_type = subst (λ cs. TakeType cs form.type) (sym same) (takes_type (reader_functions coder) form coder.encoded coder.representation readable are positive coder.counted_whole region inside kept)
+
+  -- runs of the last window, and a container of its elements, are those of the new elements as they stand there
+  pub stands_there : (order : Option Endianness) (new lent held : Held) (runs : List (ℕ × ℕ)) → IsInPlace coder order → LendsData form.type region new lent → HasRegionRuns codecs form.sizes region runs → Holds form.type held (encoded_elements codecs window (window_elements form.type window lent))
+      → StandsThere coder order region new runs held
+  stands_there order new lent held runs alone lends made holds =
+      let f = reader_functions coder in
+      let at = runs_at form.chain.array_to_array codecs window runs runs same (ap ok (sym made.places)) refl in
+      let there = subst (λ cs. Holds form.type held (encoded_elements cs window (window_elements form.type window lent))) same holds in
+      record {
+        same_edit = region_leaves f form coder.encoded coder.representation readable are positive coder.counted_whole region inside order alone kept new lent held lends (joined_runs runs) at there coder.filling;
+        filled = made.filled;
+        inside = subst (λ n. EndWithin n runs) (sym readable.count) made.below;
+        apart = made.apart;
+        places = sym (ok_is _ _ at);
+        fit = region_fits f form coder.encoded coder.representation readable are positive coder.counted_whole region inside order alone kept new lent held lends (joined_runs runs) at there;
+      }

@@ -1,5 +1,5 @@
 -- Which bytes an edit through a chain replaces, and how often reads and edits ask their handle: `calls` says what the record of a handle is, `state` what it keeps.
-use Rattle.std.specs.Prelude.{◌≡◌, ℕ, false, Option, Some, None, List, Result, IfOk, MatchOption}
+use Rattle.std.specs.Prelude.{◌≡◌, ℕ, false, Option, List, Result, IfOk, MatchOption}
 use Rattle.zarrs_chunk.specs.Selection.{Selection}
 use Rattle.zarrs_data_type.specs.ElementType.{ElementType}
 use Rattle.zarrs_codec.specs.Calls.{Calls, MakesReads, MakesWrite}
@@ -8,16 +8,12 @@ use Rattle.zarrs_bytes.specs.PartialRead.{place_bytes, place_size}
 use Rattle.zarrs_chain_meaning.specs.PlainChain.{PlainChain}
 use Rattle.zarrs_codec_chain.specs.ChunkRead.{asks_in_part, form_in_place, planned_order}
 use Rattle.zarrs_chain_meaning.specs.ChunkForm.{ChunkForm}
+use Rattle.std.specs.Option.{option_map_or}
 
--- the numbers of the bytes that an accepted write in place replaces: those of these places, in order; all of the new value, where none was stored
-abbrev pub replaced_in_place : ElementType → Option (List ℕ) → Option (List ℕ) → List ℕ → List ℕ
-replaced_in_place type None after places = value_indices after
-replaced_in_place type (Some value) after places = place_bytes (place_size type) places
-
--- an accepted write in place has asked once whether a value is stored, and replaced these bytes and no others
+-- an accepted write in place has asked once whether a value is stored, and replaced the bytes of these places and no others, in order; or all of a first value
 abbrev pub ReplacesPlaces : {H E T : Type 0} → (H → Option Calls) → (H → StorageState) → ElementType → List ℕ → (before after : H) → Result T E → Type 0
 ReplacesPlaces calls state type places before after result =
-    MakesWrite calls 1 (replaced_in_place type (state before).value (state after).value places) before after result
+    MakesWrite calls 1 (option_map_or (λ _. place_bytes (place_size type) places) (state before).value (value_indices (state after).value)) before after result
 
 -- An accepted edit makes one reading call and one writing call. Where the chain writes in place, the reading call asks whether a value is stored, and the writing call replaces the bytes of the selected places and no others, in the order in which they are planned, or all of a first value. Through any other chain the value is read, and all of it replaced.
 abbrev pub CountsEditThrough : {H E T B : Type 0} → (H → Option Calls) → (H → StorageState) → ChunkForm B → Selection → (before after : H) → Result T E → Type 0

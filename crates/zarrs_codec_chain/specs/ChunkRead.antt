@@ -1,6 +1,6 @@
 -- What a read in part answers through a chain.
 -- Source: zarrs, `ArrayPartialDecoderTraits`.
-use Rattle.zarrs_chain_meaning.specs.CodecMeaning.{ChainStands, codec_chunk, codec_representation}
+use Rattle.zarrs_chain_meaning.specs.CodecMeaning.{codec_chunk, codec_representation, chain_meaning}
 use Rattle.zarrs_array_bytes.specs.Validity.{Holds}
 use Rattle.zarrs_array_bytes.specs.Held.{Held}
 use Rattle.zarrs_data_type.specs.Form.{form_of, Form}
@@ -32,6 +32,7 @@ use Rattle.zarrs_chain.specs.ChainView.{plain_chain}
 use Rattle.zarrs_chain.specs.declared.codec_chain.CodecChain.{CodecChain}
 use Rattle.zarrs_codec_chain.specs.CodecPart.{part_of, codec_read, order_in_place, codec_rests_on, rests_where}
 use Rattle.zarrs_chain_meaning.specs.ChunkForm.{ChunkForm}
+use Rattle.std.specs.Option.{option_map_or}
 
 -- ---- chains
 
@@ -75,15 +76,10 @@ planned_region form selection =
 abbrev pub standing_places : List ArrayMapping → List ℕ → Region → List ℕ
 standing_places arrays sizes region = window_places (last_window arrays (window_of sizes region))
 
--- places of the moved chunk in the order in which their bytes are planned: in their own; of a region in which they stand
-abbrev pub places_in_order : List ArrayMapping → List ℕ → Option Region → List ℕ → List ℕ
-places_in_order arrays sizes None places = places
-places_in_order arrays sizes (Some region) places = standing_places arrays sizes region
-
 -- where the places that a selection selects go, in the order in which their bytes are planned, or the first error
 abbrev pub planned_order : {B : Type 0} → ChunkForm B → Selection → Result (List ℕ) CodecError
 planned_order form selection =
-    seen (places_in_order form.chain.array_to_array form.sizes (planned_region form selection)) (encoded_places form.type form.chain.array_to_array form.sizes selection)
+    seen (option_map_or (standing_places form.chain.array_to_array form.sizes) (planned_region form selection)) (encoded_places form.type form.chain.array_to_array form.sizes selection)
 
 -- the places whose bytes a read asks for, of the chunk that the array-to-bytes codec gets, in the order in which they are planned, where it asks for these alone; or the first error
 abbrev pub planned_places : {B : Type 0} → ChunkForm B → Selection → Result (Option (List ℕ)) CodecError
@@ -96,10 +92,6 @@ IsReadPlan f form None None = Unit {0}
 IsReadPlan f form (Some ranges) (Some places) =
     IsOkAnd (taken_form f form.chain form.sizes form.type form.fill) (λ taken. (part_of form.chain.array_to_bytes).IsPlanned taken.0 form.type form.fill places ranges)
 IsReadPlan f form _ _ = ⊥
-
--- the same of ranges as a call gives them
-abbrev pub IsPlanSeen : {B : Type 0} → BytesCodecs B → ChunkForm B → Option (Vec ByteSpan Global) → Option (List ℕ) → Type 0
-IsPlanSeen f form ranges places = IsReadPlan f form (option_map (λ v. v.items) ranges) places
 
 -- ---- what a read rests on
 
@@ -144,7 +136,7 @@ reads_surely cached f form stored sure selection = cached || are_asked_sure sure
 
 -- The answer is a container of the elements at the selected places, of the chunk that the stored value stands for, or of fill elements where nothing is stored; or the first error. Only a lack of memory or a failure of the handle may come in its place, a failure behind the errors of the selection, and never where the read asks for a part of the value alone and the bytes that it rests on are sure.
 pub record ReadsStoredChunk {B : Type 0} (f : BytesCodecs B) (form : ChunkForm B) (before : StorageState) (selection : Selection) (result : Result Held CodecError) : Type 0 where
-  pub selected : (value : List ℕ) (chunk : Chunk) → before.value ≡ Some value → ChainStands f form.chain form.sizes form.type form.fill value chunk
+  pub selected : (value : List ℕ) (chunk : Chunk) → before.value ≡ Some value → (chain_meaning form.chain).Stands f form.sizes form.type form.fill value chunk
       → AnswersBy memory_or_fault (Holds form.type) result (seen (select chunk) (places_of selection form.sizes))
   pub unstored : before.value ≡ None
       → AnswersBy memory_or_fault (Holds form.type) result (seen (map (λ _. fill_element form.type form.fill)) (places_of selection form.sizes))
@@ -201,7 +193,7 @@ SureRuns f codec form before runs result =
 -- the plan of a read of the selected places is given, or the first error: the ranges are the bytes of these places and no others; none, where the read asks for more
 abbrev pub PlansRead : {B : Type 0} → BytesCodecs B → ChunkForm B → Selection → Result (Option (Vec ByteSpan Global)) CodecError → Type 0
 PlansRead f form selection result =
-    GivesBy (IsPlanSeen f form) result (planned_places form selection)
+    GivesBy (λ ranges. IsReadPlan f form (option_map (λ (v : Vec ByteSpan Global). v.items) ranges)) result (planned_places form selection)
 
 -- the places that a selection selects, as they go through the array-to-array codecs
 abbrev pub form_places : {B : Type 0} → ChunkForm B → Selection → Result (List ℕ) CodecError

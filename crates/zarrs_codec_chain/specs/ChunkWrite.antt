@@ -23,7 +23,7 @@ use Rattle.zarrs_bytes.specs.PartialWrite.{bytes_left, filled_chunk, with_place_
 use Rattle.zarrs_chain_meaning.specs.ArrayStages.{arrays_map}
 use Rattle.zarrs_chain_meaning.specs.ChunkForm.{ChunkForm}
 use Rattle.zarrs_codec_chain.specs.CodecPart.{order_in_place}
-use Rattle.zarrs_chain_meaning.specs.CodecMeaning.{chain_chunk, chain_value, ChainStands, ChainWritten}
+use Rattle.zarrs_chain_meaning.specs.CodecMeaning.{chain_meaning}
 use Rattle.zarrs_codec_chain.specs.PartialDecoder.{chunk_reader}
 use Rattle.std.proofs.Common.{Global}
 use Rattle.zarrs_chunk.specs.Runs.{joined_runs, places_in}
@@ -31,17 +31,12 @@ use Rattle.zarrs_array_bytes.specs.Validity.{data_fit, validity}
 use Rattle.zarrs_codec.specs.declared.capabilities.PartialEncoderCapability.{PartialEncoderCapability}
 use Rattle.zarrs_chain_meaning.specs.Chain.{chain_writes}
 
--- the value of a chunk with new elements at these places, or the first error
-abbrev pub edited_value : {B : Type 0} → BytesCodecs B → ChunkForm B → Chunk → List ℕ → Held → Result (List ℕ) CodecError
-edited_value f form chunk places new =
-    chain_value f form.chain form.sizes form.type form.fill (with_elements form.type chunk places new)
-
 -- The value that new elements at these places leave, or the first error. Where nothing is stored, it is that of the chunk of fill elements with the new ones. Of a stored value it is, over `bytes` without bytes-to-bytes codecs, the value with the bytes of the places, as they go through the array-to-array codecs, replaced; else that of the chunk that it stands for, with the new elements.
 abbrev pub value_left : {B : Type 0} → BytesCodecs B → ChunkForm B → Option (Option Endianness) → Option (List ℕ) → List ℕ → Held → Result (List ℕ) CodecError
-value_left f form order None places new = edited_value f form (filled_chunk form.sizes form.type form.fill) places new
+value_left f form order None places new = (chain_meaning form.chain).value f form.sizes form.type form.fill (with_elements form.type (filled_chunk form.sizes form.type form.fill) places new)
 value_left f form None (Some value) places new = do
-  chunk ← chain_chunk f form.chain form.sizes form.type form.fill value
-  edited_value f form chunk places new
+  chunk ← (chain_meaning form.chain).chunk f form.sizes form.type form.fill value
+  (chain_meaning form.chain).value f form.sizes form.type form.fill (with_elements form.type chunk places new)
 value_left f form (Some order) (Some value) places new = do
   m ← arrays_map form.type form.chain.array_to_array form.sizes
   Ok (with_place_bytes (place_size form.type) value (map m.to places) (spelling order form.type (elements form.type (length places) new)))
@@ -59,7 +54,7 @@ stored_written f form stored selection new = selection_left f form (order_in_pla
 -- the chunk that an edit starts from, or the first error: the one that the stored value stands for; where there is none, one of fill elements
 abbrev pub started_chunk : {B : Type 0} → BytesCodecs B → ChunkForm B → Option (List ℕ) → Result Chunk CodecError
 started_chunk f form None = fill_chunk form.type (product form.sizes) form.fill
-started_chunk f form (Some value) = chain_chunk f form.chain form.sizes form.type form.fill value
+started_chunk f form (Some value) = (chain_meaning form.chain).chunk f form.sizes form.type form.fill value
 
 -- where new elements at a selection go through array-to-array codecs, or the first error: the selection's; that of the new elements
 abbrev pub written_places : ElementType → List ArrayMapping → List ℕ → Selection → Held → Result (List ℕ) CodecError
@@ -81,18 +76,18 @@ chunk_writer f form sure in_part = record {
 -- an edit of what is stored starts from this chunk: the one that the value stands for; where there is none, one of fill elements
 abbrev pub EditStarts : {B : Type 0} → BytesCodecs B → ChunkForm B → Option (List ℕ) → Chunk → Type 0
 EditStarts f form None chunk = chunk ≡ filled_chunk form.sizes form.type form.fill
-EditStarts f form (Some value) chunk = ChainStands f form.chain form.sizes form.type form.fill value chunk
+EditStarts f form (Some value) chunk = (chain_meaning form.chain).Stands f form.sizes form.type form.fill value chunk
 
 -- the value is written for the chunk; nothing for nothing
 abbrev pub IsStoredFor : {B : Type 0} → BytesCodecs B → ChunkForm B → Option (List ℕ) → Option Chunk → Type 0
 IsStoredFor f form None None = Unit {0}
-IsStoredFor f form (Some value) (Some chunk) = ChainWritten f form.chain form.sizes form.type form.fill value chunk
+IsStoredFor f form (Some value) (Some chunk) = (chain_meaning form.chain).Written f form.sizes form.type form.fill value chunk
 IsStoredFor f form _ _ = ⊥
 
 -- Where an edit of what is stored starts from a chunk, it is accepted exactly where the selection is in bounds, the new elements fit it and a value is written for the chunk with these; the value afterwards is that one, the last write of a place standing. Else the first error is answered. Only a lack of memory or a failure of the handle may come in its place, a failure behind the errors of the selection and of the elements, which leave the handle as it was.
 pub record EditsStored {B : Type 0} (f : BytesCodecs B) (form : ChunkForm B) (before after : StorageState) (selection : Selection) (new : Held) (result : Result (Unit {0}) CodecError) : Type 0 where
   pub found : OnOk result ((chunk : Chunk) → EditStarts f form before.value chunk → IsOkAnd (edited_chunk form.sizes form.type chunk selection new) (λ edited. IsStoredFor f form after.value (Some edited)))
-  pub only : (chunk : Chunk) (value : List ℕ) → EditStarts f form before.value chunk → IsOkAnd (edited_chunk form.sizes form.type chunk selection new) (ChainWritten f form.chain form.sizes form.type form.fill value)
+  pub only : (chunk : Chunk) (value : List ℕ) → EditStarts f form before.value chunk → IsOkAnd (edited_chunk form.sizes form.type chunk selection new) ((chain_meaning form.chain).Written f form.sizes form.type form.fill value)
       → Answers memory_or_fault (λ _. after.value) result (Ok (Some value))
   pub exact : Answers memory_or_fault (λ _. after.value) result (seen Some (stored_written f form before.value selection new))
   pub indexer_first : IfErr (bounds_of selection form.sizes) (λ cause. Answers memory (λ done. done) result (Err cause))

@@ -15,8 +15,10 @@ use Rattle.zarrs_codec.specs.BytesToBytesCodec.{BytesCodecs}
 use Rattle.zarrs_codec.specs.Calls.{Calls, MakesWrite}
 use Rattle.zarrs_codec.specs.StorageState.{StorageState, value_indices}
 use Rattle.zarrs_codec_chain.specs.ChunkCoder.{coder_form, coder_standing}
-use Rattle.zarrs_codec_chain.specs.ChunkWrite.{FitsRuns, LeavesThere, WritesChunk, edited_value, form_checked, value_left}
+use Rattle.zarrs_codec_chain.specs.ChunkWrite.{FitsRuns, LeavesThere, WritesChunk, form_checked, value_left}
 use Rattle.zarrs_codec_chain.specs.declared.chunk_coder.ChunkCoder.{ChunkCoder}
+use Rattle.zarrs_chain_meaning.specs.CodecMeaning.{chain_meaning}
+use Rattle.zarrs_codec.specs.ChunkEdits.{with_elements}
 
 -- what its bytes-to-bytes codecs compute
 abbrev pub reader_functions : {B : Type 0} {b : _} → ChunkCoder B b → BytesCodecs B
@@ -48,7 +50,7 @@ pub record StandsThere {B : Type 0} {b : _} (coder : ChunkCoder B b) (order : Op
 -- the value of a chunk with new elements at the places of the runs, or the first error
 abbrev pub GivesEdited : {B : Type 0} {b : _} → ChunkCoder B b → Held → List (ℕ × ℕ) → Held → Result (CowSlice ℕ Global) CodecError → Type 0
 GivesEdited coder chunk runs new result =
-    Gives items_of result (edited_value (reader_functions coder) (coder_form coder) (elements (coder_form coder).type (product (coder_form coder).sizes) chunk) (joined_runs runs) new)
+    Gives items_of result ((chain_meaning (coder_form coder).chain).value (reader_functions coder) (coder_form coder).sizes (coder_form coder).type (coder_form coder).fill (with_elements (coder_form coder).type (elements (coder_form coder).type (product (coder_form coder).sizes) chunk) (joined_runs runs) new))
 
 -- this value is stored afterwards
 abbrev pub CoderWritesRuns : {H B : Type 0} {b : _} → (H → StorageState) → ChunkCoder B b → (before after : H) → List (ℕ × ℕ) → Held → Result (Unit {0}) CodecError → Type 0

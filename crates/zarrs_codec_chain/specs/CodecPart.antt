@@ -1,12 +1,11 @@
 -- What each array-to-bytes codec does in part, as one record: what a read of places answers and rests on, what is planned, and whether a write replaces its places' bytes alone.
 use Rattle.std.specs.Option.{option_map_or}
 use Rattle.std.specs.Prelude.{ℕ, suc, Bool, true, false, Option, Some, None, IsOkAnd, List, [], ◌∷◌, Result, Ok}
-use Rattle.zarrs_bytes.specs.CountLaws.{read_count}
 use Rattle.zarrs_bytes.specs.PartialRead.{place_bytes, place_size, read_places}
 use Rattle.zarrs_bytes.specs.PlannedRanges.{IsPlan as IsElementPlan}
 use Rattle.zarrs_chain_meaning.specs.CodecMeaning.{meaning}
 use Rattle.zarrs_chain_meaning.specs.Meaning.{Meaning, through}
-use Rattle.zarrs_chain_meaning.specs.PlainChain.{PlainCodec, bytes_codec, packbits_codec, vlen_v2_codec, vlen_codec, optional_codec, sharding_codec}
+use Rattle.zarrs_chain_meaning.specs.PlainChain.{PlainCodec, bytes_codec, packbits_codec, vlen_codec, sharding_codec}
 use Rattle.zarrs_chain_meaning.specs.CodecFacts.{facts}
 use Rattle.zarrs_chain_meaning.specs.vlen.PlainForm.{PlainForm}
 use Rattle.zarrs_chain_meaning.specs.sharding.Sharding.{Span}
@@ -15,13 +14,12 @@ use Rattle.zarrs_chunk.specs.declared.codec_error.CodecError.{CodecError}
 use Rattle.zarrs_array_to_array.specs.ArrayToArrayCodec.{ArrayMapping}
 use Rattle.zarrs_codec.specs.BytesToBytesCodec.{BytesCodecs}
 use Rattle.zarrs_codec.specs.ByteSpan.{ByteSpan}
-use Rattle.zarrs_codec_chain.specs.PartRead.{PlaceReader, whole_read, AnswersEach, whole_count, plain_count}
+use Rattle.zarrs_codec_chain.specs.PartRead.{PlaceReader, whole_read}
 use Rattle.zarrs_codec_chain.specs.PlaceLaws.{Resting, read_through, rests_through, whole_rests}
-use Rattle.zarrs_codec_chain.specs.ShardRead.{index_bytes_in, shard_count, shard_read, shard_rests, shard_rests_behind, spans_in}
+use Rattle.zarrs_codec_chain.specs.ShardRead.{index_bytes_in, shard_read, shard_rests, shard_rests_behind, spans_in}
 use Rattle.zarrs_data_type.specs.ElementType.{ElementType}
 use Rattle.zarrs_data_type.specs.Form.{Form, form_of}
 use Rattle.zarrs_data_type.specs.declared.endianness.Endianness.{Endianness}
-use Rattle.zarrs_packbits.specs.CountLaws.{read_count_of}
 use Rattle.zarrs_packbits.specs.PackBitsSettings.{packed_layout, PackBitsSettings}
 use Rattle.zarrs_packbits.specs.PartialRead.{bytes_of_places, read_places_of}
 use Rattle.zarrs_packbits.specs.ReadPlan.{IsPackBitsPlan}
@@ -34,10 +32,9 @@ pub record IndexPart (B : Type 0) : Type 0 where
   pub bytes : BytesCodecs B → List ℕ → List ℕ → Result (List ℕ) CodecError
   pub rests_behind : BytesCodecs B → Resting
 
--- The bytes that are there may be none: nothing is stored. A read answers an element for each place. What is asked of a plan, and of what a read rests on, is asked of places of the chunk that the codec gets. The depth is how many shards stand in one another.
+-- The bytes that are there may be none: nothing is stored. What is asked of a plan, and of what a read rests on, is asked of places of the chunk that the codec gets. The depth is how many shards stand in one another.
 pub record Part (B : Type 0) : Type 1 where
   pub read : BytesCodecs B → PlaceReader
-  pub counted : (f : BytesCodecs B) → AnswersEach (read f)
   pub rests_on : BytesCodecs B → Resting
   pub plans : Bool
   pub IsPlanned : List ℕ → ElementType → List ℕ → List ℕ → List ByteSpan → Type 0
@@ -50,7 +47,6 @@ pub record Part (B : Type 0) : Type 1 where
 abbrev pub whole_part : {B : Type 0} → Meaning B → Part B
 whole_part m = record {
   read = λ f. whole_read (m.chunk f);
-  counted = λ f. whole_count (m.chunk f);
   rests_on = λ f. whole_rests;
   plans = false;
   IsPlanned = λ sizes type fill places ranges. ⊥;
@@ -64,7 +60,6 @@ whole_part m = record {
 abbrev pub bytes_part : {B : Type 0} → Option Endianness → Part B
 bytes_part order = record (whole_part (meaning (bytes_codec order))) {
   read = λ f sizes. read_places order;
-  counted = λ f sizes. read_count order;
   rests_on = λ f sizes type fill stored places. Ok (place_bytes (place_size type) places);
   plans = true;
   IsPlanned = λ sizes type fill places ranges. IsElementPlan (place_size type) places ranges;
@@ -74,7 +69,6 @@ bytes_part order = record (whole_part (meaning (bytes_codec order))) {
 abbrev pub packbits_part : {B : Type 0} → PackBitsSettings → Part B
 packbits_part settings = record (whole_part (meaning (packbits_codec settings))) {
   read = λ f sizes type fill stored places. read_places_of settings (form_of sizes type fill) stored places;
-  counted = λ f sizes type fill. read_count_of settings (form_of sizes type fill);
   rests_on = λ f sizes type fill stored places. bytes_of_places settings (form_of sizes type fill) places;
   plans = true;
   IsPlanned = λ sizes type fill places ranges. IsOkAnd (packed_layout settings (form_of sizes type fill)) (λ layout. IsPackBitsPlan layout places ranges);
@@ -87,7 +81,6 @@ abbrev pub vlen_part : {B : Type 0} → Option PlainForm → Meaning B → Part 
 vlen_part None m = whole_part m
 vlen_part (Some form) m = record (whole_part m) {
   read = λ f sizes. plain_read form (product sizes);
-  counted = λ f sizes. plain_count form (product sizes);
   rests_on = λ f sizes type fill stored places. Ok (stored_rests_on form (product sizes) stored places);
 }
 
@@ -97,7 +90,6 @@ vlen_part (Some form) m = record (whole_part m) {
 abbrev pub shard_part : {B : Type 0} → List ArrayMapping → Meaning B → Part B → List B → (index : Meaning B) → List ℕ → Bool → Part B
 shard_part arrays m p outer index shape at_end = record (whole_part m) {
   read = λ f. shard_read shape at_end (index.representation f) (index.chunk f) (read_through f arrays (m.representation f) (p.read f) outer);
-  counted = λ f. shard_count shape at_end (index.representation f) (index.chunk f) (read_through f arrays (m.representation f) (p.read f) outer);
   rests_on = λ f. shard_rests shape at_end (index.representation f) (index.chunk f) (rests_through arrays (p.rests_on f) outer);
   depth = suc p.depth;
   indexed = Some (record {
@@ -113,10 +105,9 @@ shard_part arrays m p outer index shape at_end = record (whole_part m) {
 abbrev pub part_of : {B : Type 0} → PlainCodec B → Part B
 part_of (bytes_codec order) = bytes_part order
 part_of (packbits_codec settings) = packbits_part settings
-part_of (vlen_v2_codec codec) = whole_part (meaning (vlen_v2_codec codec))
 part_of (vlen_codec ia ix ib da dx db wide at_end) = vlen_part (facts (vlen_codec ia ix ib da dx db wide at_end)).plain (meaning (vlen_codec ia ix ib da dx db wide at_end))
-part_of (optional_codec ma mx mb da dx db) = whole_part (meaning (optional_codec ma mx mb da dx db))
 part_of (sharding_codec sa sx sb ia ix ib shape at_end) = shard_part sa (meaning sx) (part_of sx) sb (through ia (meaning ix) ib) shape at_end
+part_of codec = whole_part (meaning codec)
 
 -- the elements at these places of a chunk that the codec gets
 abbrev pub codec_read : {B : Type 0} → BytesCodecs B → PlainCodec B → PlaceReader
@@ -126,15 +117,11 @@ codec_read f codec = (part_of codec).read f
 abbrev pub codec_rests_on : {B : Type 0} → BytesCodecs B → PlainCodec B → Resting
 codec_rests_on f codec = (part_of codec).rests_on f
 
--- what a read rests on behind the index: of `sharding_indexed` what the inner reads rest on; all of it where values have no index
-abbrev pub rests_behind : {B : Type 0} → BytesCodecs B → PlainCodec B → Resting
-rests_behind f codec sizes type fill stored places =
-    option_map_or (λ index. index.rests_behind f sizes type fill stored places) (part_of codec).indexed ((part_of codec).rests_on f sizes type fill stored places)
-
--- what a read rests on where the index is known, or isn't
+-- What a read rests on: where the index is known, what is behind it, of `sharding_indexed` what the inner reads rest on; where it isn't, or values have none, all of it.
 abbrev pub rests_where : {B : Type 0} → Bool → BytesCodecs B → PlainCodec B → Resting
 rests_where false f codec sizes type fill stored places = (part_of codec).rests_on f sizes type fill stored places
-rests_where true f codec sizes type fill stored places = rests_behind f codec sizes type fill stored places
+rests_where true f codec sizes type fill stored places =
+    option_map_or (λ index. index.rests_behind f sizes type fill stored places) (part_of codec).indexed ((part_of codec).rests_on f sizes type fill stored places)
 
 -- whether the bytes of a place are known before anything is read
 abbrev pub codec_plans : {B : Type 0} → PlainCodec B → Bool

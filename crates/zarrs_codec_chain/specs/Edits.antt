@@ -26,10 +26,10 @@ abbrev pub edited_state : {B : Type 0} → ChunkForm B → Option Chunk → Edit
 edited_state form state (Encode indexer new) = seen (λ chunk. Some chunk) (edited_chunk form.sizes form.type (unwrap_or state (filled_chunk form.sizes form.type form.fill)) (selection_of indexer) new)
 edited_state form state Erase = Ok None
 
--- what edits make of it, one after another
-abbrev pub states_edited : {B : Type 0} → ChunkForm B → List Edit → Option Chunk → Result (Option Chunk) CodecError
-states_edited form [] state = Ok state
-states_edited form (edit ∷ edits) state = edited_state form state edit >>= states_edited form edits
+-- what steps make of a start, one after another, or the first error
+abbrev pub all_made : {S A : Type 0} → (S → A → Result S CodecError) → List A → S → Result S CodecError
+all_made step [] start = Ok start
+all_made step (one ∷ more) start = step start one >>= all_made step more
 
 -- each number of an edit's elements is a byte
 abbrev pub EditHasBytes : Edit → Type 0
@@ -43,11 +43,6 @@ abbrev pub edited_store : {B : Type 0} → BytesCodecs B → ChunkForm B → Opt
 edited_store f form stored (Encode indexer new) = seen (λ value. Some value) (stored_written f form stored (selection_of indexer) new)
 edited_store f form stored Erase = Ok None
 
--- what edits leave, one after another, or the first error
-abbrev pub stores_edited : {B : Type 0} → BytesCodecs B → ChunkForm B → List Edit → Option (List ℕ) → Result (Option (List ℕ)) CodecError
-stores_edited f form [] stored = Ok stored
-stores_edited f form (edit ∷ edits) stored = edited_store f form stored edit >>= stores_edited f form edits
-
 -- What is stored is nothing, or written for a chunk: then P holds of that chunk or of nothing. (Each number of the chunk is a byte.)
 abbrev pub OfWritten : {B : Type 0} → BytesCodecs B → ChunkForm B → Option (List ℕ) → (Option Chunk → Type 0) → Type 0
 OfWritten f form stored P = (state : Option Chunk) → IfSome state (All HasBytes) → IsStoredFor f form stored state → P state
@@ -55,7 +50,7 @@ OfWritten f form stored P = (state : Option Chunk) → IfSome state (All HasByte
 -- What was stored before these edits was nothing, or written for a chunk: then what is stored is written for the chunk as they leave it, or nothing where the last of them erases.
 abbrev pub LeavesWritten : {B : Type 0} → BytesCodecs B → ChunkForm B → List Edit → Option (List ℕ) → Option (List ℕ) → Type 0
 LeavesWritten f form edits before after =
-    OfWritten f form before (λ state. IsOkAnd (states_edited form edits state) (IsStoredFor f form after))
+    OfWritten f form before (λ state. IsOkAnd (all_made (edited_state form) edits state) (IsStoredFor f form after))
 
 -- ---- which edits are accepted
 
@@ -101,6 +96,6 @@ pub record RunsEdits {B : Type 0} (f : BytesCodecs B) (form : ChunkForm B) (atom
   pub written_if_unwritten : after.writes ≡ count_more outcome.done before.writes → LeavesWritten f form (take outcome.done edits) before.value after.value
   pub accepted : OfWritten f form before.value (AcceptsEdits f form (take outcome.done edits))
   pub refused : IfSome outcome.refusal (λ e. Excused (excuse_at edits outcome.done e) (OfWritten f form before.value (λ state. ¬ AcceptsEdits f form (take (outcome.done + 1) edits) state)))
-  pub cause : IfSome outcome.refusal (λ e. Excused (excuse_at edits outcome.done e) (stores_edited f form (take (outcome.done + 1) edits) before.value ≡ Err e))
-  pub left : IsOkAnd (stores_edited f form (take outcome.done edits) before.value) (λ value. LeavesEdits outcome.refusal (after_edits outcome.done value before) after)
-  pub kept_if_atomic : atomic ≡ true → stores_edited f form (take outcome.done edits) before.value ≡ Ok after.value
+  pub cause : IfSome outcome.refusal (λ e. Excused (excuse_at edits outcome.done e) (all_made (edited_store f form) (take (outcome.done + 1) edits) before.value ≡ Err e))
+  pub left : IsOkAnd (all_made (edited_store f form) (take outcome.done edits) before.value) (λ value. LeavesEdits outcome.refusal (after_edits outcome.done value before) after)
+  pub kept_if_atomic : atomic ≡ true → all_made (edited_store f form) (take outcome.done edits) before.value ≡ Ok after.value

@@ -1,14 +1,12 @@
 -- What a partial decoder of a chain is made of.
 use Rattle.std.specs.Prelude.{◌≡◌, ℕ, ◌+◌, ◌-◌, ◌^◌, min, Bool, Option, is_some, List, Result, Ok, Err, true, false, IfOk, IsOkAnd}
-use Rattle.zarrs_chunk.specs.Answer.{is_fault}
-use Rattle.zarrs_chunk.specs.Selection.{Selection}
 use Rattle.zarrs_chunk.specs.declared.codec_error.CodecError.{CodecError}
 use Rattle.zarrs_codec.specs.ArrayReader.{ArrayReader}
 use Rattle.zarrs_codec.specs.BytesToBytesCodec.{BytesCodecs}
-use Rattle.zarrs_codec.specs.StorageState.{StorageState, after_reading}
+use Rattle.zarrs_codec.specs.StorageState.{StorageState}
 use Rattle.zarrs_codec.specs.declared.refused.Refused.{Refused}
 use Rattle.zarrs_codec_chain.specs.ChunkCoder.{coder_form, coder_keeps_nothing, coder_wants_index, reader_source}
-use Rattle.zarrs_codec_chain.specs.ChunkRead.{reads_surely, stored_read, WhereSureBy}
+use Rattle.zarrs_codec_chain.specs.ChunkRead.{reads_surely, stored_read}
 use Rattle.zarrs_codec_chain.specs.KeptIndex.{asks_index, form_index, index_held, knows_index}
 use Rattle.zarrs_chain_meaning.specs.ChunkForm.{ChunkForm}
 use Rattle.zarrs_codec_chain.specs.ChunkSource.{Source, held_by, is_cache, IsSizeOf, source_made}
@@ -63,17 +61,6 @@ chunk_reader f form cached sure stored in_part = record {
   in_part = in_part;
 }
 
--- A reading call of a decoder answered so: of the handle's state all is as it was, but for the failure that is answered; the reference that is lent, the chunk's form and whether there is a cache are the same (`state` says what a handle keeps).
-pub record DecoderLeaves {H B T L : Type 0} {h : _} {b : _} (state : H → StorageState) (lent : H → L) (before after : ArrayPartialDecoder H B h b) (result : Result T CodecError) : Type 0 where
-  pub left : state (handle_of after) ≡ after_reading result (state (handle_of before))
-  pub same_reference : lent (handle_of after) ≡ lent (handle_of before)
-  pub form_kept : decoder_form after ≡ decoder_form before
-  pub cache_kept : is_cached after ≡ is_cached before
-
--- with a cache the handle is left alone: it is the one that it was
-abbrev pub DecoderLeavesAlone : {H B : Type 0} {h : _} {b : _} → (before after : ArrayPartialDecoder H B h b) → Type 0
-DecoderLeavesAlone before after = is_cached before ≡ true → handle_of after ≡ handle_of before
-
 -- ---- what its calls give
 
 -- a decoder's cache, where there is one, has so many bytes
@@ -90,8 +77,3 @@ KeepsIndex state f held decoder size =
 pub record LeavesIndex {H B T : Type 0} {h : _} {b : _} (before after : ArrayPartialDecoder H B h b) (result : Result T CodecError) : Type 0 where
   pub kept : is_cached before ≡ false → asks_index (decoder_form before).chain.bytes_to_bytes (decoder_form before).chain.array_to_bytes ≡ true → IfOk result (λ _. is_indexed after ≡ true)
   pub stays : is_indexed before ≡ true → is_indexed after ≡ true
-
--- with a shard's index that is kept, no failure of the handle comes where the bytes of the inner chunks are sure that the answer rests on, whatever else is
-abbrev pub SureByIndex : {H B T : Type 0} {h : _} {b : _} → (H → StorageState) → BytesCodecs B → ArrayPartialDecoder H B h b → Selection → Result T CodecError → Type 0
-SureByIndex state f decoder selection result =
-    is_indexed decoder ≡ true → WhereSureBy true f (decoder_form decoder) (state (handle_of decoder)) selection (is_fault result ≡ false)

@@ -60,14 +60,9 @@ AskedReadsAlike {B} f =
     → read_rests_on f form (Some value) selection ≡ Ok (Some numbers) → length value ≡ length other → All (λ number. slice_index value number ≡ slice_index other number) numbers
     → stored_read f form (Some value) selection ≡ stored_read f form (Some other) selection
 
--- The places whose bytes are planned are those that a selection selects, each as often. Those of a region that is planned as it stands rise.
-pub record IsInOrder {B : Type 0} (form : ChunkForm B) (selection : Selection) (meant ordered : List ℕ) : Type 0 where
-  pub same : IsPermutation meant ordered
-  pub rising : IfSome (planned_region form selection) (λ _. IsStrictlyIncreasing ordered)
-
 -- The places whose bytes a read plans are those that are selected, each as often; over `bytes` those of a region that array-to-array codecs keep rise.
 abbrev pub PlannedPlacesAreMeant : Type 0 → Type 0
 PlannedPlacesAreMeant B =
     (form : ChunkForm B) (selection : Selection) (meant ordered : List ℕ)
     → IsChainOfMappings form.chain → All (λ size. 0 < size) form.sizes → encoded_places form.type form.chain.array_to_array form.sizes selection ≡ Ok meant → planned_order form selection ≡ Ok ordered
-    → IsInOrder form selection meant ordered
+    → IsPermutation meant ordered × IfSome (planned_region form selection) (λ _. IsStrictlyIncreasing ordered)

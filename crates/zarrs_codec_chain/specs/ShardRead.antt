@@ -36,18 +36,18 @@ span_read true read shape type fill value span places = do
   _ ← demand (nat_le (span.0 + span.1) (length value)) InvalidByteRange
   read shape type fill (Some (spanned_bytes value span)) places
 
--- one without selected places isn't read
-abbrev pub inner_read : PlaceReader → List ℕ → ElementType → List ℕ → List ℕ → Span → List ℕ → Result Chunk CodecError
-inner_read read shape type fill value span [] = Ok []
-inner_read read shape type fill value span (place ∷ places) = span_read (is_stored span) read shape type fill value span (place ∷ places)
+-- of a list without members nothing is asked
+abbrev pub of_any : {A : Type 0} → (List ℕ → Result (List A) CodecError) → List ℕ → Result (List A) CodecError
+of_any asked [] = Ok []
+of_any asked (place ∷ places) = asked (place ∷ places)
 
--- of each inner chunk from a number on the elements at its places, or the first error
-abbrev pub inner_reads : PlaceReader → List ℕ → List ℕ → ElementType → List ℕ → List ℕ → List ℕ → ℕ → List Span → Result (List Chunk) CodecError
-inner_reads read shape sizes type fill value places number [] = Ok []
-inner_reads read shape sizes type fill value places number (span ∷ spans) = do
-  part ← inner_read read shape type fill value span (places_of_inner shape sizes number places)
-  parts ← inner_reads read shape sizes type fill value places (suc number) spans
-  Ok (part ∷ parts)
+-- of each inner chunk from a number on, what is asked of its span and of its places, where it has any, joined to what the rest gives; or the first error
+abbrev pub each_inner : {A R : Type 0} → (List A → List R → List R) → (Span → List ℕ → Result (List A) CodecError) → List ℕ → List ℕ → List ℕ → ℕ → List Span → Result (List R) CodecError
+each_inner join asked shape sizes places number [] = Ok []
+each_inner join asked shape sizes places number (span ∷ spans) = do
+  here ← of_any (asked span) (places_of_inner shape sizes number places)
+  behind ← each_inner join asked shape sizes places (suc number) spans
+  Ok (join here behind)
 
 -- the parts, that of this number without its first element
 abbrev pub without_first : ℕ → List Chunk → List Chunk
@@ -64,7 +64,7 @@ in_turn shape sizes parts (place ∷ places) =
 -- the elements at places, by where the inner chunks stand
 abbrev pub spans_read : PlaceReader → List ℕ → List ℕ → ElementType → List ℕ → List ℕ → List ℕ → List Span → Result Chunk CodecError
 spans_read read shape sizes type fill value places spans = do
-  parts ← inner_reads read shape sizes type fill value places 0 spans
+  parts ← each_inner ◌∷◌ (λ span. span_read (is_stored span) read shape type fill value span) shape sizes places 0 spans
   Ok (in_turn shape sizes parts places)
 
 -- what `sharding_indexed` reads, whose inner chain reads so
@@ -84,7 +84,7 @@ pub shard_count : (shape : List ℕ) (at_end : Bool) (measure : Measure) (index 
 shard_count shape at_end measure index read sizes type fill None places chunk e = each_count (λ _. fill_element type fill) places chunk e
 shard_count shape at_end measure index read sizes type fill (Some value) places chunk e =
     let spans = passed (spans_in shape at_end measure index sizes value) (spans_read read shape sizes type fill value places) chunk e in
-    let parts = passed (inner_reads read shape sizes type fill value places 0 spans.given) (λ parts. Ok (in_turn shape sizes parts places)) chunk spans.second_is in
+    let parts = passed (each_inner ◌∷◌ (λ span. span_read (is_stored span) read shape type fill value span) shape sizes places 0 spans.given) (λ parts. Ok (in_turn shape sizes parts places)) chunk spans.second_is in
     ap length (sym (same_value (in_turn shape sizes parts.given places) chunk parts.second_is)) ∙ in_turn_count shape sizes parts.given places
 
 -- ---- the answer by groups
@@ -116,19 +116,6 @@ span_rests false rests shape type fill value span places = Ok []
 span_rests true rests shape type fill value span places =
     if nat_le (span.0 + span.1) (length value) then seen (map (λ number. span.0 + number)) (rests shape type fill (Some (spanned_bytes value span)) places) else Ok []
 
--- one without selected places rests on nothing
-abbrev pub inner_rests : Resting → List ℕ → ElementType → List ℕ → List ℕ → Span → List ℕ → Result (List ℕ) CodecError
-inner_rests rests shape type fill value span [] = Ok []
-inner_rests rests shape type fill value span (place ∷ places) = span_rests (is_stored span) rests shape type fill value span (place ∷ places)
-
--- of each inner chunk from a number on
-abbrev pub inner_chunks_rest : Resting → List ℕ → List ℕ → ElementType → List ℕ → List ℕ → List ℕ → ℕ → List Span → Result (List ℕ) CodecError
-inner_chunks_rest rests shape sizes type fill value places number [] = Ok []
-inner_chunks_rest rests shape sizes type fill value places number (span ∷ spans) = do
-  here ← inner_rests rests shape type fill value span (places_of_inner shape sizes number places)
-  behind ← inner_chunks_rest rests shape sizes type fill value places (suc number) spans
-  Ok (here ++ behind)
-
 -- of each group
 abbrev pub groups_rest : Resting → List ℕ → ElementType → List ℕ → List ℕ → List Span → List (ℕ × List ℕ) → Result (List ℕ) CodecError
 groups_rest rests shape type fill value spans [] = Ok []
@@ -139,7 +126,7 @@ groups_rest rests shape type fill value spans (group ∷ groups) = do
 
 -- none where the index can't be read
 abbrev pub spans_rest : Resting → List ℕ → List ℕ → ElementType → List ℕ → List ℕ → List ℕ → Result (List Span) CodecError → Result (List ℕ) CodecError
-spans_rest rests shape sizes type fill value places (Ok spans) = inner_chunks_rest rests shape sizes type fill value places 0 spans
+spans_rest rests shape sizes type fill value places (Ok spans) = each_inner ◌++◌ (λ span. span_rests (is_stored span) rests shape type fill value span) shape sizes places 0 spans
 spans_rest rests shape sizes type fill value places (Err cause) = Ok []
 
 -- what a read of `sharding_indexed` rests on behind its index, by what one of its inner chain rests on

@@ -4,17 +4,20 @@ use Rattle.std.specs.List.{All, flat_map}
 use Rattle.std.specs.declared.alloc.Global.{Global}
 use Rattle.zarrs_chunk.specs.Answer.{◌>>=◌, Answers, GivesBy, demand, is_fault, memory_or_fault}
 use Rattle.zarrs_chunk.specs.ChunkShape.{product}
+use Rattle.zarrs_chunk.specs.Region.{Region}
 use Rattle.zarrs_chunk.specs.Runs.{AreFilled, EndWithin, joined_runs}
+use Rattle.zarrs_chunk.specs.Selection.{Selection, places_of}
 use Rattle.zarrs_chunk.specs.declared.codec_error.CodecError.TheVariants.{InvalidBytesLength, InvalidByteRange}
 use Rattle.zarrs_chunk.specs.declared.codec_error.CodecError.{CodecError}
 use Rattle.zarrs_array_bytes.specs.Elements.{select}
 use Rattle.zarrs_array_bytes.specs.Held.{Held}
 use Rattle.zarrs_array_bytes.specs.Validity.{Holds}
+use Rattle.zarrs_array_regions.specs.WindowLaws.{region_places}
 use Rattle.zarrs_chain.specs.ChainView.{plain_chain}
 use Rattle.zarrs_chain.specs.declared.codec_chain.CodecChain.{CodecChain}
 use Rattle.zarrs_chain.specs.sharding.ShardingCalls.{index_size_of}
 use Rattle.zarrs_chain_meaning.specs.CodecMeaning.{meaning, chain_chunk, chain_representation, codec_representation}
-use Rattle.zarrs_chain_meaning.specs.PlainChain.{PlainChain}
+use Rattle.zarrs_chain_meaning.specs.PlainChain.{PlainChain, PlainCodec}
 use Rattle.zarrs_chain_meaning.specs.sharding.InnerChunks.{grid}
 use Rattle.zarrs_chain_meaning.specs.sharding.Sharding.{Span, is_stored, spans_of}
 use Rattle.zarrs_codec.specs.BytesToBytesCodec.{BytesCodecs}
@@ -22,7 +25,7 @@ use Rattle.zarrs_codec.specs.StorageState.{StorageState, are_sure}
 use Rattle.zarrs_codec.specs.declared.bytes_representation.BytesRepresentation.{BytesRepresentation}
 use Rattle.zarrs_codec_chain.specs.ChunkRead.{AnswersRuns, are_given_sure, form_taken}
 use Rattle.zarrs_codec_chain.specs.ChunkSource.{bytes_above, source_places}
-use Rattle.zarrs_codec_chain.specs.CodecPart.{codec_read, codec_rests_on}
+use Rattle.zarrs_codec_chain.specs.CodecPart.{codec_read, codec_rests_on, rests_where}
 use Rattle.zarrs_codec_chain.specs.PartRead.{PlaceReader}
 use Rattle.zarrs_codec_chain.specs.PlaceLaws.{Resting, read_through, rests_through, whole_rests}
 use Rattle.zarrs_codec_chain.specs.ShardRead.{spans_in, span_read, groups_read, index_bytes_at, span_rests, groups_rest}
@@ -184,6 +187,20 @@ SurePlaces rests form before places result = SureWhere before (rests form.sizes 
 -- through the chain
 abbrev pub SureChain : {B T : Type 0} → BytesCodecs B → CodecChain B → Form → StorageState → List ℕ → Result T CodecError → Type 0
 SureChain f chain form before places result = SurePlaces (chain_rests f (plain_chain chain)) form before places result
+
+-- the elements that a selection selects, through the chain, and no failure where the bytes are sure that this rests on
+abbrev pub ReadsIndexed : {B : Type 0} → BytesCodecs B → CodecChain B → Form → StorageState → Selection → Result Held CodecError → Type 0
+ReadsIndexed f chain form before selection result =
+    (places : List ℕ) → places_of selection form.sizes ≡ Ok places → ReadsChain f chain form before places result × SureChain f chain form before places result
+
+-- the elements of a box of a chunk that a codec takes
+abbrev pub ReadsBox : {B : Type 0} → BytesCodecs B → PlainCodec B → Form → StorageState → Region → Result Held CodecError → Type 0
+ReadsBox f codec form before region result =
+    AnswersRuns form.type (codec_read f codec form.sizes form.type form.fill before.value (region_places form.sizes region)) result
+
+-- no failure of the handle comes where the bytes behind the index are sure that this rests on
+abbrev pub SureBox : {B T : Type 0} → BytesCodecs B → PlainCodec B → Form → StorageState → Region → Result T CodecError → Type 0
+SureBox f codec form before region result = SurePlaces (rests_where true f codec) form before (region_places form.sizes region) result
 
 -- of the inner chunk at a span
 abbrev pub SureSpan : {B T : Type 0} → BytesCodecs B → CodecChain B → Form → StorageState → Span → List ℕ → Result T CodecError → Type 0

@@ -1,4 +1,5 @@
 //! Reading a chunk of `sharding_indexed` in part.
+pub(crate) mod box_reads;
 mod index_read;
 mod inner_reads;
 mod joint_reads;

@@ -10,7 +10,7 @@ use Rattle.zarrs_chunk.specs.ChunkShape.{product}
 use Rattle.zarrs_chunk.specs.Selection.{Selection, places_of}
 use Rattle.zarrs_chunk.proofs.PlaceLaws.{known_below}
 use Rattle.zarrs_chain_meaning.specs.CodecMeaning.{CodecStands, codec_chunk, codec_representation, meaning}
-use Rattle.zarrs_chain_meaning.specs.Meaning.{Decoder, around_chunk, part_chunk}
+use Rattle.zarrs_chain_meaning.specs.Meaning.{Decoder, around_chunk, in_a_row}
 use Rattle.zarrs_chain_meaning.specs.vlen.Vlen.{vlen_chunk, vlen_value_parts, slices, offsets_in_chunk}
 use Rattle.zarrs_chain_meaning.specs.Parts.{all_bytes, byte_type}
 use Rattle.zarrs_chunk.specs.declared.codec_error.CodecError.{CodecError}
@@ -85,7 +85,7 @@ data_length order n len h =
     sym (ok_is s.0 len o.2) ∙ omega (arith, one, two)
 
 -- the data of an index: as many bytes as the last offset says; where these are none, any
-data_known : (order : Option Endianness) (last : ℕ) (part : List ℕ) (chunk : Chunk) → part_chunk (bytes_decoder order) byte_type (0 ∷ []) last part ≡ Ok chunk → 0 < last → (length part ≡ last) × (all_bytes chunk ≡ part)
+data_known : (order : Option Endianness) (last : ℕ) (part : List ℕ) (chunk : Chunk) → in_a_row (Ok []) (λ sizes. bytes_decoder order sizes byte_type (0 ∷ []) part) last ≡ Ok chunk → 0 < last → (length part ≡ last) × (all_bytes chunk ≡ part)
 data_known order zero part chunk e some = absurd (omega arith)
 data_known order (suc n) part chunk e some =
     let l = bind_ok (bytes_length order (form_of (suc n ∷ []) byte_type (0 ∷ []))) _ chunk e in
@@ -153,7 +153,7 @@ whole_selects form order count value chunk places e below =
     let rows = bind_ok (bytes_chunk (Some form.order) (offsets_form wide (count + 1)) index) _ chunk counted.2 in
     let offsets = offsets_in_chunk wide rows.0 in
     let rising = bind_ok (demand (rises offsets) InvalidOffsets) _ chunk rows.2 in
-    let items = bind_ok (part_chunk (bytes_decoder order) byte_type (0 ∷ []) (last_of offsets) content) _ chunk rising.2 in
+    let items = bind_ok (in_a_row (Ok []) (λ sizes. bytes_decoder order sizes byte_type (0 ∷ []) content) (last_of offsets)) _ chunk rising.2 in
     let is : slices count offsets (all_bytes items.0) ≡ chunk = ok_is _ chunk items.2 in
     let read : offsets_read form count index ≡ Ok offsets =
     next_answer (checked_u64 (count + 1)) counted.0 (λ _. offsets_of_index form (count + 1) index) counted.1

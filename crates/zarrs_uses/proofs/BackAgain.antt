@@ -8,16 +8,16 @@ use Rattle.zarrs_codec_chain.specs.Chain.{held_value}
 use Rattle.zarrs_codec_chain.specs.ChainGrammar.{chain_grammar}
 use Rattle.zarrs_codec_chain.specs.ChunkShape.{product}
 use Rattle.zarrs_codec_chain.specs.CodecError.{CodecError}
-use Rattle.zarrs_codec_chain.specs.CodecMeaning.{meaning, normal_form}
+use Rattle.zarrs_codec_chain.specs.CodecMeaning.{meaning, normal_form, chain_meaning}
 use Rattle.zarrs_codec_chain.specs.Element.{Chunk}
 use Rattle.zarrs_codec_chain.specs.ElementType.{ElementType}
 use Rattle.zarrs_codec_chain.specs.Elements.{elements}
-use Rattle.zarrs_codec_chain.specs.EncodedAgain.{EncodedStands, StandsForNormal}
+use Rattle.zarrs_codec_chain.specs.EncodedAgain.{EncodedStands}
 use Rattle.zarrs_codec_chain.specs.Endianness.{Endianness}
 use Rattle.zarrs_codec_chain.specs.Form.{Form}
 use Rattle.zarrs_codec_chain.specs.Grammar.{Decodes, Encodes}
 use Rattle.zarrs_codec_chain.specs.Held.{Held, items_of}
-use Rattle.zarrs_codec_chain.specs.PlainChain.{PlainChain, PlainCodec, bytes_codec}
+use Rattle.zarrs_codec_chain.specs.PlainChain.{PlainChain, bytes_codec}
 use Rattle.zarrs_codec_chain.specs.Validity.{Holds}
 use Rattle.zarrs_uses.specs.ComesBack.{ComesBack}
 
@@ -33,7 +33,7 @@ comes_back f chain form given value (Ok held) wrote stands read =
     let are : elements form.type (product form.sizes) given ≡ found.0 = subst (λ n. elements form.type n given ≡ found.0) found.2.elements.count_is found.1.elements_are in
     record {
       is = subst (λ (r : Result (List ℕ) CodecError). IsOkAnd r (λ _. (chunk : Chunk) × Holds form.type given chunk × Holds form.type held (normal_form chain.array_to_bytes form.type chunk))) (sym wrote.exact)
-          (found.0, found.1, read.only (normal_form chain.array_to_bytes form.type found.0) (subst (StandsForNormal f chain form (items_of value)) are stands));
+          (found.0, found.1, read.only (normal_form chain.array_to_bytes form.type found.0) (subst (λ (c : Chunk). (chain_meaning chain).Stands f form.sizes form.type form.fill (items_of value) (normal_form chain.array_to_bytes form.type c)) are stands));
       no_fault = read.no_fault;
     }
 comes_back f chain form given value (Err error) wrote stands read =

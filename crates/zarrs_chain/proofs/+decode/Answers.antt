@@ -34,7 +34,6 @@ use Rattle.zarrs_chain_meaning.specs.Chain.{row_sizes}
 use Rattle.zarrs_chain.specs.ChainView.{plain_chain}
 use Rattle.zarrs_chain_meaning.specs.vlen.VlenSettings.{is_wide, is_at_end}
 use Rattle.zarrs_chain_meaning.specs.CodecMeaning.{chain_chunk}
-use Rattle.zarrs_chain_meaning.specs.Meaning.{part_chunk}
 use Rattle.zarrs_chain_meaning.specs.vlen.Vlen.{vlen_value_parts}
 use Rattle.zarrs_chain_meaning.specs.optional.Optional.{blank_fill, flag_type}
 use Rattle.zarrs_chain_meaning.specs.Parts.{byte_elements}
@@ -64,6 +63,7 @@ use Rattle.std.specs.declared.borrow.CowSlice.{CowSlice}
 use Rattle.std.specs.declared.alloc.Global.{Global}
 use Rattle.zarrs_chain.proofs.+decode.Goals as goal
 use Rattle.zarrs_bytes.specs.PartialWrite.{filled_chunk}
+use Rattle.zarrs_chain_meaning.specs.Meaning.{in_a_row}
 
 pub decode::chain_decode-returns : goal.decode::chain_decode-returns
 decode::chain_decode-returns g t c =
@@ -222,7 +222,7 @@ optional::optional_codec::present_decode-returns-in_err-present g t c =
             let p = err_from_is_err_and c.from_residual-in_err-present.result c.from_residual-in_err-present.ensures.1 in
             let e : present_count (raw_of c.args.mask).items ≡ Ok c.in_ok-count.count = search rules in
             rw (p.1, p.2) (λ ne.
-            let h : part_chunk decode type (blank_fill type) c.in_ok-count.count part ≡ Err c.in_err-present.field-0.0 = search rules in
+            let h : in_a_row (Ok []) (λ sizes. decode sizes type (blank_fill type) part) c.in_ok-count.count ≡ Err c.in_err-present.field-0.0 = search rules in
             part_refused decode type (raw_of c.args.mask).items c.in_ok-count.count part c.in_err-present.field-0.0 e h);
         no_fault = search rules;
       };
@@ -242,7 +242,7 @@ optional::optional_codec::present_decode-returns g t c =
             let e : present_count mask ≡ Ok c.in_ok-count.count = search rules in
             let small : length mask + 1 < 2 ^ 64 = search rules in
             let fits : sizes_fit type (length mask) ≡ Ok tt = c.requires.room small in
-            let read : AnswersBy {E = CodecError} memory (Holds type) (Ok c.in_ok-present.present) (part_chunk (chain_chunk f chain) type (blank_fill type) c.in_ok-count.count part) = search rules in
+            let read : AnswersBy {E = CodecError} memory (Holds type) (Ok c.in_ok-present.present) (in_a_row (Ok []) (λ sizes. chain_chunk f chain sizes type (blank_fill type) part) c.in_ok-count.count) = search rules in
             part_expanded c.expand_present.result f chain type c.in_ok-present.present mask c.in_ok-count.count part e fits read c.expand_present.ensures.answer.is;
         no_fault = search rules;
       };

@@ -22,17 +22,16 @@ use zarrs_packbits::PackBitsCodec;
 
 /// Whether the codec keeps each element as it is, whatever it is: `packbits` alone may leave out
 /// bits.
-#[tactic(auto, using(crate::proofs::KeepsAll::bytes_keeps_all, crate::proofs::KeepsAll::vlen_v2_keeps_all, crate::proofs::KeepsAll::vlen_keeps_all, crate::proofs::KeepsAll::optional_keeps_all, crate::proofs::KeepsAll::sharding_keeps_all))]
+#[tactic(auto, unfolding(crate::specs::ChainView::plain_codec, zarrs_chain_meaning::specs::CodecMeaning::meaning), using(crate::proofs::KeepsAll::vlen_keeps_all, crate::proofs::KeepsAll::optional_keeps_all, crate::proofs::KeepsAll::sharding_keeps_all))]
 pub(crate) fn keeps_all<B>(codec: &ArrayToBytesCodec<B>) -> bool
     ensures kept { result ≡ true → KeepsAll (plain_codec codec.now) }
 {
     match codec {
-        ArrayToBytesCodec::Bytes(_) => true,
         ArrayToBytesCodec::PackBits(_) => false,
-        ArrayToBytesCodec::VlenV2(_) => true,
         ArrayToBytesCodec::Vlen(codec) => keeps_all(&codec.data_codecs.array_to_bytes),
         ArrayToBytesCodec::Optional(codec) => keeps_all(&codec.data_codecs.array_to_bytes),
         ArrayToBytesCodec::Sharding(codec) => keeps_all(&codec.codecs.array_to_bytes),
+        _ => true,
     }
 }
 
@@ -166,11 +165,9 @@ pub(crate) fn normal_elements<'a, B>(
         count data_type.now elements.entry result }
 {
     match codec {
-        ArrayToBytesCodec::Bytes(_) => Ok(elements),
         ArrayToBytesCodec::PackBits(codec) => {
             packed_normal(alloc, codec, elements, count, data_type)
         }
-        ArrayToBytesCodec::VlenV2(_) => Ok(elements),
         ArrayToBytesCodec::Vlen(codec) => vlen_normal(alloc, codec, elements, count, data_type),
         ArrayToBytesCodec::Optional(codec) => {
             optional_normal(alloc, codec, elements, count, data_type)
@@ -179,5 +176,6 @@ pub(crate) fn normal_elements<'a, B>(
             let inner = &codec.codecs.array_to_bytes;
             normal_elements(alloc, inner, elements, count, data_type)
         }
+        _ => Ok(elements),
     }
 }

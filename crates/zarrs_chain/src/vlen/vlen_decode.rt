@@ -3,16 +3,16 @@ ghost use Rattle.zarrs_chunk.specs.Answer.{Gives, GivesValue, is_fault, checked_
 ghost use Rattle.zarrs_data_type.specs.Form.{form_of};
 ghost use Rattle.zarrs_array_bytes.specs.Tight.{IsTight};
 ghost use Rattle.zarrs_array_bytes.specs.Held.{items_of};
-ghost use Rattle.std.specs.Prelude.{◌≡◌, ◌<◌, ◌+◌, [], ◌∷◌, IfOk, false, length};
+ghost use Rattle.std.specs.Prelude.{◌≡◌, ◌<◌, ◌+◌, [], ◌∷◌, IfOk, false, length, Ok};
 ghost use Rattle.zarrs_chunk.specs.ChunkShape.{product};
 ghost use Rattle.zarrs_array_bytes.specs.Offsets.{last_of};
 ghost use Rattle.zarrs_chain_meaning.specs.CallAnswers.{IsTaken, GivesCodecChunk};
 ghost use Rattle.zarrs_chain_meaning.specs.CodecMeaning.{chain_chunk};
-ghost use Rattle.zarrs_chain_meaning.specs.Meaning.{part_chunk};
 ghost use Rattle.zarrs_chain_meaning.specs.Parts.{all_bytes, byte_type};
 ghost use Rattle.zarrs_chain_meaning.specs.vlen.VlenSettings.{is_wide};
 ghost use Rattle.zarrs_chain_meaning.specs.vlen.VlenSteps.{index_offsets};
 ghost use Rattle.zarrs_chain.specs.ChainView.{plain_chain, plain_vlen};
+ghost use Rattle.zarrs_chain_meaning.specs.Meaning.{in_a_row};
 
 use crate::codec_chain::CodecChain;
 use crate::decode::part_decode;
@@ -64,8 +64,8 @@ fn content_decode<'a, B: BytesToBytesCodecTraits>(
     part: ArrayBytesRaw<'a>,
     count: u64,
 ) -> Result<ArrayBytesRaw<'a>, CodecError>
-    ensures answer { Gives items_of result (seen all_bytes (part_chunk (chain_chunk B.functions
-        (plain_chain chain.now)) byte_type (0 ∷ []) count (items_of part.entry))) }
+    ensures answer { Gives items_of result (seen all_bytes (in_a_row (Ok []) (λ sizes. chain_chunk B.functions
+        (plain_chain chain.now) sizes byte_type (0 ∷ []) (items_of part.entry)) count)) }
     ensures len { IfOk result (λ bytes. length (items_of bytes) ≡ count) }
 {
     let fill_value = FillValue::new_optional_null(alloc)?;

@@ -1,16 +1,16 @@
 //! The value of a chunk through `vlen`: the index part and the data part, joined.
-ghost use Rattle.std.specs.Prelude.{◌≡◌, [], ◌∷◌, true};
+ghost use Rattle.std.specs.Prelude.{◌≡◌, [], ◌∷◌, true, length, Ok};
 ghost use Rattle.zarrs_chunk.specs.Answer.{Gives};
 ghost use Rattle.zarrs_array_bytes.specs.Held.{items_of};
 ghost use Rattle.zarrs_array_bytes.specs.Offsets.{is_offsets};
 ghost use Rattle.zarrs_chain_meaning.specs.CallAnswers.{GivesCodecValue};
 ghost use Rattle.zarrs_chain_meaning.specs.CodecMeaning.{chain_value};
-ghost use Rattle.zarrs_chain_meaning.specs.Meaning.{part_value};
 ghost use Rattle.zarrs_chain_meaning.specs.Parts.{byte_elements, byte_type};
 ghost use Rattle.zarrs_chain_meaning.specs.vlen.VlenSettings.{is_wide};
 ghost use Rattle.zarrs_chain_meaning.specs.vlen.VlenSteps.{index_part};
 ghost use Rattle.zarrs_chain.specs.ChainView.{plain_chain, plain_vlen};
 ghost use Rattle.zarrs_chain.specs.FormView.{lent_form};
+ghost use Rattle.zarrs_chain_meaning.specs.Meaning.{in_a_row};
 
 use crate::codec_chain::{CodecChain, chain_is_sound};
 use crate::encode::{check_elements, part_encode};
@@ -63,8 +63,10 @@ fn content_encode<'a, B: BytesToBytesCodecTraits>(
     chain: &CodecChain<B>,
     bytes: ArrayBytesRaw<'a>,
 ) -> Result<ArrayBytesRaw<'a>, CodecError>
-    ensures answer { Gives items_of result (part_value (chain_value B.functions
-        (plain_chain chain.now)) byte_type (0 ∷ []) (byte_elements (items_of bytes.entry))) }
+    // Wide: of no bytes nothing is asked of the chain, and the bytes are its chunk and its size.
+    ensures answer { Gives items_of result (in_a_row (Ok []) (λ sizes. chain_value B.functions
+        (plain_chain chain.now) sizes byte_type (0 ∷ []) (byte_elements (items_of bytes.entry)))
+        (length (byte_elements (items_of bytes.entry)))) }
 {
     let fill_value = FillValue::new_optional_null(alloc)?;
     let count = bytes.len() as u64;

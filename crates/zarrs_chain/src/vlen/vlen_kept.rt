@@ -110,7 +110,7 @@ fn are_normal<B>(
 
 /// Whether a codec that was given offsets, counted from the first of them, gives them back unchanged.
 /// Only `packbits` may leave out bits of a number, also inside a shard.
-#[tactic(auto, using(crate::proofs::VlenKept::bytes_keep, crate::proofs::VlenKept::vlen_v2_keeps, crate::proofs::VlenKept::vlen_keeps, crate::proofs::VlenKept::optional_keeps, crate::proofs::VlenKept::packed_keeps, crate::proofs::VlenKept::packed_takes))]
+#[tactic(auto, using(crate::proofs::VlenKept::kept_by_all, crate::proofs::VlenKept::packed_keeps, crate::proofs::VlenKept::packed_takes))]
 fn is_kept<B>(
     alloc: Global,
     codec: &ArrayToBytesCodec<B>,
@@ -123,13 +123,12 @@ fn is_kept<B>(
     ensures answer { GivesValue result
         (Ok (keeps_offsets (plain_codec codec.now) (is_wide data_type) offsets.now)) }
 {
+    if keeps_all(codec) {
+        return Ok(true);
+    }
     match codec {
-        ArrayToBytesCodec::Bytes(_) => Ok(true),
         ArrayToBytesCodec::PackBits(codec) => packs_offsets(alloc, codec, offsets, data_type),
-        ArrayToBytesCodec::VlenV2(_) => Ok(true),
-        ArrayToBytesCodec::Vlen(_) => Ok(true),
-        ArrayToBytesCodec::Optional(_) => Ok(true),
-        ArrayToBytesCodec::Sharding(_) => are_normal(alloc, codec, offsets, data_type),
+        _ => are_normal(alloc, codec, offsets, data_type),
     }
 }
 

@@ -3,7 +3,7 @@
 use Rattle.std.specs.Prelude.{ℕ, ◌+◌, ◌^◌, Bool, false, nat_lt, if◌then◌else◌, List, [], ◌∷◌, replicate, Result, Ok, Err, map, filter, ◌≡◌, ◌<◌, true, ◌++◌, length, zero, suc, ◌==◌, nat_le, take, drop, IsSomeAnd}
 use Rattle.zarrs_bytes.specs.BytesCodec.{IsChunk}
 use Rattle.zarrs_chain_meaning.specs.BytesStages.{in_memory}
-use Rattle.zarrs_chain_meaning.specs.Meaning.{Measure, Encoder, Decoder, Standing, Keeping, Meaning, part_value, part_chunk, PartStands, PartWritten}
+use Rattle.zarrs_chain_meaning.specs.Meaning.{Measure, Encoder, Decoder, Standing, Keeping, Meaning, in_a_row}
 use Rattle.zarrs_chain_meaning.specs.Parts.{for_each, part_length_bytes, length_of}
 use Rattle.zarrs_chain_meaning.specs.declared.codec_name.TheConstants.{OPTIONAL}
 use Rattle.zarrs_chunk.specs.Answer.{◌>>=◌, demand, checked_u64}
@@ -32,13 +32,13 @@ blank_fill type = []
 abbrev pub bounded : ℕ → BytesRepresentation
 bounded size = if nat_lt size (2 ^ 64) then BoundedSize size else UnboundedSize
 
--- how many bytes mask and data have with their two lengths of 8 bytes; unbounded where one of them is
-abbrev pub both_representations : BytesRepresentation → BytesRepresentation → BytesRepresentation
-both_representations (FixedSize mask) (FixedSize data') = bounded (16 + mask + data')
-both_representations (FixedSize mask) (BoundedSize data') = bounded (16 + mask + data')
-both_representations (BoundedSize mask) (FixedSize data') = bounded (16 + mask + data')
-both_representations (BoundedSize mask) (BoundedSize data') = bounded (16 + mask + data')
-both_representations _ _ = UnboundedSize
+-- how many bytes two parts have together, by how many each has: at most the total of the most that they have; unbounded where one of them is
+abbrev pub bounded_total : (ℕ → ℕ → ℕ) → BytesRepresentation → BytesRepresentation → BytesRepresentation
+bounded_total total (FixedSize one) (FixedSize other) = bounded (total one other)
+bounded_total total (FixedSize one) (BoundedSize other) = bounded (total one other)
+bounded_total total (BoundedSize one) (FixedSize other) = bounded (total one other)
+bounded_total total (BoundedSize one) (BoundedSize other) = bounded (total one other)
+bounded_total total _ _ = UnboundedSize
 
 -- that of `optional`: it asks the mask chain and then the data chain, both at the full shape
 abbrev pub optional_representation : Measure → Measure → Measure
@@ -47,7 +47,7 @@ optional_representation mask data' sizes (optional type) fill = do
   _ ← checked_u64 (product sizes)
   m ← mask sizes flag_type (0 ∷ [])
   d ← data' sizes type (blank_fill type)
-  Ok (both_representations m d)
+  Ok (bounded_total (λ mask content. 16 + mask + content) m d)
 optional_representation mask data' sizes type fill = Err (UnsupportedDataType OPTIONAL)
 
 -- ---- the value of a chunk
@@ -71,7 +71,7 @@ optional_layout mask data' = part_length_bytes mask ++ (part_length_bytes data' 
 abbrev pub optional_value : Encoder → Encoder → List ℕ → ElementType → Chunk → Result (List ℕ) CodecError
 optional_value mask data' sizes (optional type) chunk = do
   mask_part ← mask sizes flag_type (0 ∷ []) (map flag_of chunk)
-  data_part ← part_value data' type (blank_fill type) (present_of chunk)
+  data_part ← in_a_row (Ok []) (λ sizes. data' sizes type (blank_fill type) (present_of chunk)) (length (present_of chunk))
   in_memory (optional_layout mask_part data_part)
 optional_value mask data' sizes type chunk = Ok []
 
@@ -107,7 +107,7 @@ optional_chunk mask data' sizes (optional type) value = do
   parts ← optional_parts value
   mask_chunk ← mask sizes flag_type (0 ∷ []) parts.0
   flags ← for_each flag_in mask_chunk
-  elements ← part_chunk data' type (blank_fill type) (length (filter (λ set. set) flags)) parts.1
+  elements ← in_a_row (Ok []) (λ sizes. data' sizes type (blank_fill type) parts.1) (length (filter (λ set. set) flags))
   Ok (under_flags flags elements)
 optional_chunk mask data' sizes type value = Err (UnsupportedDataType OPTIONAL)
 
@@ -134,7 +134,7 @@ pub record OptionalStands (mask content : Standing) (sizes : List ℕ) (type : E
   pub small : length value < 2 ^ 64
   pub elements : IsChunk (optional type) (product sizes) chunk
   pub mask_stands : mask sizes flag_type (0 ∷ []) mask_part (map flag_of chunk)
-  pub data_stands : PartStands content type (blank_fill type) data_part (present_of chunk)
+  pub data_stands : in_a_row (Unit {0}) (λ sizes. content sizes type (blank_fill type) data_part (present_of chunk)) (length (present_of chunk))
 
 -- The lengths of the mask and of the data, and both, each as its chain writes it.
 pub record OptionalWritten (mask content : Standing) (sizes : List ℕ) (type : ElementType) (value : List ℕ) (chunk : Chunk) : Type 0 where
@@ -143,7 +143,7 @@ pub record OptionalWritten (mask content : Standing) (sizes : List ℕ) (type : 
   pub small : length value < 2 ^ 64
   pub parts : value ≡ optional_layout mask_part data_part
   pub mask_written : mask sizes flag_type (0 ∷ []) mask_part (map flag_of chunk)
-  pub data_written : PartWritten content type (blank_fill type) data_part (present_of chunk)
+  pub data_written : in_a_row (data_part ≡ []) (λ sizes. content sizes type (blank_fill type) data_part (present_of chunk)) (length (present_of chunk))
 
 -- ---- all of it
 

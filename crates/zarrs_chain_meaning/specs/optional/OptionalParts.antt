@@ -8,7 +8,7 @@ use Rattle.zarrs_data_type.specs.Element.{Chunk}
 use Rattle.zarrs_array_bytes.specs.Elements.{elements}
 use Rattle.zarrs_array_bytes.specs.Held.{Held, masked, owned_bytes}
 use Rattle.zarrs_array_bytes.specs.Present.{present_elements}
-use Rattle.zarrs_chain_meaning.specs.Meaning.{Decoder, part_chunk}
+use Rattle.zarrs_chain_meaning.specs.Meaning.{Decoder, in_a_row}
 use Rattle.zarrs_chain_meaning.specs.optional.Optional.{under_flags, blank_fill, flag_in}
 use Rattle.zarrs_chain_meaning.specs.CodecMeaning.{chain_chunk, codec_value}
 use Rattle.zarrs_chain_meaning.specs.Parts.{byte_elements, for_each}
@@ -34,7 +34,7 @@ elements_under type held mask = present_elements (elements (optional type) (leng
 abbrev pub present_part : Decoder → ElementType → Chunk → List ℕ → Result Chunk CodecError
 present_part decode type mask part = do
   flags ← for_each flag_in mask
-  items ← part_chunk decode type (blank_fill type) (length (filter (λ set. set) flags)) part
+  items ← in_a_row (Ok []) (λ sizes. decode sizes type (blank_fill type) part) (length (filter (λ set. set) flags))
   Ok (under_flags flags items)
 
 -- the bytes of both parts, which are lent

@@ -9,7 +9,7 @@ use Rattle.zarrs_bytes.specs.PartialWrite.{filled_chunk}
 use Rattle.zarrs_chain_meaning.specs.BytesStages.{in_memory}
 use Rattle.zarrs_chain_meaning.specs.Meaning.{Measure, Encoder, Decoder, Standing, Keeping, Meaning}
 use Rattle.zarrs_chain_meaning.specs.Parts.{for_each}
-use Rattle.zarrs_chain_meaning.specs.optional.Optional.{bounded}
+use Rattle.zarrs_chain_meaning.specs.optional.Optional.{bounded, bounded_total}
 use Rattle.zarrs_chain_meaning.specs.sharding.InnerChunks.{is_divided, grid, inner_chunk_count, inner_chunks_of, joined_inner_chunks}
 use Rattle.zarrs_chain_meaning.specs.vlen.Vlen.{offset_type, offset_bytes, offset_elements, offsets_in_chunk, is_same_bytes}
 use Rattle.zarrs_chunk.specs.Answer.{◌>>=◌, demand, checked_u64}
@@ -72,12 +72,6 @@ is_left_out keep type fill inner_chunk = list_all (is_kept_as_fill keep type fil
 
 -- ---- which chunks, and how many bytes
 
--- how many bytes so many inner chunks and an index have at most
-abbrev pub shard_bound : ℕ → BytesRepresentation → ℕ → BytesRepresentation
-shard_bound count (FixedSize inner) index = bounded (count * inner + index)
-shard_bound count (BoundedSize inner) index = bounded (count * inner + index)
-shard_bound count UnboundedSize index = UnboundedSize
-
 -- the representation of the value of such a chunk, or the first error: inner chunks that don't divide the chunk, that of the inner chain, a fill value that isn't its own normal form, and that of the index chain
 abbrev pub shard_representation : List ℕ → Keeping → Measure → Measure → Measure
 shard_representation shape keep inner index sizes type fill = do
@@ -88,18 +82,13 @@ shard_representation shape keep inner index sizes type fill = do
   r ← inner shape type fill
   _ ← demand (is_kept_as_fill keep type fill (fill_element type fill)) InvalidFillValue
   size ← index_size index shape sizes
-  Ok (shard_bound (inner_chunk_count shape sizes) r size)
+  Ok (bounded_total (λ inner index. inner_chunk_count shape sizes * inner + index) r (FixedSize size))
 
 -- ---- the value of a chunk
 
 -- the value of an inner chunk, or none where it is left out
 abbrev pub inner_value : Bool → Result (List ℕ) CodecError → Result (Option (List ℕ)) CodecError
 inner_value left_out value = if left_out then Ok None else value >>= λ part. Ok (Some part)
-
--- the values of inner chunks, in order, or the first error
-abbrev pub inner_values : Keeping → Encoder → List ℕ → ElementType → List ℕ → List Chunk → Result (List (Option (List ℕ))) CodecError
-inner_values keep inner shape type fill inner_chunks =
-    for_each (λ inner_chunk. inner_value (is_left_out keep type fill inner_chunk) (inner shape type fill inner_chunk)) inner_chunks
 
 -- all values, one behind the other
 abbrev pub joined_values : List (Option (List ℕ)) → List ℕ
@@ -124,7 +113,7 @@ shard_layout true index values = values ++ index
 abbrev pub shard_value : List ℕ → Bool → Keeping → Keeping → Measure → Encoder → Encoder → Encoder
 shard_value shape at_end keep index_keep index_measure inner index sizes type fill chunk = do
   size ← index_size index_measure shape sizes
-  parts ← inner_values keep inner shape type fill (inner_chunks_of shape sizes chunk)
+  parts ← for_each (λ inner_chunk. inner_value (is_left_out keep type fill inner_chunk) (inner shape type fill inner_chunk)) (inner_chunks_of shape sizes chunk)
   let at = first_offset at_end size
   _ ← demand (nat_lt (at + length (joined_values parts)) (2 ^ 64)) Overflow
   let rows = offset_elements true (index_numbers at parts)
@@ -171,11 +160,6 @@ abbrev pub InnerChunkStands : Bool → Standing → List ℕ → ElementType →
 InnerChunkStands false inner shape type fill value span inner_chunk = inner_chunk ≡ filled_chunk shape type fill
 InnerChunkStands true inner shape type fill value span inner_chunk = (span.0 + span.1 ≤ length value) × inner shape type fill (spanned_bytes value span) inner_chunk
 
--- span by span and inner chunk by inner chunk
-abbrev pub InnerChunksStand : Standing → List ℕ → ElementType → List ℕ → List ℕ → List Span → List Chunk → Type 0
-InnerChunksStand inner shape type fill value spans inner_chunks =
-    AllZip (λ span inner_chunk. InnerChunkStands (is_stored span) inner shape type fill value span inner_chunk) spans inner_chunks
-
 -- The index, before other bytes or behind them, stands for two numbers for each inner chunk; and the bytes at these stand for that inner chunk. They are in any order, and may overlap.
 pub record ShardStands (shape : List ℕ) (at_end : Bool) (index_measure : Measure) (inner index : Standing) (sizes : List ℕ) (type : ElementType) (fill value : List ℕ) (chunk : Chunk) : Type 0 where
   pub divided : is_divided shape sizes ≡ true
@@ -188,18 +172,13 @@ pub record ShardStands (shape : List ℕ) (at_end : Bool) (index_measure : Measu
   pub index_long : length index_part ≡ size
   pub index_stands : index (index_shape shape sizes) (offset_type true) (offset_bytes true 0) index_part rows
   pub elements : IsChunk type (product sizes) chunk
-  pub inner_chunks : InnerChunksStand inner shape type fill value (spans_of (offsets_in_chunk true rows)) (inner_chunks_of shape sizes chunk)
+  pub inner_chunks : AllZip (λ span inner_chunk. InnerChunkStands (is_stored span) inner shape type fill value span inner_chunk) (spans_of (offsets_in_chunk true rows)) (inner_chunks_of shape sizes chunk)
 
 -- an inner chunk is left out, or its value is what the inner chain writes
 abbrev pub InnerChunkWritten : Bool → Standing → List ℕ → ElementType → List ℕ → Chunk → Option (List ℕ) → Type 0
 InnerChunkWritten true inner shape type fill inner_chunk None = Unit {0}
 InnerChunkWritten false inner shape type fill inner_chunk (Some part) = inner shape type fill part inner_chunk
 InnerChunkWritten left_out inner shape type fill inner_chunk part = ⊥
-
--- inner chunk by inner chunk
-abbrev pub InnerChunksWritten : Keeping → Standing → List ℕ → ElementType → List ℕ → List Chunk → List (Option (List ℕ)) → Type 0
-InnerChunksWritten keep inner shape type fill inner_chunks parts =
-    AllZip (λ inner_chunk part. InnerChunkWritten (is_left_out keep type fill inner_chunk) inner shape type fill inner_chunk part) inner_chunks parts
 
 -- The values of the inner chunks that aren't left out, one behind the other, and the index of where each begins and how long it is, whose numbers the index chain keeps.
 pub record ShardWritten (shape : List ℕ) (at_end : Bool) (keep index_keep : Keeping) (index_measure : Measure) (inner index : Standing) (sizes : List ℕ) (type : ElementType) (fill value : List ℕ) (chunk : Chunk) : Type 0 where
@@ -209,7 +188,7 @@ pub record ShardWritten (shape : List ℕ) (at_end : Bool) (keep index_keep : Ke
   pub index_part : List ℕ
   pub sized : index_size index_measure shape sizes ≡ Ok size
   pub elements : IsChunk type (product sizes) chunk
-  pub inner_chunks : InnerChunksWritten keep inner shape type fill (inner_chunks_of shape sizes chunk) values
+  pub inner_chunks : AllZip (λ inner_chunk part. InnerChunkWritten (is_left_out keep type fill inner_chunk) inner shape type fill inner_chunk part) (inner_chunks_of shape sizes chunk) values
   pub counted : first_offset at_end size + length (joined_values values) < 2 ^ 64
   pub index_written : index (index_shape shape sizes) (offset_type true) (offset_bytes true 0) index_part (offset_elements true (index_numbers (first_offset at_end size) values))
   pub kept : map (index_keep (offset_type true)) (offset_elements true (index_numbers (first_offset at_end size) values)) ≡ offset_elements true (index_numbers (first_offset at_end size) values)

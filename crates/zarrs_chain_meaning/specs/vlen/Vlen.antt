@@ -9,7 +9,7 @@ use Rattle.zarrs_array_bytes.specs.Offsets.{rises, last_of}
 use Rattle.zarrs_array_bytes.specs.Pieces.{ends}
 use Rattle.zarrs_bytes.specs.ByteOrder.{bytes_of}
 use Rattle.zarrs_chain_meaning.specs.BytesStages.{in_memory}
-use Rattle.zarrs_chain_meaning.specs.Meaning.{Measure, Encoder, Decoder, Standing, Keeping, Meaning, part_value, part_chunk, PartStands, PartWritten}
+use Rattle.zarrs_chain_meaning.specs.Meaning.{Measure, Encoder, Decoder, Standing, Keeping, Meaning, in_a_row}
 use Rattle.zarrs_chain_meaning.specs.Parts.{byte_type, the_byte, byte_elements, all_bytes, part_length_bytes, length_of}
 use Rattle.zarrs_chain_meaning.specs.declared.codec_name.TheConstants.{VLEN}
 use Rattle.zarrs_chunk.specs.Answer.{◌>>=◌, demand, checked_u64}
@@ -83,7 +83,7 @@ vlen_value wide at_end keep index data' chunk = do
   _ ← demand (offset_fits wide (length items)) OffsetTooLarge
   index_part ← index (length offsets ∷ []) (offset_type wide) (offset_bytes wide 0) offsets
   _ ← demand (is_same_bytes (map (keep (offset_type wide)) offsets) offsets) OffsetNotKept
-  data_part ← part_value data' byte_type (0 ∷ []) (byte_elements items)
+  data_part ← in_a_row (Ok []) (λ sizes. data' sizes byte_type (0 ∷ []) (byte_elements items)) (length (byte_elements items))
   in_memory (arranged at_end (part_length_bytes index_part) index_part data_part)
 
 -- ---- the chunk of a value
@@ -109,7 +109,7 @@ vlen_chunk wide at_end index data' count value = do
   offset_chunk ← index ((count + 1) ∷ []) (offset_type wide) (offset_bytes wide 0) parts.0
   let offsets = offsets_in_chunk wide offset_chunk
   _ ← demand (rises offsets) InvalidOffsets
-  byte_chunk ← part_chunk data' byte_type (0 ∷ []) (last_of offsets) parts.1
+  byte_chunk ← in_a_row (Ok []) (λ sizes. data' sizes byte_type (0 ∷ []) parts.1) (last_of offsets)
   Ok (slices count offsets (all_bytes byte_chunk))
 
 -- ---- what is kept of an element
@@ -136,7 +136,7 @@ pub record VlenStands (wide at_end : Bool) (index content : Standing) (count : �
   pub index_stands : index ((count + 1) ∷ []) (offset_type wide) (offset_bytes wide 0) index_part offset_chunk
   pub rising : rises (offsets_in_chunk wide offset_chunk) ≡ true
   pub byte_count : length byte_chunk ≡ last_of (offsets_in_chunk wide offset_chunk)
-  pub data_stands : PartStands content byte_type (0 ∷ []) data_part byte_chunk
+  pub data_stands : in_a_row (Unit {0}) (λ sizes. content sizes byte_type (0 ∷ []) data_part byte_chunk) (length byte_chunk)
   pub elements : chunk ≡ slices count (offsets_in_chunk wide offset_chunk) (all_bytes byte_chunk)
 
 -- Offsets are the sums of the lengths from zero, fit their type and are as the index chain keeps them; each part is the one that its chain writes.
@@ -149,7 +149,7 @@ pub record VlenWritten (wide at_end : Bool) (keep : Keeping) (index content : St
   pub fit : offset_fits wide (length (all_bytes chunk)) ≡ true
   pub kept : map (keep (offset_type wide)) (offset_elements wide (chunk_offsets chunk)) ≡ offset_elements wide (chunk_offsets chunk)
   pub index_written : index (length (offset_elements wide (chunk_offsets chunk)) ∷ []) (offset_type wide) (offset_bytes wide 0) index_part (offset_elements wide (chunk_offsets chunk))
-  pub data_written : PartWritten content byte_type (0 ∷ []) data_part (byte_elements (all_bytes chunk))
+  pub data_written : in_a_row (data_part ≡ []) (λ sizes. content sizes byte_type (0 ∷ []) data_part (byte_elements (all_bytes chunk))) (length (byte_elements (all_bytes chunk)))
 
 -- ---- all of it
 

@@ -7,7 +7,7 @@ ghost use Rattle.zarrs_array_bytes.specs.Held.{items_of, masked, raw_of};
 ghost use Rattle.zarrs_array_bytes.specs.Parts.{optional_part};
 ghost use Rattle.zarrs_array_bytes.specs.Present.{present_count};
 ghost use Rattle.zarrs_chain_meaning.specs.BytesStages.{in_memory};
-ghost use Rattle.zarrs_chain_meaning.specs.optional.Optional.{optional_parts, optional_layout, blank_fill as blank_fill_of, both_representations as both_representations_of};
+ghost use Rattle.zarrs_chain_meaning.specs.optional.Optional.{optional_parts, optional_layout, blank_fill as blank_fill_of, bounded_total};
 ghost use Rattle.zarrs_chain_meaning.specs.optional.OptionalParts.{optional_inner, both_lent};
 
 use crate::codec_name::OPTIONAL;
@@ -81,7 +81,7 @@ pub fn both_representations(
     mask: &BytesRepresentation,
     content: &BytesRepresentation,
 ) -> BytesRepresentation
-    ensures value { result ≡ both_representations_of mask.now content.now }
+    ensures value { result ≡ bounded_total (λ mask content. 16 + mask + content) mask.now content.now }
 {
     match (mask.size(), content.size()) {
         (Some(mask), Some(data)) => match whole_size(mask, data) {

@@ -1,8 +1,9 @@
 //! The parts of a shard's value, and how many bytes it has.
-ghost use Rattle.std.specs.Prelude.{◌≡◌};
+ghost use Rattle.std.specs.Prelude.{◌≡◌, ◌+◌, ◌*◌};
 ghost use Rattle.zarrs_chunk.specs.Answer.{seen};
-ghost use Rattle.zarrs_chain_meaning.specs.sharding.Sharding.{shard_bound};
 ghost use Rattle.zarrs_chain_meaning.specs.sharding.ShardSteps.{index_bytes, shard_size, stored_span};
+ghost use Rattle.zarrs_chain_meaning.specs.optional.Optional.{bounded_total};
+ghost use Rattle.zarrs_codec.specs.declared.bytes_representation.BytesRepresentation.TheVariants.{FixedSize};
 
 use zarrs_chunk::CodecError;
 use zarrs_codec::BytesRepresentation;
@@ -17,7 +18,7 @@ fn whole_size(count: u64, inner: u64, index: u64) -> Option<u64>
 /// How many bytes so many inner chunks and an index have at most. No bound where an inner chunk has
 /// none, or where 64 bits don't count it.
 pub fn bound(count: u64, inner: &BytesRepresentation, index: u64) -> BytesRepresentation
-    ensures value { result ≡ shard_bound count inner.now index }
+    ensures value { result ≡ bounded_total (λ inner index. count * inner + index) inner.now (FixedSize index) }
 {
     match inner.size() {
         Some(size) => match whole_size(count, size, index) {

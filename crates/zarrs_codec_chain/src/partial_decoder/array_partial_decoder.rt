@@ -5,12 +5,14 @@ ghost use Rattle.zarrs_chunk.specs.Indexer.{selection_of};
 ghost use Rattle.zarrs_array_bytes.specs.Tight.{IsTight};
 ghost use Rattle.zarrs_codec.specs.HandleCalls.{NeverFailsIf, Tells};
 ghost use Rattle.zarrs_chain_meaning.specs.Chain.{chain_reads};
-ghost use Rattle.zarrs_codec_chain.specs.ChunkRead.{PlansRead, decodes_parts, ReadsStoredChunk};
+ghost use Rattle.zarrs_codec_chain.specs.ChunkRead.{PlansRead, decodes_parts, ReadsStoredChunk, WhereSureBy};
 ghost use Rattle.zarrs_codec_chain.specs.ChunkSource.{source_made};
 ghost use Rattle.zarrs_codec_chain.specs.ElementCode.{Chunk-set};
 ghost use Rattle.zarrs_codec_chain.specs.ChunkCalls.{WholeOnce};
 ghost use Rattle.zarrs_codec_chain.specs.KeptIndex.{IsIndexOf-prop};
 ghost use Rattle.zarrs_chain.specs.ChainView.{plain_chain};
+ghost use Rattle.zarrs_chunk.specs.Answer.{is_fault};
+ghost use Rattle.zarrs_codec.specs.CodersOverHandles.{OnlyReads};
 
 use crate::chunk_coder::ChunkCoder;
 use crate::partial_decoder::cache::Cache;
@@ -47,7 +49,7 @@ pub struct ArrayPartialDecoder<'a, H: BytesPartialDecoderTraits, B: BytesToBytes
 }
 
 impl<'a, H: BytesPartialDecoderTraits, B: BytesToBytesCodecTraits> ArrayPartialDecoder<'a, H, B> {
-    ghost use Rattle.zarrs_codec_chain.specs.PartialDecoder.{decoder_held, decoder_form, handle_of, is_bare, is_cached, is_indexed, DecoderLeaves, DecoderLeavesAlone, KeepsCache, KeepsIndex, LeavesIndex, SureByIndex, wants_index};
+    ghost use Rattle.zarrs_codec_chain.specs.PartialDecoder.{decoder_held, decoder_form, handle_of, is_bare, is_cached, is_indexed, KeepsCache, KeepsIndex, LeavesIndex, wants_index};
 
     /// The type of the elements.
     pub fn data_type(&self) -> &DataType
@@ -63,7 +65,9 @@ impl<'a, H: BytesPartialDecoderTraits, B: BytesToBytesCodecTraits> ArrayPartialD
         ensures reads { IfErr result (λ cause. ReadsStoredChunk B.functions
             (decoder_form self.old) (H.state (handle_of self.old)) (selection_of indexer.now)
             (Err cause)) }
-        ensures left { DecoderLeaves H.state H.lent self.old self.new result }
+        ensures left { OnlyReads (λ it. H.state (handle_of it)) (λ it. H.lent (handle_of it)) decoder_form
+            self.old self.new result }
+        ensures cache_kept { is_cached self.new ≡ is_cached self.old }
         ensures index { LeavesIndex self.old self.new result }
         ensures sure_by_index { is_indexed self.old ≡ true → IsOk result }
         ensures no_fault_if_cached { is_cached self.old ≡ true → IsOk result }
@@ -118,13 +122,15 @@ impl<'a, H: BytesPartialDecoderTraits, B: BytesToBytesCodecTraits> ArrayPartialD
             (selection_of indexer.now) result }
         ensures tight { IfOk result (IsTight (decoder_form self.old).type) }
         ensures no_fault_if_cached { NeverFailsIf (is_cached self.old) result }
-        ensures alone { DecoderLeavesAlone self.old self.new }
+        ensures alone { is_cached self.old ≡ true → handle_of self.new ≡ handle_of self.old }
         ensures counted { is_cached self.old ≡ false → WholeOnce H.calls (decoder_form self.old).chain
             (handle_of self.old) (handle_of self.new) result }
-        ensures left { DecoderLeaves H.state H.lent self.old self.new result }
+        ensures left { OnlyReads (λ it. H.state (handle_of it)) (λ it. H.lent (handle_of it)) decoder_form
+            self.old self.new result }
+        ensures cache_kept { is_cached self.new ≡ is_cached self.old }
         ensures index { LeavesIndex self.old self.new result }
-        ensures sure_by_index { SureByIndex H.state B.functions self.old
-            (selection_of indexer.now) result }
+        ensures sure_by_index { is_indexed self.old ≡ true → WhereSureBy true B.functions (decoder_form
+            self.old) (H.state (handle_of self.old)) (selection_of indexer.now) (is_fault result ≡ false) }
     {
         self.keep_index(alloc, indexer)?;
         self.coder.read_chunk(alloc, &mut self.handle, indexer)
@@ -137,8 +143,10 @@ impl<'a, H: BytesPartialDecoderTraits, B: BytesToBytesCodecTraits> ArrayPartialD
         ensures answer { Tells result (is_some (H.state (handle_of self.old)).value) }
         ensures sure { NeverFailsIf (is_some (H.state (handle_of self.old)).sure) result }
         ensures no_fault_if_cached { NeverFailsIf (is_cached self.old) result }
-        ensures alone { DecoderLeavesAlone self.old self.new }
-        ensures left { DecoderLeaves H.state H.lent self.old self.new result }
+        ensures alone { is_cached self.old ≡ true → handle_of self.new ≡ handle_of self.old }
+        ensures left { OnlyReads (λ it. H.state (handle_of it)) (λ it. H.lent (handle_of it)) decoder_form
+            self.old self.new result }
+        ensures cache_kept { is_cached self.new ≡ is_cached self.old }
     {
         self.coder.exists(&mut self.handle)
     }

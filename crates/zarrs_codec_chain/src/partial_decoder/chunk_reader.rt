@@ -17,13 +17,13 @@ ghost use Rattle.zarrs_chain.specs.ChainView.{plain_chain, plain_codec, plain_sh
 
 use crate::chunk_coder::ChunkCoder;
 use crate::partial_decoder::cache::Cache;
-use crate::partial_decoder::codec_read::codec_in_place;
+use crate::partial_decoder::codec_read::{codec_in_place, read_box};
 use crate::partial_decoder::encoded_runs::encoded_runs;
 use crate::sharding::kept_index::stored_index;
 use crate::sharding::shard_index::ShardIndex;
 use std::alloc::Global;
 use zarrs_array_bytes::ArrayBytes;
-use zarrs_array_regions::{decoded_window, kept_region, region_runs};
+use zarrs_array_regions::{decoded_window, filled_box, kept_region, region_runs};
 use zarrs_array_to_array::encoded_places;
 use zarrs_bytes::BytesCodec;
 use zarrs_chain::stages::Form;
@@ -164,6 +164,54 @@ impl<'a, B: BytesToBytesCodecTraits> ChunkCoder<'a, B> {
         codec.read_places(alloc, handle, &self.data_type, &self.fill_value, places)
     }
 
+    /// The index that is kept of a shard that is stored, and the box that the indexer selects of it,
+    /// where that has elements and no array-to-array codec moves them.
+    fn shard_box<'c>(&'c self, indexer: &'c Indexer) -> Option<(&'c ShardIndex, &'c ArraySubset)>
+        ensures kept { IfSome result (λ it. self.now.cache ≡ Cache.Index (Some it.0.now)) }
+        ensures filled { IfSome result (λ it. IsKeptRegion self.now indexer.now it.1.now) }
+        ensures stays { IfSome result (λ _. (plain_chain self.now.chain.now).array_to_array ≡ []) }
+    {
+        match (&self.cache, self.chain.array_to_array_codecs()) {
+            (Cache::Index(Some(index)), []) => {
+                let region = filled_box(&self.shape, indexer)?;
+                Some((index, region))
+            }
+            _ => None,
+        }
+    }
+
+    /// The elements of a box of a shard, in row-major order, by the index that is kept. Errors, the
+    /// first that holds, `OutOfMemory` aside: `Storage`; those that `partial_decode` of
+    /// `ArrayPartialDecoder` names of `sharding_indexed`, but for those of the index.
+    fn read_box<H: BytesPartialDecoderTraits>(
+        &self,
+        alloc: Global,
+        handle: &mut H,
+        index: &ShardIndex,
+        region: &ArraySubset,
+    ) -> Result<ArrayBytes<'static>, CodecError>
+        requires kept { self.now.cache ≡ Cache.Index (Some index.now) }
+        requires index { IsIndexFrom B.functions self.now (H.state handle.old).value }
+        requires stays { (plain_chain self.now.chain.now).array_to_array ≡ [] }
+        requires inside { is_box_inside self.now.shape region.now.starts region.now.lengths ≡ true }
+        requires filled { 0 < product region.now.lengths }
+        ensures answer { ReadsSelected self.now (H.state handle.old) (subset_of region.now) result }
+        ensures tight { IfOk result (IsTight self.now.data_type) }
+        ensures sure { SureSelected self.now (H.state handle.old) (subset_of region.now) result }
+        ensures counted { CoderAsksOnce H.calls self.now handle.old handle.new result }
+        ensures left { H.state handle.new ≡ after_reading result (H.state handle.old) }
+        ensures same_reference { H.lent handle.new ≡ H.lent handle.old }
+    {
+        self.is_sound();
+        let form = Form {
+            shape: &self.encoded,
+            data_type: &self.data_type,
+            fill_value: &self.fill_value,
+        };
+        let codec = self.chain.array_to_bytes_codec();
+        read_box::<H, B>(alloc, codec, handle, index, form, region)
+    }
+
     /// The elements that the indexer selects, in its order. Errors, the first that holds,
     /// `OutOfMemory` aside: those of `Indexer::check`; `Storage`; those of the bytes-to-bytes
     /// codecs that a cache leaves, and those that `partial_decode` of `ArrayPartialDecoder` names
@@ -192,6 +240,9 @@ impl<'a, B: BytesToBytesCodecTraits> ChunkCoder<'a, B> {
         }
         if let Some(codec) = self.lister(indexer) {
             return self.read_listed(alloc, codec, handle, indexer);
+        }
+        if let Some((index, region)) = self.shard_box(indexer) {
+            return self.read_box(alloc, handle, index, region);
         }
         let runs = self.runs(alloc, indexer)?;
         self.read_runs(alloc, handle, &runs)
@@ -320,10 +371,6 @@ fn as_shard<B>(codec: &ArrayToBytesCodec<B>) -> Option<&ShardingCodec<B>>
 {
     match codec {
         ArrayToBytesCodec::Sharding(codec) => Some(codec),
-        ArrayToBytesCodec::Bytes(_)
-        | ArrayToBytesCodec::PackBits(_)
-        | ArrayToBytesCodec::VlenV2(_)
-        | ArrayToBytesCodec::Vlen(_)
-        | ArrayToBytesCodec::Optional(_) => None,
+        _ => None,
     }
 }

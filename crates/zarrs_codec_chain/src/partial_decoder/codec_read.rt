@@ -1,18 +1,20 @@
 //! Reading runs of places through an array-to-bytes codec, of a handle or of bytes in memory.
-ghost use Rattle.std.specs.Prelude.{◌≡◌, ◌<◌, ◌^◌, [], IfOk, All, Ok, length, option_map, true, false};
+ghost use Rattle.std.specs.Prelude.{◌≡◌, ◌<◌, ◌^◌, [], IfOk, All, Ok, Some, length, option_map, true, false};
 ghost use Rattle.zarrs_chunk.specs.Answer.{GivesBy, no_refusal};
 ghost use Rattle.zarrs_chunk.specs.ChunkShape.{product};
 ghost use Rattle.zarrs_chunk.specs.Runs.{AreApart, EndWithin, joined_runs};
+ghost use Rattle.zarrs_chunk.specs.Tuples.{is_box_inside};
 ghost use Rattle.zarrs_array_bytes.specs.Tight.{IsTight};
 ghost use Rattle.zarrs_codec.specs.StorageState.{after_reading};
 ghost use Rattle.zarrs_chain_meaning.specs.Chain.{codec_reads as codec_reads_of};
 ghost use Rattle.zarrs_chain.specs.ChainView.{plain_chain, plain_codec};
 ghost use Rattle.zarrs_chain.specs.FormView.{lent_form};
 ghost use Rattle.zarrs_codec_chain.specs.ChunkRead.{ChunkReadsRuns, GivesRuns, SureRuns, TakenBy};
-ghost use Rattle.zarrs_codec_chain.specs.CodecPart.{codec_plans, order_in_place, shard_depth, IsCodecPlan, rests_behind};
+ghost use Rattle.zarrs_codec_chain.specs.CodecPart.{codec_plans, order_in_place, shard_depth, IsCodecPlan, rests_where};
 ghost use Rattle.zarrs_codec_chain.specs.KeptIndex.{asks_index, codec_index, index_seen};
-ghost use Rattle.zarrs_codec_chain.specs.SpanReads.{SurePlaces};
+ghost use Rattle.zarrs_codec_chain.specs.SpanReads.{ReadsBox, SureBox, SurePlaces};
 
+use crate::sharding::box_reads::box_by_index;
 use crate::sharding::kept_index::runs_by_index;
 use crate::sharding::shard_index::ShardIndex;
 use crate::sharding::shard_runs::shard_runs;
@@ -22,7 +24,7 @@ use zarrs_array_bytes::ArrayBytes;
 use zarrs_bytes::BytesCodec;
 use zarrs_chain::stages::Form;
 use zarrs_chain::{ArrayToBytesCodec, CodecChain};
-use zarrs_chunk::CodecError;
+use zarrs_chunk::{ArraySubset, CodecError};
 use zarrs_codec::{ByteRange, BytesPartialDecoderTraits, BytesToBytesCodecTraits};
 use zarrs_lent_handles::LentHandle;
 
@@ -66,9 +68,7 @@ pub(crate) fn plain_runs<H: BytesPartialDecoderTraits, B: BytesToBytesCodecTrait
             )
         }
         ArrayToBytesCodec::Vlen(codec) => { vlen_runs(alloc, codec, handle, form, runs) }
-        ArrayToBytesCodec::VlenV2(_)
-        | ArrayToBytesCodec::Optional(_)
-        | ArrayToBytesCodec::Sharding(_) => unreachable!(),
+        _ => unreachable!(),
     }
 }
 
@@ -98,11 +98,7 @@ pub(crate) fn read_runs<H: BytesPartialDecoderTraits, B: BytesToBytesCodecTraits
 {
     match codec {
         ArrayToBytesCodec::Sharding(codec) => { shard_runs(alloc, codec, handle, form, runs) }
-        ArrayToBytesCodec::Bytes(_)
-        | ArrayToBytesCodec::PackBits(_)
-        | ArrayToBytesCodec::VlenV2(_)
-        | ArrayToBytesCodec::Vlen(_)
-        | ArrayToBytesCodec::Optional(_) => { plain_runs(alloc, codec, handle, form, runs) }
+        _ => { plain_runs(alloc, codec, handle, form, runs) }
     }
 }
 
@@ -126,7 +122,7 @@ pub(crate) fn read_by_index<H: BytesPartialDecoderTraits, B: BytesToBytesCodecTr
     ensures answer { ChunkReadsRuns B.functions (plain_codec codec.now) (lent_form form.entry)
         (H.state handle.old) runs.now result }
     ensures tight { IfOk result (IsTight form.entry.data_type.now) }
-    ensures sure { SurePlaces (rests_behind B.functions (plain_codec codec.now)) (lent_form
+    ensures sure { SurePlaces (rests_where true B.functions (plain_codec codec.now)) (lent_form
         form.entry) (H.state handle.old) (joined_runs runs.now) result }
     ensures left { H.state handle.new ≡ after_reading result (H.state handle.old) }
     ensures same_reference { H.lent handle.new ≡ H.lent handle.old }
@@ -134,6 +130,39 @@ pub(crate) fn read_by_index<H: BytesPartialDecoderTraits, B: BytesToBytesCodecTr
     match codec {
         ArrayToBytesCodec::Sharding(codec) => {
             runs_by_index(alloc, codec, handle, index, form, runs)
+        }
+        _ => unreachable!(),
+    }
+}
+
+/// The elements of a box that has some, of a chunk that the codec takes, which is `sharding_indexed`,
+/// by the index that was read of what the handle keeps.
+#[tactic(auto, unfolding(zarrs_chain::specs::ChainView::plain_codec), using(zarrs_chain::specs::ChainView::plain_vlen_at, zarrs_chain::specs::ChainView::plain_optional_at, zarrs_chain::specs::ChainView::plain_sharding_at))]
+pub(crate) fn read_box<H: BytesPartialDecoderTraits, B: BytesToBytesCodecTraits>(
+    alloc: Global,
+    codec: &ArrayToBytesCodec<B>,
+    handle: &mut H,
+    index: &ShardIndex,
+    form: Form<'_>,
+    region: &ArraySubset,
+) -> Result<ArrayBytes<'static>, CodecError>
+    requires taken { TakenBy B.functions (plain_codec codec.now) (lent_form form) }
+    requires shard { asks_index [] (plain_codec codec.now) ≡ true }
+    requires index { codec_index B.functions (plain_codec codec.now) form.shape.now
+        (H.state handle.old).value ≡ Ok (Some (index_seen index.now)) }
+    requires inside { is_box_inside form.shape.now region.now.starts region.now.lengths ≡ true }
+    requires filled { 0 < product region.now.lengths }
+    ensures answer { ReadsBox B.functions (plain_codec codec.now) (lent_form form.entry)
+        (H.state handle.old) region.now result }
+    ensures tight { IfOk result (IsTight form.entry.data_type.now) }
+    ensures sure { SureBox B.functions (plain_codec codec.now) (lent_form form.entry)
+        (H.state handle.old) region.now result }
+    ensures left { H.state handle.new ≡ after_reading result (H.state handle.old) }
+    ensures same_reference { H.lent handle.new ≡ H.lent handle.old }
+{
+    match codec {
+        ArrayToBytesCodec::Sharding(codec) => {
+            box_by_index(alloc, codec, handle, index, form, region)
         }
         ArrayToBytesCodec::Bytes(_)
         | ArrayToBytesCodec::PackBits(_)
@@ -143,7 +172,7 @@ pub(crate) fn read_by_index<H: BytesPartialDecoderTraits, B: BytesToBytesCodecTr
     }
 }
 
-/// The same, of bytes in memory, or of none.
+/// The elements at the places of these runs, of bytes in memory, or of none.
 pub(crate) fn read_runs_of_bytes<B: BytesToBytesCodecTraits>(
     alloc: Global,
     codec: &ArrayToBytesCodec<B>,
@@ -172,10 +201,7 @@ pub(crate) fn plans_reads<B>(codec: &ArrayToBytesCodec<B>) -> bool
 {
     match codec {
         ArrayToBytesCodec::Bytes(_) | ArrayToBytesCodec::PackBits(_) => true,
-        ArrayToBytesCodec::VlenV2(_)
-        | ArrayToBytesCodec::Vlen(_)
-        | ArrayToBytesCodec::Optional(_)
-        | ArrayToBytesCodec::Sharding(_) => false,
+        _ => false,
     }
 }
 
@@ -186,11 +212,7 @@ fn as_bytes<B>(codec: &ArrayToBytesCodec<B>) -> Option<&BytesCodec>
 {
     match codec {
         ArrayToBytesCodec::Bytes(codec) => Some(codec),
-        ArrayToBytesCodec::PackBits(_)
-        | ArrayToBytesCodec::VlenV2(_)
-        | ArrayToBytesCodec::Vlen(_)
-        | ArrayToBytesCodec::Optional(_)
-        | ArrayToBytesCodec::Sharding(_) => None,
+        _ => None,
     }
 }
 
@@ -229,9 +251,6 @@ pub(crate) fn planned_runs<B: BytesToBytesCodecTraits>(
         ArrayToBytesCodec::PackBits(codec) => {
             codec.planned_runs(alloc, form.shape, form.data_type, form.fill_value, runs)
         }
-        ArrayToBytesCodec::VlenV2(_)
-        | ArrayToBytesCodec::Vlen(_)
-        | ArrayToBytesCodec::Optional(_)
-        | ArrayToBytesCodec::Sharding(_) => unreachable!(),
+        _ => unreachable!(),
     }
 }

@@ -1,5 +1,5 @@
 ghost use Rattle.zarrs_codec_chain.specs.ChunkCoder.{coder_keeps_nothing};
-ghost use Rattle.std.specs.Prelude.{◌≡◌, ◌<◌, ◌&&◌, All, Ok, IfOk, None, is_some, false, true};
+ghost use Rattle.std.specs.Prelude.{◌≡◌, ◌<◌, ◌&&◌, All, Ok, IfOk, None, is_some, false, true, OnErr};
 ghost use Rattle.zarrs_chunk.specs.Answer.{Answers, fault};
 ghost use Rattle.zarrs_chunk.specs.Indexer.{selection_of};
 ghost use Rattle.zarrs_array_bytes.specs.Tight.{IsTight};
@@ -8,9 +8,11 @@ ghost use Rattle.zarrs_codec.specs.HandleCalls.{NeverFailsIf, Tells};
 ghost use Rattle.zarrs_chain_meaning.specs.Chain.{chain_reads, chain_writes};
 ghost use Rattle.zarrs_chain_meaning.specs.Laws.{IsChainOfMappings};
 ghost use Rattle.zarrs_codec_chain.specs.ChunkRead.{PlansRead, decodes_parts, ReadsStoredChunk, form_in_place};
-ghost use Rattle.zarrs_codec_chain.specs.ChunkWrite.{encodes_parts};
+ghost use Rattle.zarrs_codec_chain.specs.ChunkWrite.{encodes_parts, EditsStored};
 ghost use Rattle.zarrs_codec_chain.specs.ChunkCalls.{CountsEditThrough, WholeOnce};
 ghost use Rattle.zarrs_bytes.specs.PartialWrite.{FailsByWriting};
+ghost use Rattle.zarrs_codec.specs.StorageState.{apart_from_value, after_writing};
+ghost use Rattle.zarrs_codec.specs.CodersOverHandles.{OnlyReads, OnlyWrites};
 
 use crate::chunk_coder::ChunkCoder;
 use crate::partial_decoder::array_partial_decoder::ArrayPartialDecoder;
@@ -41,7 +43,7 @@ pub struct ArrayPartialEncoder<'a, H: BytesPartialEncoderTraits, B: BytesToBytes
 
 impl<'a, H: BytesPartialEncoderTraits, B: BytesToBytesCodecTraits> ArrayPartialEncoder<'a, H, B> {
     ghost use Rattle.zarrs_codec_chain.specs.PartialDecoder.{decoder_form, handle_of, is_bare, is_cached};
-    ghost use Rattle.zarrs_codec_chain.specs.PartialEncoder.{encoder_form, encoder_handle, EncoderReads, EncoderWrites, EncoderWritesOnce, EncoderLeaves};
+    ghost use Rattle.zarrs_codec_chain.specs.PartialEncoder.{encoder_form, encoder_handle};
 
     /// What the chain, the shape and the fill value are made of holds.
     pub(crate) fn is_sound(&self)
@@ -97,7 +99,8 @@ impl<'a, H: BytesPartialEncoderTraits, B: BytesToBytesCodecTraits> ArrayPartialE
         ensures tight { IfOk result (IsTight (encoder_form self.old).type) }
         ensures counted { WholeOnce H.calls (encoder_form self.old).chain (encoder_handle self.old)
             (encoder_handle self.new) result }
-        ensures left { EncoderReads H.state H.lent self.old self.new result }
+        ensures left { OnlyReads (λ it. H.state (encoder_handle it)) (λ it. H.lent (encoder_handle it))
+            encoder_form self.old self.new result }
     {
         self.coder.read_chunk(alloc, &mut self.handle, indexer)
     }
@@ -106,7 +109,8 @@ impl<'a, H: BytesPartialEncoderTraits, B: BytesToBytesCodecTraits> ArrayPartialE
     pub fn exists(&mut self) -> Result<bool, CodecError>
         ensures answer { Tells result (is_some (H.state (encoder_handle self.old)).value) }
         ensures sure { NeverFailsIf (is_some (H.state (encoder_handle self.old)).sure) result }
-        ensures left { EncoderReads H.state H.lent self.old self.new result }
+        ensures left { OnlyReads (λ it. H.state (encoder_handle it)) (λ it. H.lent (encoder_handle it))
+            encoder_form self.old self.new result }
     {
         self.handle.exists()
     }
@@ -182,12 +186,14 @@ impl<'a, H: BytesPartialEncoderTraits, B: BytesToBytesCodecTraits> ArrayPartialE
         indexer: &Indexer,
         elements: &ArrayBytes<'_>,
     ) -> Result<(), CodecError>
-        ensures edits { EncoderLeaves H.state self.old self.new indexer.now elements.now result }
+        ensures edits { EditsStored B.functions (encoder_form self.old) (H.state (encoder_handle self.old))
+            (H.state (encoder_handle self.new)) (selection_of indexer.now) elements.now result }
         ensures unread { is_some (form_in_place (encoder_form self.old)) ≡ true
             → FailsByWriting H.state (encoder_handle self.old) (encoder_handle self.new) result }
         ensures counted { CountsEditThrough H.calls H.state (encoder_form self.old) (selection_of
             indexer.now) (encoder_handle self.old) (encoder_handle self.new) result }
-        ensures left { EncoderWrites H.state H.lent H.atomic self.old self.new result }
+        ensures left { OnlyWrites (λ it. H.state (encoder_handle it)) (λ it. H.lent (encoder_handle it))
+            encoder_form H.atomic self.old self.new result }
     {
         self.coder.is_sound();
         self.coder.write(alloc, &mut self.handle, indexer, elements)
@@ -198,7 +204,12 @@ impl<'a, H: BytesPartialEncoderTraits, B: BytesToBytesCodecTraits> ArrayPartialE
     pub fn erase(&mut self) -> Result<(), CodecError>
         ensures answer { Answers fault (λ _. (H.state (encoder_handle self.new)).value) result
             (Ok None) }
-        ensures left { EncoderWritesOnce H.state H.lent H.atomic self.old self.new result }
+        ensures one_write { apart_from_value (H.state (encoder_handle self.new)) ≡ after_writing result
+            (H.state (encoder_handle self.old)) }
+        ensures kept_if_atomic { OnErr result (H.atomic ≡ true → (H.state (encoder_handle self.new)).value
+            ≡ (H.state (encoder_handle self.old)).value) }
+        ensures same_reference { H.lent (encoder_handle self.new) ≡ H.lent (encoder_handle self.old) }
+        ensures form_kept { encoder_form self.new ≡ encoder_form self.old }
     {
         self.handle.erase()
     }

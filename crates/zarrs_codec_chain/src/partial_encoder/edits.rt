@@ -1,7 +1,8 @@
 //! Lists of edits of a chunk.
 ghost use Rattle.std.specs.Prelude.{◌≡◌, ◌≤◌, ◌==◌, is_none, length};
 ghost use Rattle.zarrs_codec_chain.specs.Edits.{EditHasBytes, RunsEdits};
-ghost use Rattle.zarrs_codec_chain.specs.PartialEncoder.{EncoderEdits, EncoderKeeps, EncoderWrites, encoder_form, encoder_handle};
+ghost use Rattle.zarrs_codec_chain.specs.PartialEncoder.{EncoderEdits, encoder_form, encoder_handle};
+ghost use Rattle.zarrs_codec.specs.CodersOverHandles.{OnlyWrites};
 
 use crate::partial_encoder::array_partial_encoder::ArrayPartialEncoder;
 use std::alloc::Global;
@@ -35,7 +36,8 @@ fn apply<H: BytesPartialEncoderTraits, B: BytesToBytesCodecTraits>(
     edit: &Edit<'_>,
 ) -> Result<(), CodecError>
     ensures answer { EncoderEdits H.state encoder.old encoder.new edit.now result }
-    ensures left { EncoderWrites H.state H.lent H.atomic encoder.old encoder.new result }
+    ensures left { OnlyWrites (λ it. H.state (encoder_handle it)) (λ it. H.lent (encoder_handle it))
+        encoder_form H.atomic encoder.old encoder.new result }
     ensures edit_bytes { EditHasBytes edit.now }
 {
     match edit {
@@ -69,7 +71,8 @@ pub fn run_edits<H: BytesPartialEncoderTraits, B: BytesToBytesCodecTraits>(
     ensures all_done { is_none result.refusal ≡ (result.done == length edits.now) }
     ensures edits { RunsEdits B.functions (encoder_form encoder.old) H.atomic (H.state
         (encoder_handle encoder.old)) (H.state (encoder_handle encoder.new)) edits.now result }
-    ensures encoder_kept { EncoderKeeps H.lent encoder.old encoder.new }
+    ensures same_reference { H.lent (encoder_handle encoder.new) ≡ H.lent (encoder_handle encoder.old) }
+    ensures form_kept { encoder_form encoder.new ≡ encoder_form encoder.old }
 {
     encoder.is_sound();
     let mut done = 0;

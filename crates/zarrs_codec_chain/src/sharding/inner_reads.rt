@@ -4,13 +4,14 @@ ghost use Rattle.zarrs_array_bytes.specs.Tight.{IsTight};
 ghost use Rattle.zarrs_array_regions.specs.KeptRegions.{keeps_regions};
 ghost use Rattle.zarrs_chain.specs.ChainView.{plain_chain, plain_codec};
 ghost use Rattle.zarrs_chunk.specs.ChunkShape.{product};
+ghost use Rattle.zarrs_chunk.specs.Indexer.{selection_of};
 ghost use Rattle.zarrs_chunk.specs.Runs.{AreFilled, EndWithin, joined_runs};
 ghost use Rattle.zarrs_chunk.specs.Tuples.{is_box_inside};
 ghost use Rattle.zarrs_codec.specs.StorageState.{after_reading};
 ghost use Rattle.zarrs_chain.specs.FormView.{lent_form};
 ghost use Rattle.zarrs_codec_chain.specs.ChunkRead.{ChunkReadsRuns, TakenBy};
 ghost use Rattle.zarrs_codec_chain.specs.CodecPart.{codec_rests_on};
-ghost use Rattle.zarrs_codec_chain.specs.SpanReads.{CodecMeasures, ReadsChain, ReadsMoved, StandsIn, SureChain, SurePlaces, TakesForm, moved_rests, seen_state};
+ghost use Rattle.zarrs_codec_chain.specs.SpanReads.{CodecMeasures, ReadsChain, ReadsIndexed, ReadsMoved, StandsIn, SureChain, SurePlaces, TakesForm, moved_rests, seen_state};
 ghost use Rattle.zarrs_array_regions.specs.WindowLaws.{region_places};
 
 use crate::partial_decoder::encoded_runs::encoded_runs;
@@ -23,7 +24,7 @@ use zarrs_array_bytes::ArrayBytes;
 use zarrs_array_regions::{decoded_window, kept_region, region_runs};
 use zarrs_chain::stages::{Form, chain_is_sound, decode_bytes};
 use zarrs_chain::{ArrayToBytesCodec, CodecChain};
-use zarrs_chunk::{ArraySubset, ChunkShape, CodecError};
+use zarrs_chunk::{ArraySubset, ChunkShape, CodecError, Indexer};
 use zarrs_codec::{BytesRepresentation, BytesToBytesCodecTraits};
 use zarrs_lent_handles::ReadAheadTraits;
 use zarrs_shard_runs::runs_indexer;
@@ -58,11 +59,7 @@ fn codec_in_span<H: ReadAheadTraits, B: BytesToBytesCodecTraits>(
         ArrayToBytesCodec::Sharding(codec) => {
             shard_in_span(alloc, codec, handle, span, form, runs)
         }
-        ArrayToBytesCodec::Bytes(_)
-        | ArrayToBytesCodec::PackBits(_)
-        | ArrayToBytesCodec::VlenV2(_)
-        | ArrayToBytesCodec::Vlen(_)
-        | ArrayToBytesCodec::Optional(_) => { leaf_runs(alloc, codec, handle, span, form, runs) }
+        _ => { leaf_runs(alloc, codec, handle, span, form, runs) }
     }
 }
 
@@ -152,6 +149,42 @@ fn region_in_span<H: ReadAheadTraits, B: BytesToBytesCodecTraits>(
     )
 }
 
+/// The elements that an indexer selects, in its order, of a chunk that the chain takes, whose value
+/// stands in a span. A box goes through the array-to-array codecs as a box, where they keep regions.
+#[cycle(read)]
+pub(crate) fn indexed_in_span<H: ReadAheadTraits, B: BytesToBytesCodecTraits>(
+    alloc: Global,
+    chain: &CodecChain<B>,
+    handle: &mut H,
+    span: &ValueSpan<'_>,
+    form: Form<'_>,
+    encoded: &ChunkShape,
+    measured: &BytesRepresentation,
+    indexer: &Indexer,
+) -> Result<ArrayBytes<'static>, CodecError>
+    requires takes { TakesForm B.functions chain.now (lent_form form) encoded.now measured.now }
+    requires counted { product form.shape.now < 2 ^ 64 }
+    requires stands { StandsIn span.now (H.state handle.old) }
+    ensures reads { ReadsIndexed B.functions chain.now (lent_form form.entry) (seen_state span.now
+        (H.state handle.old)) (selection_of indexer.now) result }
+    ensures tight { IfOk result (IsTight form.entry.data_type.now) }
+    ensures left { H.state handle.new ≡ after_reading result (H.state handle.old) }
+    ensures same_reference { H.lent handle.new ≡ H.lent handle.old }
+{
+    chain_is_sound(chain);
+    form.shape.as_slice();
+    let codecs = chain.array_to_array_codecs();
+    if let Some(region) = kept_region(codecs, form.shape, indexer) {
+        return region_in_span(alloc, chain, handle, span, form, encoded, measured, region);
+    }
+    let moved = Form {
+        shape: encoded,
+        ..form
+    };
+    let runs = encoded_runs(alloc, codecs, form.shape, indexer)?;
+    moved_in_span(alloc, chain, handle, span, moved, measured, &runs)
+}
+
 /// The elements at the places of these runs of a chunk that the chain takes, whose value stands in a
 /// span. Through array-to-array codecs the places of a box go as a box, where the codecs keep regions.
 #[cycle(read)]
@@ -179,20 +212,17 @@ pub(crate) fn chain_in_span<H: ReadAheadTraits, B: BytesToBytesCodecTraits>(
     ensures left { H.state handle.new ≡ after_reading result (H.state handle.old) }
     ensures same_reference { H.lent handle.new ≡ H.lent handle.old }
 {
+    if !chain.array_to_array_codecs().is_empty() {
+        let indexer = runs_indexer(alloc, form.shape, runs)?;
+        return indexed_in_span(
+            alloc, chain, handle, span, form, encoded, measured, &indexer,
+        );
+    }
     chain_is_sound(chain);
     form.shape.as_slice();
-    let codecs = chain.array_to_array_codecs();
     let moved = Form {
         shape: encoded,
         ..form
     };
-    if codecs.is_empty() {
-        return moved_in_span(alloc, chain, handle, span, moved, measured, runs);
-    }
-    let indexer = runs_indexer(alloc, form.shape, runs)?;
-    if let Some(region) = kept_region(codecs, form.shape, &indexer) {
-        return region_in_span(alloc, chain, handle, span, form, encoded, measured, region);
-    }
-    let runs = encoded_runs(alloc, codecs, form.shape, &indexer)?;
-    moved_in_span(alloc, chain, handle, span, moved, measured, &runs)
+    moved_in_span(alloc, chain, handle, span, moved, measured, runs)
 }

@@ -116,10 +116,7 @@ fn place_ranges<B: BytesToBytesCodecTraits>(
         ArrayToBytesCodec::PackBits(codec) => {
             codec.planned_runs(alloc, form.shape, form.data_type, form.fill_value, runs)
         }
-        ArrayToBytesCodec::VlenV2(_)
-        | ArrayToBytesCodec::Vlen(_)
-        | ArrayToBytesCodec::Optional(_)
-        | ArrayToBytesCodec::Sharding(_) => unreachable!(),
+        _ => unreachable!(),
     }
 }
 

@@ -1,5 +1,5 @@
 //! The index of a shard, read once and kept: a read by it asks for inner chunks alone.
-ghost use Rattle.std.specs.Prelude.{◌≡◌, ◌*◌, ◌<◌, ◌^◌, IfOk, Ok, length, option_map};
+ghost use Rattle.std.specs.Prelude.{◌≡◌, ◌*◌, ◌<◌, ◌^◌, IfOk, Ok, length, option_map, true};
 ghost use Rattle.zarrs_array_bytes.specs.Tight.{IsTight};
 ghost use Rattle.zarrs_chain.specs.ChainView.{plain_sharding};
 ghost use Rattle.zarrs_chain.specs.FormView.{lent_form};
@@ -8,10 +8,10 @@ ghost use Rattle.zarrs_chunk.specs.Answer.{Answers, memory_or_fault};
 ghost use Rattle.zarrs_chunk.specs.ChunkShape.{product};
 ghost use Rattle.zarrs_chunk.specs.Runs.{AreFilled, EndWithin, joined_runs};
 ghost use Rattle.zarrs_codec.specs.StorageState.{after_reading};
-ghost use Rattle.zarrs_codec_chain.specs.CodecPart.{rests_behind};
 ghost use Rattle.zarrs_codec_chain.specs.ChunkRead.{ChunkReadsRuns, TakenBy};
 ghost use Rattle.zarrs_codec_chain.specs.KeptIndex.{IsIndex, codec_index, index_rests_on, index_seen};
 ghost use Rattle.zarrs_codec_chain.specs.SpanReads.{StandsIn, SurePlaces, SureWhere, seen_state};
+ghost use Rattle.zarrs_codec_chain.specs.CodecPart.{rests_where};
 
 use crate::partial_decoder::fill_runs::fill_runs;
 use crate::sharding::index_read::index_numbers;
@@ -63,7 +63,7 @@ pub(crate) fn stored_index<H: BytesPartialDecoderTraits, B: BytesToBytesCodecTra
 /// The elements at the places of these runs of a chunk that the codec takes, whose value stands in a
 /// span, by the numbers of its index. What is known to be read is read by one call of the handle. Errors:
 /// those of `shard_by_index`.
-fn index_ahead<H: BytesPartialDecoderTraits, B: BytesToBytesCodecTraits>(
+pub(crate) fn index_ahead<H: BytesPartialDecoderTraits, B: BytesToBytesCodecTraits>(
     alloc: Global,
     codec: &ShardingCodec<B>,
     handle: &mut H,
@@ -83,7 +83,7 @@ fn index_ahead<H: BytesPartialDecoderTraits, B: BytesToBytesCodecTraits>(
     ensures answer { ChunkReadsRuns B.functions (plain_sharding codec.now) (lent_form form.entry)
         (seen_state span.now (H.state handle.old)) runs.now result }
     ensures tight { IfOk result (IsTight form.entry.data_type.now) }
-    ensures sure { SurePlaces (rests_behind B.functions (plain_sharding codec.now)) (lent_form
+    ensures sure { SurePlaces (rests_where true B.functions (plain_sharding codec.now)) (lent_form
         form.entry) (seen_state span.now (H.state handle.old)) (joined_runs runs.now) result }
     ensures left { H.state handle.new ≡ after_reading result (H.state handle.old) }
     ensures same_reference { H.lent handle.new ≡ H.lent handle.old }
@@ -116,7 +116,7 @@ pub(crate) fn runs_by_index<H: BytesPartialDecoderTraits, B: BytesToBytesCodecTr
     ensures answer { ChunkReadsRuns B.functions (plain_sharding codec.now) (lent_form form.entry)
         (H.state handle.old) runs.now result }
     ensures tight { IfOk result (IsTight form.entry.data_type.now) }
-    ensures sure { SurePlaces (rests_behind B.functions (plain_sharding codec.now)) (lent_form
+    ensures sure { SurePlaces (rests_where true B.functions (plain_sharding codec.now)) (lent_form
         form.entry) (H.state handle.old) (joined_runs runs.now) result }
     ensures left { H.state handle.new ≡ after_reading result (H.state handle.old) }
     ensures same_reference { H.lent handle.new ≡ H.lent handle.old }

@@ -10,7 +10,7 @@ ghost use Rattle.zarrs_chunk.specs.ChunkShape.{product};
 ghost use Rattle.zarrs_chunk.specs.Runs.{AreFilled, EndWithin, joined_runs};
 ghost use Rattle.zarrs_codec.specs.StorageState.{after_reading};
 ghost use Rattle.zarrs_codec_chain.specs.ChunkRead.{ChunkReadsRuns, SureRuns, TakenBy};
-ghost use Rattle.zarrs_codec_chain.specs.CodecPart.{codec_rests_on, rests_behind};
+ghost use Rattle.zarrs_codec_chain.specs.CodecPart.{codec_rests_on, rests_where};
 ghost use Rattle.zarrs_codec_chain.specs.KeptIndex.{IsIndex};
 ghost use Rattle.zarrs_codec_chain.specs.SpanReads.{AreInnerRuns, PutsInOrder, ReadsGroups, ReadsSpan, StandsIn, SureGroups, SurePlaces, SureSpan, TakesForm, seen_state};
 ghost use Rattle.zarrs_data_type.specs.FillValue.{fill_fits};
@@ -201,7 +201,7 @@ pub(crate) fn shard_by_index<H: ReadAheadTraits, B: BytesToBytesCodecTraits>(
     ensures answer { ChunkReadsRuns B.functions (plain_sharding codec.now) (lent_form form.entry)
         (seen_state span.now (H.state handle.old)) runs.now result }
     ensures tight { IfOk result (IsTight form.entry.data_type.now) }
-    ensures sure { SurePlaces (rests_behind B.functions (plain_sharding codec.now)) (lent_form
+    ensures sure { SurePlaces (rests_where true B.functions (plain_sharding codec.now)) (lent_form
         form.entry) (seen_state span.now (H.state handle.old)) (joined_runs runs.now) result }
     ensures left { H.state handle.new ≡ after_reading result (H.state handle.old) }
     ensures same_reference { H.lent handle.new ≡ H.lent handle.old }

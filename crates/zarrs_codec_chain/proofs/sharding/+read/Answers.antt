@@ -20,7 +20,6 @@ use Rattle.std.specs.Prelude.{IsOkAnd, ◌^◌}
 use Rattle.zarrs_chain_meaning.proofs.OptionalSteps.{counted_small}
 use Rattle.zarrs_chain_meaning.specs.CodecMeaning.{codec_representation}
 use Rattle.zarrs_codec_chain.proofs.GroupWalks.{WalkedTo, walk_ends}
-use Rattle.zarrs_codec_chain.specs.CodecPart.{rests_behind}
 use Rattle.zarrs_codec_chain.specs.KeptIndex.{IsIndex}
 use Rattle.zarrs_shard_runs.specs.GroupedRuns.{group, order_places}
 use Rattle.zarrs_codec_chain.proofs.ShardParts.{grid_known, index_measured, inner_taken, stored_shard}
@@ -36,43 +35,53 @@ use Rattle.zarrs_data_type.specs.Form.{form_of}
 use Rattle.std.proofs.lemmas.Bool.Decides.{nat_tests}
 use Rattle.zarrs_codec_chain.proofs.sharding.+read.Goals as goal
 use Rattle.std.proofs.lemmas.List.{nil_from_length}
+use Rattle.zarrs_codec_chain.proofs.BoxReads.{box_places_are}
 use Rattle.zarrs_codec_chain.proofs.AloneGroup.{is_alone, alone_answered, alone_few, alone_sure}
 use Rattle.zarrs_codec_chain.proofs.GroupedShards.{groups_answered, groups_error, groups_sure, inner_runs, grouped_shard}
 use Rattle.zarrs_codec_chain.proofs.GroupSteps.{at_group, group_filled, group_inside, lent_few, group_refused, group_sure, so_far_valid, part_valid, count_fits, group_read, rest_sure}
-
-pub inner_reads::chain_in_span-returns-then-is_empty-clause-answer : goal.inner_reads::chain_in_span-returns-then-is_empty-clause-answer
-inner_reads::chain_in_span-returns-then-is_empty-clause-answer g t c =
-    let form : ChunkForm _ = record { chain = plain_chain c.args.chain.now; sizes = c.args.form.shape.now; type = c.args.form.data_type.now; fill = c.args.form.fill_value.now } in
-    let it = stored_chunk g.B.BytesToBytesCodecTraits.functions form c.args.encoded.now c.args.measured.now c.args.span.now (g.H.BytesPartialDecoderTraits.state c.args.handle.now) _ c.chain_is_sound.ensures.mappings.mappings c.as_slice.ensures.value c.as_slice.ensures.positive c.requires.takes c.requires.stands in
-    let empty : length c.array_to_array_codecs-codecs.result.now ≡ 0 = grind (arith, nat_tests) in
-    let none = nil_from_length c.array_to_array_codecs-codecs.result.now empty in
-    let arrays : form.chain.array_to_array ≡ [] = sym c.array_to_array_codecs-codecs.ensures.value ∙ ap (λ codecs. map mapping_of codecs) none in
-    subst (λ (x : Result Chunk CodecError). AnswersRuns form.type x c.moved_in_span.result) (sym (read_alone it arrays (joined_runs c.args.runs.now)))
-    c.moved_in_span.ensures.answer
-
-pub inner_reads::chain_in_span-returns-in_err-runs-clause-answer : goal.inner_reads::chain_in_span-returns-in_err-runs-clause-answer
-inner_reads::chain_in_span-returns-in_err-runs-clause-answer g t c =
-    let form : ChunkForm _ = record { chain = plain_chain c.args.chain.now; sizes = c.args.form.shape.now; type = c.args.form.data_type.now; fill = c.args.form.fill_value.now } in
-    let it = stored_chunk g.B.BytesToBytesCodecTraits.functions form c.args.encoded.now c.args.measured.now c.args.span.now (g.H.BytesPartialDecoderTraits.state c.args.handle.now) _ c.chain_is_sound.ensures.mappings.mappings c.as_slice.ensures.value c.as_slice.ensures.positive c.requires.takes c.requires.stands in
-    let p = err_from_is_err_and c.from_residual-in_err-runs.result c.from_residual-in_err-runs.ensures.1 in
-    rw (p.1, p.2) (λ unexcused. absurd (ok_no_err _ c.in_err-runs.field-0.0 (places_gone it (map mapping_of c.array_to_array_codecs-codecs.result.now) (selection_of c.in_ok-indexer.indexer) (joined_runs c.args.runs.now) (Err c.in_err-runs.field-0.0) c.array_to_array_codecs-codecs.ensures.value (sym (ok_is _ _ c.in_ok-indexer.ensures.selects)) c.in_err-runs.ensures.answer.is (memory_too c.in_err-runs.field-0.0 unexcused))))
+use Rattle.zarrs_codec_chain.specs.CodecPart.{rests_where}
 
 pub inner_reads::chain_in_span-returns-clause-answer : goal.inner_reads::chain_in_span-returns-clause-answer
 inner_reads::chain_in_span-returns-clause-answer g t c =
     let form : ChunkForm _ = record { chain = plain_chain c.args.chain.now; sizes = c.args.form.shape.now; type = c.args.form.data_type.now; fill = c.args.form.fill_value.now } in
     let it = stored_chunk g.B.BytesToBytesCodecTraits.functions form c.args.encoded.now c.args.measured.now c.args.span.now (g.H.BytesPartialDecoderTraits.state c.args.handle.now) _ c.chain_is_sound.ensures.mappings.mappings c.as_slice.ensures.value c.as_slice.ensures.positive c.requires.takes c.requires.stands in
-    let moved : map (readable it).map_is.to (joined_runs c.args.runs.now) ≡ joined_runs c.deref.result.now =
-    ok_is _ _ (places_gone it (map mapping_of c.array_to_array_codecs-codecs.result.now) (selection_of c.in_ok-indexer.indexer) (joined_runs c.args.runs.now) (Ok c.in_ok-runs.runs) c.array_to_array_codecs-codecs.ensures.value (sym (ok_is _ _ c.in_ok-indexer.ensures.selects)) c.in_ok-runs.ensures.answer.is) ∙ ap joined_runs (sym c.deref.ensures.value) in
-    subst (λ (x : Result Chunk CodecError). AnswersRuns form.type x c.moved_in_span-2.result) (sym (read_moved it (joined_runs c.args.runs.now) (joined_runs c.deref.result.now) moved))
-    c.moved_in_span-2.ensures.answer
+    let empty : length c.array_to_array_codecs.result.now ≡ 0 = grind (arith, nat_tests) in
+    let none = nil_from_length c.array_to_array_codecs.result.now empty in
+    let arrays : form.chain.array_to_array ≡ [] = sym c.array_to_array_codecs.ensures.value ∙ ap (λ codecs. map mapping_of codecs) none in
+    subst (λ (x : Result Chunk CodecError). AnswersRuns form.type x c.moved_in_span.result) (sym (read_alone it arrays (joined_runs c.args.runs.now)))
+    c.moved_in_span.ensures.answer
 
-pub inner_reads::chain_in_span-returns-clause-sure : goal.inner_reads::chain_in_span-returns-clause-sure
-inner_reads::chain_in_span-returns-clause-sure g t c =
+pub inner_reads::indexed_in_span-returns-in-Some-clause-reads : goal.inner_reads::indexed_in_span-returns-in-Some-clause-reads
+inner_reads::indexed_in_span-returns-in-Some-clause-reads g t c places at =
+    let f = g.B.BytesToBytesCodecTraits.functions in
+    let chain = plain_chain c.args.chain.now in
+    let type = c.args.form.data_type.now in
+    let fill = c.args.form.fill_value.now in
+    let state = seen_state c.args.span.now (g.H.BytesPartialDecoderTraits.state c.args.handle.now) in
+    let same = box_places_are _ c.args.form.shape.now (selection_of c.args.indexer.now) c.in-Some.region.now places ((c.in-Some.ensures {u = tt}).region_kept) c.requires.counted at in (
+      subst (λ (ps : List ℕ). AnswersRuns type (chain_read f chain c.args.form.shape.now type fill state.value ps) c.region_in_span.result) same c.region_in_span.ensures.answer,
+      subst (λ (ps : List ℕ). are_given_sure state.sure (chain_rests f chain c.args.form.shape.now type fill state.value ps) ≡ true → is_fault c.region_in_span.result ≡ false) same c.region_in_span.ensures.sure,
+    )
+
+pub inner_reads::indexed_in_span-returns-in_err-runs-clause-reads : goal.inner_reads::indexed_in_span-returns-in_err-runs-clause-reads
+inner_reads::indexed_in_span-returns-in_err-runs-clause-reads g t c places at =
     let form : ChunkForm _ = record { chain = plain_chain c.args.chain.now; sizes = c.args.form.shape.now; type = c.args.form.data_type.now; fill = c.args.form.fill_value.now } in
     let it = stored_chunk g.B.BytesToBytesCodecTraits.functions form c.args.encoded.now c.args.measured.now c.args.span.now (g.H.BytesPartialDecoderTraits.state c.args.handle.now) _ c.chain_is_sound.ensures.mappings.mappings c.as_slice.ensures.value c.as_slice.ensures.positive c.requires.takes c.requires.stands in
-    let moved : map (readable it).map_is.to (joined_runs c.args.runs.now) ≡ joined_runs c.deref.result.now =
-    ok_is _ _ (places_gone it (map mapping_of c.array_to_array_codecs-codecs.result.now) (selection_of c.in_ok-indexer.indexer) (joined_runs c.args.runs.now) (Ok c.in_ok-runs.runs) c.array_to_array_codecs-codecs.ensures.value (sym (ok_is _ _ c.in_ok-indexer.ensures.selects)) c.in_ok-runs.ensures.answer.is) ∙ ap joined_runs (sym c.deref.ensures.value) in
-    λ s. c.moved_in_span-2.ensures.sure (sure_moved it (joined_runs c.args.runs.now) (joined_runs c.deref.result.now) moved s)
+    let p = err_from_is_err_and c.from_residual.result c.from_residual.ensures.1 in
+    rw (p.1, p.2) (
+      (λ unexcused. absurd (ok_no_err _ c.in_err-runs.field-0.0 (places_gone it (map mapping_of c.array_to_array_codecs-codecs.result.now) (selection_of c.args.indexer.now) places (Err c.in_err-runs.field-0.0) c.array_to_array_codecs-codecs.ensures.value at c.in_err-runs.ensures.answer.is (memory_too c.in_err-runs.field-0.0 unexcused)))),
+      λ s. c.in_err-runs.ensures.answer.no_fault,
+    )
+
+pub inner_reads::indexed_in_span-returns-clause-reads : goal.inner_reads::indexed_in_span-returns-clause-reads
+inner_reads::indexed_in_span-returns-clause-reads g t c places at =
+    let form : ChunkForm _ = record { chain = plain_chain c.args.chain.now; sizes = c.args.form.shape.now; type = c.args.form.data_type.now; fill = c.args.form.fill_value.now } in
+    let it = stored_chunk g.B.BytesToBytesCodecTraits.functions form c.args.encoded.now c.args.measured.now c.args.span.now (g.H.BytesPartialDecoderTraits.state c.args.handle.now) _ c.chain_is_sound.ensures.mappings.mappings c.as_slice.ensures.value c.as_slice.ensures.positive c.requires.takes c.requires.stands in
+    let moved : map (readable it).map_is.to places ≡ joined_runs c.deref.result.now =
+    ok_is _ _ (places_gone it (map mapping_of c.array_to_array_codecs-codecs.result.now) (selection_of c.args.indexer.now) places (Ok c.in_ok-runs.runs) c.array_to_array_codecs-codecs.ensures.value at c.in_ok-runs.ensures.answer.is) ∙ ap joined_runs (sym c.deref.ensures.value) in (
+      subst (λ (x : Result Chunk CodecError). AnswersRuns form.type x c.moved_in_span.result) (sym (read_moved it places (joined_runs c.deref.result.now) moved)) c.moved_in_span.ensures.answer,
+      λ s. c.moved_in_span.ensures.sure (sure_moved it places (joined_runs c.deref.result.now) moved s),
+    )
 
 pub inner_reads::region_in_span-region_runs-requires : goal.inner_reads::region_in_span-region_runs-requires
 inner_reads::region_in_span-region_runs-requires g t c =
@@ -166,8 +175,8 @@ shard_runs::shard_in_span-returns-clause-sure g t c =
     let handle = g.H.BytesPartialDecoderTraits.state c.args.handle.now in
     let state = seen_state c.args.span.now handle in
     let places = joined_runs c.args.runs.now in
-    let behind : are_given_sure state.sure (rests_behind f codec c.args.form.shape.now c.args.form.data_type.now c.args.form.fill_value.now state.value places) ≡ true → is_fault c.shard_by_index.result ≡ false =
-    subst (λ s. are_given_sure (seen_state c.args.span.now s).sure (rests_behind f codec c.args.form.shape.now c.args.form.data_type.now c.args.form.fill_value.now (seen_state c.args.span.now s).value places) ≡ true → is_fault c.shard_by_index.result ≡ false) ((c.in_ok-found.ensures {u = tt}).left) c.shard_by_index.ensures.sure in
+    let behind : are_given_sure state.sure (rests_where true f codec c.args.form.shape.now c.args.form.data_type.now c.args.form.fill_value.now state.value places) ≡ true → is_fault c.shard_by_index.result ≡ false =
+    subst (λ s. are_given_sure (seen_state c.args.span.now s).sure (rests_where true f codec c.args.form.shape.now c.args.form.data_type.now c.args.form.fill_value.now (seen_state c.args.span.now s).value places) ≡ true → is_fault c.shard_by_index.result ≡ false) ((c.in_ok-found.ensures {u = tt}).left) c.shard_by_index.ensures.sure in
     λ s. behind (behind_sure f codec c.args.form.shape.now c.args.form.data_type.now c.args.form.fill_value.now state.value places state.sure s)
 
 pub shard_runs::shard_in_span-returns-in_err-found-clause-sure : goal.shard_runs::shard_in_span-returns-in_err-found-clause-sure
@@ -184,8 +193,8 @@ shard_runs::shard_by_index-returns-in_err-encoded-clause-answer g t c =
     let p = err_from_is_err_and c.from_residual.result c.from_residual.ensures.1 in
     rw (p.1, p.2) (λ unexcused. absurd (inner_taken shard c.in_err-encoded.field-0.0 (c.in_err-encoded.ensures.answer.is (memory_too c.in_err-encoded.field-0.0 unexcused))))
 
-pub inner_reads::chain_in_span-moved_in_span-requires-2 : goal.inner_reads::chain_in_span-moved_in_span-requires-2
-inner_reads::chain_in_span-moved_in_span-requires-2 g t c κs within =
+pub inner_reads::indexed_in_span-moved_in_span-requires : goal.inner_reads::indexed_in_span-moved_in_span-requires
+inner_reads::indexed_in_span-moved_in_span-requires g t c κs within =
     let form : ChunkForm _ = record { chain = plain_chain c.args.chain.now; sizes = c.args.form.shape.now; type = c.args.form.data_type.now; fill = c.args.form.fill_value.now } in
     let it = stored_chunk g.B.BytesToBytesCodecTraits.functions form c.args.encoded.now c.args.measured.now c.args.span.now (g.H.BytesPartialDecoderTraits.state c.args.handle.now) _ c.chain_is_sound.ensures.mappings.mappings c.as_slice.ensures.value c.as_slice.ensures.positive c.requires.takes c.requires.stands in
     let small = subst (λ n. n < 2 ^ 64) (sym (readable it).count) c.requires.counted in

@@ -19,17 +19,20 @@ decreases-inner_reads::moved_in_span g l = shard_depth (plain_codec l.chain.now.
 abbrev pub decreases-inner_reads::region_in_span : goal.decreases-inner_reads::region_in_span
 decreases-inner_reads::region_in_span g l = shard_depth (plain_codec l.chain.now.array_to_bytes) * 10 + 4
 
+abbrev pub decreases-inner_reads::indexed_in_span : goal.decreases-inner_reads::indexed_in_span
+decreases-inner_reads::indexed_in_span g l = shard_depth (plain_codec l.chain.now.array_to_bytes) * 10 + 5
+
 abbrev pub decreases-inner_reads::chain_in_span : goal.decreases-inner_reads::chain_in_span
-decreases-inner_reads::chain_in_span g l = shard_depth (plain_codec l.chain.now.array_to_bytes) * 10 + 5
+decreases-inner_reads::chain_in_span g l = shard_depth (plain_codec l.chain.now.array_to_bytes) * 10 + 6
 
 abbrev pub decreases-shard_runs::read_group : goal.decreases-shard_runs::read_group
-decreases-shard_runs::read_group g l = shard_depth (plain_codec l.chain.now.array_to_bytes) * 10 + 6
+decreases-shard_runs::read_group g l = shard_depth (plain_codec l.chain.now.array_to_bytes) * 10 + 7
 
 abbrev pub decreases-shard_runs::read_alone : goal.decreases-shard_runs::read_alone
-decreases-shard_runs::read_alone g l = shard_depth (plain_codec l.chain.now.array_to_bytes) * 10 + 7
+decreases-shard_runs::read_alone g l = shard_depth (plain_codec l.chain.now.array_to_bytes) * 10 + 8
 
 abbrev pub decreases-shard_runs::read_groups : goal.decreases-shard_runs::read_groups
-decreases-shard_runs::read_groups g l = shard_depth (plain_codec l.chain.now.array_to_bytes) * 10 + 8
+decreases-shard_runs::read_groups g l = shard_depth (plain_codec l.chain.now.array_to_bytes) * 10 + 9
 
 abbrev pub decreases-shard_runs::shard_by_index : goal.decreases-shard_runs::shard_by_index
 decreases-shard_runs::shard_by_index g l = shard_depth (plain_sharding l.codec.now) * 10

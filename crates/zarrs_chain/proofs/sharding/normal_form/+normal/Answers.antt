@@ -12,18 +12,13 @@ use Rattle.zarrs_chain.specs.ChainView.{plain_codec, plain_vlen}
 use Rattle.zarrs_chain.specs.declared.optional.optional_codec.OptionalCodec.{out-OptionalCodec}
 use Rattle.zarrs_chain.specs.declared.sharding.sharding_codec.ShardingCodec.{out-ShardingCodec}
 use Rattle.zarrs_chain.specs.declared.vlen.vlen_codec.VlenCodec.{out-VlenCodec}
-use Rattle.zarrs_chain.proofs.KeepsAll.{bytes_keeps_all, vlen_v2_keeps_all}
+use Rattle.zarrs_chain.proofs.KeepsAll.{leaf_keeps_all}
 use Rattle.zarrs_chain.proofs.NormalForms.{all_kept_held, optional_answered, optional_untouched, packed_form, sharding_form, vlen_answered, vlen_untouched}
 use Rattle.zarrs_chain.proofs.sharding.normal_form.+normal.Goals as goal
 
-pub normal_elements-returns-in-Bytes : goal.normal_elements-returns-in-Bytes
-normal_elements-returns-in-Bytes g t c = record {
-  answer = record { is = all_kept_held (plain_codec c.args.codec.now) c.args.data_type.now c.args.count c.args.elements (bytes_keeps_all c.args.codec.now c.in-Bytes.field-0 c.in-Bytes.is) c.requires.valid; no_fault = refl };
-}
-
-pub normal_elements-returns-in-VlenV2 : goal.normal_elements-returns-in-VlenV2
-normal_elements-returns-in-VlenV2 g t c = record {
-  answer = record { is = all_kept_held (plain_codec c.args.codec.now) c.args.data_type.now c.args.count c.args.elements (vlen_v2_keeps_all c.args.codec.now c.in-VlenV2.field-0 c.in-VlenV2.is) c.requires.valid; no_fault = refl };
+pub normal_elements-returns-in_default : goal.normal_elements-returns-in_default
+normal_elements-returns-in_default g t c = record {
+  answer = record { is = all_kept_held (plain_codec c.args.codec.now) c.args.data_type.now c.args.count c.args.elements (leaf_keeps_all c.args.codec.now c.in_default.not-PackBits c.in_default.not-Vlen c.in_default.not-Optional c.in_default.not-Sharding) c.requires.valid; no_fault = refl };
 }
 
 pub normal_elements-returns-in-PackBits : goal.normal_elements-returns-in-PackBits

@@ -5,7 +5,7 @@ use Rattle.zarrs_codec_chain.proofs.partial_encoder.edits.apply.Goals as goal
 
 pub returns-in-Erase-clause-left : goal.returns-in-Erase-clause-left
 returns-in-Erase-clause-left g c =
-    let left = c.erase.ensures.left in
+    let left = c.erase.ensures in
     record {
       one_write = anyway c.erase.result _ left.one_write;
       refused = refused_anyway c.erase.result _ (inr left.one_write);

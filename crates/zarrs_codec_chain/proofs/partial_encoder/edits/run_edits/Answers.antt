@@ -2,7 +2,7 @@ use Rattle.std.proofs.Common.{◌≡◌, ◌<◌, false, length, take, Ok, Err, 
 use Rattle.std.specs.List.{All}
 use Rattle.std.proofs.lemmas.List.{take_all}
 use Rattle.std.proofs.lemmas.List.Elements.{All-more}
-use Rattle.zarrs_codec_chain.specs.Edits.{edited_store, excuse_at, stores_edited, EditHasBytes}
+use Rattle.zarrs_codec_chain.specs.Edits.{edited_store, excuse_at, EditHasBytes, all_made}
 use Rattle.zarrs_codec_chain.specs.PartialEncoder.{encoder_form, encoder_handle}
 use Rattle.zarrs_codec_chain.proofs.EditLaws.{edits_accepted, edits_more, edits_written, excuse_is, more_refused}
 use Rattle.zarrs_codec_chain.proofs.EditRuns.{left_more, refused_left, unwritten_left}
@@ -22,13 +22,11 @@ loop-edit-preserved g c =
     let stored = (D.state (encoder_handle here)).value in
     record {
       counted = omega arith;
-      ran = edits_more f (encoder_form was) c.args.edits.now c.loop-edit.done edit (D.state (encoder_handle was)).value stored (Ok (D.state (encoder_handle c.apply.new.encoder)).value) lt is inv.ran (ap (λ x. edited_store f x stored edit) (sym inv.kept.form_kept) ∙ c.in-Ok.ensures.answer);
+      ran = edits_more f (encoder_form was) c.args.edits.now c.loop-edit.done edit (D.state (encoder_handle was)).value stored (Ok (D.state (encoder_handle c.apply.new.encoder)).value) lt is inv.ran (ap (λ x. edited_store f x stored edit) (sym inv.form_kept) ∙ c.in-Ok.ensures.answer);
       left = left_more c.loop-edit.done (D.state (encoder_handle was)) (D.state (encoder_handle here)) (D.state (encoder_handle c.apply.new.encoder)) inv.left c.in-Ok.ensures.left.one_write;
       bytes = All-more EditHasBytes c.args.edits.now c.loop-edit.done edit lt inv.bytes (subst EditHasBytes is c.in-Ok.ensures.edit_bytes);
-      kept = record {
-        same_reference = c.in-Ok.ensures.left.same_reference ∙ inv.kept.same_reference;
-        form_kept = c.in-Ok.ensures.left.form_kept ∙ inv.kept.form_kept;
-      };
+      same_reference = c.in-Ok.ensures.left.same_reference ∙ inv.same_reference;
+      form_kept = c.in-Ok.ensures.left.form_kept ∙ inv.form_kept;
     }
 
 pub returns-in-Err-clause-edits : goal.returns-in-Err-clause-edits
@@ -53,9 +51,9 @@ returns-in-Err-clause-edits g c =
     let lt : n < length edits = omega arith in
     let is = rw (← inv.counted) at c.edit-item.is in
     let refusal : excuse_at edits n e ≡ false → edited_store f form stored edit ≡ Err e
-    = λ m. ap (λ x. edited_store f x stored edit) (sym inv.kept.form_kept) ∙ gone.answer (sym (ap (λ excuse. excuse e) (excuse_is edits n edit lt is)) ∙ m) in
-    let unwritten : last.value ≡ stored → stores_edited f form (take n edits) old.value ≡ Ok last.value
-    = λ same. subst (λ v. stores_edited f form (take n edits) old.value ≡ Ok v) (sym same) inv.ran in
+    = λ m. ap (λ x. edited_store f x stored edit) (sym inv.form_kept) ∙ gone.answer (sym (ap (λ excuse. excuse e) (excuse_is edits n edit lt is)) ∙ m) in
+    let unwritten : last.value ≡ stored → all_made (edited_store f form) (take n edits) old.value ≡ Ok last.value
+    = λ same. subst (λ v. all_made (edited_store f form) (take n edits) old.value ≡ Ok v) (sym same) inv.ran in
     record {
       written = tt;
       written_if_atomic = λ atomic start here there.
@@ -91,7 +89,7 @@ returns-clause-edits g c =
     record {
       written = λ start here there.
           edits_written f form k.encoded k.representation h sound.mappings sound.positive k.filling lawful sound.fill_bytes edits old.value last.value start here (subst (All EditHasBytes) all inv.bytes) there
-          (subst (λ es. stores_edited f form es old.value ≡ Ok last.value) all inv.ran);
+          (subst (λ es. all_made (edited_store f form) es old.value ≡ Ok last.value) all inv.ran);
       written_if_atomic = λ atomic start here there.
           edits_written f form k.encoded k.representation h sound.mappings sound.positive k.filling lawful sound.fill_bytes (take n edits) old.value last.value start here inv.bytes there inv.ran;
       written_if_unwritten = λ none start here there.

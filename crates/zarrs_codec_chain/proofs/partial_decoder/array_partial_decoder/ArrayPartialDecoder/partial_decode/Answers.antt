@@ -28,7 +28,7 @@ returns-clause-alone g c cached =
     let k = d.coder in
     let form = decoder_form d in
     let came = c.in_ok-keep_index.ensures {u = tt} in
-    c.read_chunk.ensures.alone (came.left.cache_kept ∙ cached) ∙ came.alone (cached_unwanted k.cache (asks_index form.chain.bytes_to_bytes form.chain.array_to_bytes) cached)
+    c.read_chunk.ensures.alone (came.cache_kept ∙ cached) ∙ came.alone (cached_unwanted k.cache (asks_index form.chain.bytes_to_bytes form.chain.array_to_bytes) cached)
 
 pub returns-clause-counted : goal.returns-clause-counted
 returns-clause-counted g c uncached whole =
@@ -37,7 +37,7 @@ returns-clause-counted g c uncached whole =
     let form = decoder_form d in
     let kept = c.keep_index.new.self in
     let came = c.in_ok-keep_index.ensures {u = tt} in
-    let once = subst (λ (form : ChunkForm _). WholeOnce calls form.chain (handle_of kept) c.read_chunk.new.handle c.read_chunk.result) came.left.form_kept (c.read_chunk.ensures.counted (came.left.cache_kept ∙ uncached)) in
+    let once = subst (λ (form : ChunkForm _). WholeOnce calls form.chain (handle_of kept) c.read_chunk.new.handle c.read_chunk.result) came.left.form_kept (c.read_chunk.ensures.counted (came.cache_kept ∙ uncached)) in
     subst (λ handle. MakesReads calls 1 handle c.read_chunk.new.handle c.read_chunk.result) (came.alone (unasked_unwanted (keeps_nothing d.coder.cache) form.chain.bytes_to_bytes form.chain.array_to_bytes whole)) (once whole)
 
 pub returns-clause-sure_by_index : goal.returns-clause-sure_by_index

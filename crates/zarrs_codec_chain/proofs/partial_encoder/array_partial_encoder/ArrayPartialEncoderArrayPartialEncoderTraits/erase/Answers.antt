@@ -12,4 +12,4 @@ returns-clause-writer_kept g c =
     let before = g.H.BytesPartialDecoderTraits.state (encoder_handle was) in
     let after = g.H.BytesPartialDecoderTraits.state (encoder_handle now) in
     writer_same g.B.BytesToBytesCodecTraits.functions (λ form. (chain_reads g.B.BytesToBytesCodecTraits.reads_in_part form.chain).partial_decode && g.H.BytesPartialDecoderTraits.reads_ranges) (encoder_form now) (encoder_form was) after.sure before.sure
-    c.erase.ensures.left.form_kept (written_sure c.erase.result before after c.erase.ensures.left.one_write)
+    c.erase.ensures.form_kept (written_sure c.erase.result before after c.erase.ensures.one_write)
