@@ -11,6 +11,7 @@ from samples import (
     LITTLE,
     VLEN,
     RecordingFile,
+    optional,
     same,
     some,
     some_index,
@@ -146,14 +147,10 @@ def test_texts_in_rounds(rng, monkeypatch):
 def test_rounds_of_other_chains(rng, monkeypatch):
     """What has no plan is fetched whole, by one round."""
     rounds = rounds_of(monkeypatch)
-    optional = {
-        "name": "zarrs.optional",
-        "configuration": {"mask_codecs": ["packbits"], "data_codecs": [LITTLE]},
-    }
     absent = np.ma.masked_array([1, 2, 3, 4], [0, 1, 0, 0], "<i2")
     numbers = np.arange(4, dtype="<i2")
     for codecs, kind, fill, array in (
-        ([optional], {"optional": "int16"}, None, absent),
+        ([optional(LITTLE)], {"optional": "int16"}, None, absent),
         ([LITTLE, "crc32c"], "int16", 7, numbers),
     ):
         chain = Chain(codecs, (4,), kind, fill)
@@ -236,16 +233,58 @@ def test_short_ranges_of_many_inner_chunks(monkeypatch):
 
 
 def test_many_inner_chunks_of_a_few_bytes(monkeypatch):
-    """More than a thousand, of nine bytes each: one inner chunk, and then the rest."""
+    """More than a thousand, of nine bytes or five each: the index, one inner chunk, and then the rest."""
     rounds = rounds_of(monkeypatch)
     array = np.array([chr(97 + at % 26) for at in range(1100)], object)
     chain = Chain([sharded(1, ["vlen-utf8"])], (1100,), "string", "")
     same(chain.read_from(io.BytesIO(chain.encode(array)), np.s_[:]), array)
     assert rounds == [[[9900, 27500]], [[0, 9]], [[9, 9900]]]
+    rounds.clear()
     numbers = np.arange(1, 1101).astype("u1") | 1
     chain = Chain([sharded(1, ["bytes", "crc32c"])], (1100,), "uint8", 0)
     same(chain.read_from(io.BytesIO(chain.encode(numbers)), np.s_[:]), numbers)
-    assert len(rounds) == 3 + 4
+    assert rounds == [[[5500, 23100]], [[0, 5]], [[5, 5500]]]
+
+
+# Codecs of inner chunks with one element, its type, its fill value, and how many bytes each takes; texts have one letter.
+OF_A_FEW_BYTES = [
+    (["bytes"], "uint8", 0, 1),
+    (["bytes", "crc32c"], "uint8", 0, 5),
+    (["packbits"], "bool", False, 1),
+    ([LITTLE], "int16", 0, 2),
+    (["vlen-utf8"], "string", "", 9),
+    ([VLEN], "string", "", 25),
+    ([optional("bytes")], {"optional": "uint8"}, None, 18),
+]
+# Codecs in front of the shard, and how many axes are left; transpose takes no optional elements.
+IN_FRONT = [([transpose([1, 0])], 2), ([{"name": "reshape", "configuration": {"shape": [-1]}}], 1), ([], 2)]
+
+
+@pytest.mark.parametrize(
+    "inside, kind, fill, size, in_front, axes",
+    [(*inside, *front) for inside in OF_A_FEW_BYTES for front in (IN_FRONT[1:] if inside[2] is None else IN_FRONT)],
+)
+def test_three_rounds_and_no_inner_chunk_that_is_not_needed(
+    inside, kind, fill, size, in_front, axes, rng, monkeypatch
+):
+    """Of 64 times 40 inner chunks, also behind codecs that move them."""
+    rounds = rounds_of(monkeypatch)
+    shard = {"chunk_shape": [1] * axes, "codecs": inside, "index_codecs": [LITTLE]}
+    chain = Chain([*in_front, {"name": "sharding_indexed", "configuration": shard}], (64, 40), kind, fill)
+    array = np.full((64, 40), "a" if kind == "string" else 1, chain.dtype)
+    value = chain.encode(np.ma.masked_array(array) if fill is None else array)
+    assert len(value) == 64 * 40 * (size + 16)
+    rows = rng.permutation(64 * 40)[:1500]
+    # with a step what is between the rows is read too
+    for selection, count in (
+        (np.s_[:40, 4:34], 40 * 30),
+        (np.s_[::2], 63 * 40),
+        (np.stack((rows // 40, rows % 40), 1), 1500),
+    ):
+        rounds.clear()
+        file = RecordingFile(value)
+        assert np.array_equal(chain.read_from(file, selection), chain.read(value, selection))
+        assert len(rounds) <= 3 and len(file.seen) == 64 * 40 * 16 + size * count
 
 
 def test_texts_in_shards_answer_as_reads_do(rng):

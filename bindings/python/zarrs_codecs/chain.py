@@ -3,6 +3,7 @@
 import contextlib
 import copy
 import ctypes
+import itertools
 import math
 import reprlib
 from collections.abc import Callable, Iterable, Iterator, Sequence
@@ -44,6 +45,8 @@ _PLAN_NUMBERS = 1 << 17
 _MOST_ROUNDS = 8
 # Behind so many the inner chunks of a shard are fetched whole that are needed.
 _FEW_ROUNDS = 2
+# Of so many ranges the library tells all, however short they are.
+_TOLD_AT_ONCE = 1 << 10
 # How many bytes a value has of which is asked what a read takes of it.
 _LONG = 1 << 40
 _REPRESENTATIONS = ("fixed", "bounded", "unbounded")
@@ -606,11 +609,11 @@ class Chain:
         are, then the offsets, then the texts that are selected; over `sharding_indexed` the index, then what
         is needed of all inner chunks at once, of texts those inner chunks whole; over shards in shards the
         indexes of all inner shards in between; over other codecs the whole value. That is three rounds at most,
-        one more for each further level of shards in shards, and four of numbers in a thousand inner chunks of
-        a few bytes each. Behind an array-to-array codec shards in shards go one after the other, and behind eight
-        rounds those that are needed come whole. Each range is a read of the file by itself. Of a slice with a
-        step it leaves out what is between two places where that's 16 KiB or more. Raises what `read` does of
-        such a value, what the file raises, and `EOFError` where it is cut meanwhile.
+        and one more for each further level of shards in shards. Behind an array-to-array codec shards in shards
+        go one after the other, and behind eight rounds those that are needed come whole. Each range is a read
+        of the file by itself. Of a slice with a step it leaves out what is between two places where that's
+        16 KiB or more. Raises what `read` does of such a value, what the file raises, and `EOFError` where it is
+        cut meanwhile.
 
         >>> import io
         >>> Chain(["bytes"], (4,), "uint8").read_from(io.BytesIO(b"abcd"), slice(1, 3))
@@ -684,27 +687,21 @@ class Chain:
 
     @property
     def _most_rounds(self) -> int:
-        """How many rounds fetch what they lack, before one that fetches all that isn't there. Over a thousand inner chunks
-        of a few bytes each lack one after the other, also where they are read whole."""
-        if self._whole_inside is None or self._has_shards_inside:
-            return _MOST_ROUNDS
-        return _FEW_ROUNDS + self._type.is_plain
+        """How many rounds fetch what they lack, before one that fetches the inner chunks that are needed, or all that isn't
+        there."""
+        return _MOST_ROUNDS if self._whole_inside is None or self._has_shards_inside else _FEW_ROUNDS
 
     def _lacking_in_round(self, rounds: int, fetched: Fetched, chosen: Selection) -> npt.NDArray[np.uint64]:
         """What a round fetches, behind so many: what the read lacks, of all inner chunks that it lacks something of."""
-        numbers = chosen.arguments()
-        lacking = self._lacking(fetched.arguments(), numbers)
+        lacking = self._lacking(fetched.arguments(), chosen.arguments())
         if not lacking.size:
             return lacking
-        is_last = rounds == self._most_rounds
-        if is_last and not self._has_shards_inside:
-            return fetched.missing()
         # what is refused so may be read by itself
         with contextlib.suppress(Refused):
             together = self._lacking_together(rounds, fetched, chosen)
             if together is not None and together.size:
                 return together
-        return fetched.missing() if is_last else lacking
+        return fetched.missing() if rounds >= self._most_rounds else lacking
 
     def _lacking_together(
         self, rounds: int, fetched: Fetched, chosen: Selection
@@ -716,10 +713,14 @@ class Chain:
             from ._nested import lacking_inside
 
             return lacking_inside(self._cut, chosen, fetched)
-        is_whole = rounds >= (_MOST_ROUNDS if self._has_shards_inside else _FEW_ROUNDS) or not self._type.is_plain
-        if self._whole_inside is None or not is_whole:
+        if self._whole_inside is None or self._type.is_plain and rounds < self._most_rounds:
             return None
-        return self._lacking(fetched.arguments(), chosen.arguments(), self._whole_inside)
+        if rounds < self._most_rounds:
+            return self._lacking(fetched.arguments(), chosen.arguments(), self._whole_inside)
+        # over a thousand inner chunks of a few bytes each lack one after the other, so each part of them is asked for
+        parts = (part.arguments() for part in chosen.parts(_TOLD_AT_ONCE))
+        asked = [self._lacking(fetched.arguments(), part, self._whole_inside).tolist() for part in parts]
+        return fetched.without(np.array(sorted(itertools.chain(*asked)), np.uint64).reshape(-1, 2))
 
     def _lacking(
         self, given_pieces: tuple[Any, ...], numbers: tuple[Any, ...], header: bytes | None = None
