@@ -21,7 +21,7 @@ use Rattle.zarrs_chain_meaning.proofs.ArraySteps.{err, ok_is}
 use Rattle.zarrs_chain_meaning.proofs.VlenOffsets.{numbers_in, numbers_long, zero_fits, fixed_held, rises_are}
 use Rattle.zarrs_array_bytes.proofs.ElementLemmas.{length_between}
 use Rattle.zarrs_codec.specs.ByteSpan.{ByteSpan}
-use Rattle.zarrs_plain_vlen.specs.VlenLayout.{span_bytes}
+use Rattle.zarrs_chain_meaning.specs.vlen.VlenLayout.{span_bytes}
 use Rattle.zarrs_plain_vlen.specs.IndexSteps.{index_count}
 use Rattle.zarrs_chain_meaning.specs.vlen.PlainForm.{PlainForm}
 use Rattle.zarrs_plain_vlen.specs.VlenRead.{offsets_of_index, offsets_read}

@@ -12,7 +12,7 @@ use Rattle.zarrs_array_bytes.specs.Offsets.{rises}
 use Rattle.zarrs_bytes.specs.BytesCodec.{bytes_chunk}
 use Rattle.zarrs_chain_meaning.specs.vlen.Vlen.{offset_bytes, offset_type, offsets_in_chunk, vlen_value_parts}
 use Rattle.zarrs_chain_meaning.specs.vlen.PlainForm.{PlainForm}
-use Rattle.zarrs_plain_vlen.specs.VlenLayout.{span_numbers, head_of, layout_of, span_bytes}
+use Rattle.zarrs_chain_meaning.specs.vlen.VlenLayout.{span_numbers, head_of, layout_of, span_bytes}
 
 -- ---- the answer
 

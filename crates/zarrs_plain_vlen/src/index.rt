@@ -7,7 +7,7 @@ ghost use Rattle.zarrs_chain_meaning.specs.vlen.VlenSettings.{is_wide};
 ghost use Rattle.zarrs_chain_meaning.specs.vlen.VlenSteps.{offset_size as offset_size_of, offsets_form};
 ghost use Rattle.zarrs_plain_vlen.specs.IndexSteps.{index_count};
 ghost use Rattle.zarrs_plain_vlen.specs.StoredBytes.{SureAt, stored_bytes};
-ghost use Rattle.zarrs_plain_vlen.specs.VlenLayout.{span_numbers, span_bytes};
+ghost use Rattle.zarrs_chain_meaning.specs.vlen.VlenLayout.{span_numbers, span_bytes};
 ghost use Rattle.zarrs_plain_vlen.specs.VlenRead.{offsets_of_index, offsets_read};
 ghost use Rattle.zarrs_array_bytes.specs.Validity.{Holds};
 ghost use Rattle.zarrs_bytes.specs.BytesCodec.{bytes_chunk};
