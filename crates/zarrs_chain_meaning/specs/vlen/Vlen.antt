@@ -95,14 +95,19 @@ vlen_value_parts at_end value = do
   layout ← layout_of at_end value
   Ok (span_bytes value layout.index, span_bytes value layout.content)
 
+-- the offsets of so many elements, one more than these, that an index part stands for by its decoder, or the first error
+abbrev pub vlen_offsets : Bool → Decoder → ℕ → List ℕ → Result (List ℕ) CodecError
+vlen_offsets wide index count part = do
+  _ ← checked_u64 (count + 1)
+  chunk ← index ((count + 1) ∷ []) (offset_type wide) (offset_bytes wide 0) part
+  _ ← demand (rises (offsets_in_chunk wide chunk)) InvalidOffsets
+  Ok (offsets_in_chunk wide chunk)
+
 -- the chunk of so many elements that a value stands for, by the decoders of its two chains; or the first error
 abbrev pub vlen_chunk : Bool → Bool → Decoder → Decoder → ℕ → List ℕ → Result Chunk CodecError
 vlen_chunk wide at_end index data' count value = do
   parts ← vlen_value_parts at_end value
-  _ ← checked_u64 (count + 1)
-  offset_chunk ← index ((count + 1) ∷ []) (offset_type wide) (offset_bytes wide 0) parts.0
-  let offsets = offsets_in_chunk wide offset_chunk
-  _ ← demand (rises offsets) InvalidOffsets
+  offsets ← vlen_offsets wide index count parts.0
   byte_chunk ← in_a_row (Ok []) (λ sizes. data' sizes byte_type (0 ∷ []) parts.1) (last_of offsets)
   Ok (slices count offsets (all_bytes byte_chunk))
 
