@@ -3,7 +3,7 @@
 use Rattle.std.specs.Cmp.Lexicographic.{pointwise}
 use Rattle.std.specs.Int.{w32, w64, to_le_bytes, from_le_bytes}
 use Rattle.std.specs.List.{range_with_len}
-use Rattle.std.specs.Prelude.{ℕ, ◌+◌, ◌^◌, Bool, false, nat_lt, if◌then◌else◌, List, [], ◌∷◌, Result, Ok, map, ◌≡◌, ◌<◌, true, ◌++◌, length, nat_eq}
+use Rattle.std.specs.Prelude.{ℕ, ◌+◌, ◌^◌, Bool, false, nat_lt, if◌then◌else◌, List, [], ◌∷◌, Result, Ok, map, ◌≡◌, ◌<◌, true, ◌++◌, length, nat_eq, ◌||◌}
 use Rattle.zarrs_array_bytes.specs.Elements.{cut}
 use Rattle.zarrs_array_bytes.specs.Offsets.{rises, last_of}
 use Rattle.zarrs_array_bytes.specs.Pieces.{ends}
@@ -54,8 +54,7 @@ offset_elements wide offsets = map (λ offset. plain (offset_bytes wide offset))
 
 -- the offset type has the number
 abbrev pub offset_fits : Bool → ℕ → Bool
-offset_fits true offset = true
-offset_fits false offset = nat_lt offset (2 ^ 32)
+offset_fits wide offset = wide || nat_lt offset (2 ^ 32)
 
 -- the numbers that offsets as elements are
 abbrev pub offsets_in_chunk : Bool → Chunk → List ℕ
