@@ -117,17 +117,12 @@ items_step : (s : Result Chunk CodecError) (g : List ℕ → Chunk) → s >>= (�
 items_step (Ok items) g = refl
 items_step (Err e) g = refl
 
-rising_step : (test : Bool) (offsets : List ℕ) (content : ℕ → Result Chunk CodecError) (count : ℕ)
-    → demand test InvalidOffsets >>= (λ _. content (last_of offsets) >>= (λ items. ok (slices count offsets (all_bytes items))))
-    ≡ demand test InvalidOffsets >>= (λ _. ok offsets) >>= (λ offsets. seen all_bytes (content (last_of offsets)) >>= (λ items. ok (slices count offsets items)))
-rising_step true offsets content count = items_step (content (last_of offsets)) (slices count offsets)
-rising_step false offsets content count = refl
-
-rows_step : (wide : Bool) (r : Result Chunk CodecError) (content : ℕ → Result Chunk CodecError) (count : ℕ)
-    → r >>= (λ rows. demand (rises (offsets_in_chunk wide rows)) InvalidOffsets >>= (λ _. content (last_of (offsets_in_chunk wide rows)) >>= (λ items. ok (slices count (offsets_in_chunk wide rows) (all_bytes items)))))
-    ≡ r >>= (λ rows. demand (rises (offsets_in_chunk wide rows)) InvalidOffsets >>= (λ _. ok (offsets_in_chunk wide rows))) >>= (λ offsets. seen all_bytes (content (last_of offsets)) >>= (λ items. ok (slices count offsets items)))
-rows_step wide (Ok rows) content count = rising_step (rises (offsets_in_chunk wide rows)) (offsets_in_chunk wide rows) content count
-rows_step wide (Err e) content count = refl
+counted_step : (r : Result ℕ CodecError) (found : Result (List ℕ) CodecError) (content : ℕ → Result Chunk CodecError) (count : ℕ)
+    → r >>= (λ _. found) >>= (λ offsets. content (last_of offsets) >>= (λ items. ok (slices count offsets (all_bytes items))))
+    ≡ r >>= (λ _. found >>= (λ offsets. seen all_bytes (content (last_of offsets)) >>= (λ items. ok (slices count offsets items))))
+counted_step (Ok n) (Ok offsets) content count = items_step (content (last_of offsets)) (slices count offsets)
+counted_step (Ok n) (Err e) content count = refl
+counted_step (Err e) found content count = refl
 
 pub read_is : {B : Type 0} (f : BytesCodecs B) (codec : PlainCodec B) (index content : PlainChain B) (wide at_end : Bool) (sizes : List ℕ) (type : ElementType) (fill value : List ℕ)
     → codec ≡ vlen_codec_of index content wide at_end → codec_chunk f codec sizes type fill value ≡ vlen_read f index content wide at_end (product sizes) value
@@ -135,8 +130,8 @@ unfolding meaning
 read_is f codec index content wide at_end sizes type fill value e =
     let count = product sizes in
     ap (λ c. codec_chunk f c sizes type fill value) e
-    ∙ bind_same (vlen_value_parts at_end value) _ _ (λ parts. bind_same (checked_u64 (count + 1)) _ _ (λ _.
-    rows_step wide (chain_chunk f index ((count + 1) ∷ []) (offset_type wide) (offset_bytes wide 0) parts.0) (λ n. in_a_row (Ok []) (λ sizes. chain_chunk f content sizes byte_type (0 ∷ []) parts.1) n) count))
+    ∙ bind_same (vlen_value_parts at_end value) _ _ (λ parts.
+    counted_step (checked_u64 (count + 1)) (index_offsets f index wide (count + 1) parts.0) (λ n. in_a_row (Ok []) (λ sizes. chain_chunk f content sizes byte_type (0 ∷ []) parts.1) n) count)
 
 bind_same_at : {A C : Type 0} (r : Result A CodecError) (f g : A → Result C CodecError) → ((x : A) → r ≡ Ok x → f x ≡ g x) → r >>= f ≡ r >>= g
 bind_same_at (Ok x) f g h = h x refl

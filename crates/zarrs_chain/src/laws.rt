@@ -4,9 +4,9 @@ ghost use Rattle.zarrs_codec.specs.BytesToBytesCodec.{BytesCodecs};
 ghost use Rattle.zarrs_chain.specs.ReencodeLaws.{WrittenIsCanonical, ReencodedIsWritten, ReencodedIsCanonical, ReencodedTwice, ReencodedBack};
 
 pub use zarrs_chain_meaning::laws::{
-    answered_stands, chains_are_made_again, chains_are_made_alike, normal_moved, normal_twice,
-    normal_updated, stands_for_one, stands_is_answered, value_is_written, written_alike,
-    written_keeps, written_once, written_stands,
+    chains_are_made_again, chains_are_made_alike, normal_moved, normal_twice, normal_updated,
+    stands_for_one, stands_is_answered, value_is_written, written_alike, written_keeps,
+    written_once, written_stands,
 };
 
 /// What is written for a chunk is the canonical value of the chunk's normal form: it stands for the

@@ -1,18 +1,18 @@
 -- The steps of a chain's calls.
 use Rattle.zarrs_data_type.specs.Form.{form_of}
-use Rattle.std.proofs.Common.{◌≡◌, ◌&&◌, ℕ, suc, ◌+◌, nat_lt, Bool, false, List, [], ◌∷◌, length, Result, Ok, Err, IfOk, Option, refl, ap, sym, subst, ◌∙◌, true}
+use Rattle.std.proofs.Common.{◌≡◌, ◌&&◌, ℕ, suc, nat_lt, Bool, false, List, [], ◌∷◌, length, Result, Ok, Err, IfOk, Option, refl, ap, sym, subst, ◌∙◌, true}
 use Rattle.std.proofs.lemmas.List.FromFn.{length-map-range_with_len}
 use Rattle.zarrs_chunk.specs.Answer.{◌>>=◌, demand, seen, checked_u64, Answers, AnswersBy, memory}
 use Rattle.zarrs_chunk.specs.ChunkShape.{product}
 use Rattle.zarrs_chunk.specs.declared.codec_error.CodecError.{CodecError}
-use Rattle.zarrs_chunk.specs.declared.codec_error.CodecError.TheVariants.{InvalidFillValue, BitRange, InvalidOffsets}
+use Rattle.zarrs_chunk.specs.declared.codec_error.CodecError.TheVariants.{InvalidFillValue, BitRange}
 use Rattle.zarrs_data_type.specs.ElementType.{ElementType, fixed, text, bytes, optional}
 use Rattle.zarrs_data_type.specs.FillValue.{fill_fits}
 use Rattle.zarrs_data_type.specs.Element.{plain, Chunk}
 use Rattle.zarrs_data_type.specs.declared.endianness.Endianness.{Endianness}
 use Rattle.zarrs_array_to_array.specs.ArrayToArrayCodec.{ArrayMapping}
 use Rattle.zarrs_array_bytes.specs.Elements.{cut, elements}
-use Rattle.zarrs_array_bytes.specs.Offsets.{rises, last_of}
+use Rattle.zarrs_array_bytes.specs.Offsets.{last_of}
 use Rattle.zarrs_array_bytes.specs.Held.{Held}
 use Rattle.zarrs_array_bytes.specs.Validity.{validity, sizes_fit, Holds}
 use Rattle.zarrs_codec.specs.BytesToBytesCodec.{BytesCodecs}
@@ -27,7 +27,7 @@ use Rattle.zarrs_chain_meaning.specs.PlainChain.{PlainChain}
 use Rattle.zarrs_chain_meaning.specs.ArrayStages.{arrays_map, IsMapWhere}
 use Rattle.zarrs_chain_meaning.specs.BytesStages.{outer_value, outer_bytes, outer_representation}
 use Rattle.zarrs_chain_meaning.specs.Chain.{taken_form, codec_held_value, held_value}
-use Rattle.zarrs_chain_meaning.specs.vlen.Vlen.{offset_bytes, offsets_in_chunk, slices, vlen_value_parts, vlen_chunk, offset_type}
+use Rattle.zarrs_chain_meaning.specs.vlen.Vlen.{slices, vlen_value_parts, vlen_offsets, vlen_chunk}
 use Rattle.zarrs_chain_meaning.specs.Parts.{all_bytes, byte_type, for_each}
 use Rattle.zarrs_chain_meaning.specs.CodecMeaning.{codec_value, codec_chunk, chain_chunk, chain_value, codec_representation, chain_representation}
 use Rattle.zarrs_chain_meaning.specs.Meaning.{Decoder, around_chunk, Measure, in_a_row}
@@ -232,12 +232,9 @@ around_long f arrays measure content outer sizes type fill value chunk e =
 pub vlen_long : (wide at_end : Bool) (index content : Decoder) (count : ℕ) (value : List ℕ) (chunk : Chunk) → vlen_chunk wide at_end index content count value ≡ Ok chunk → length chunk ≡ count
 vlen_long wide at_end index content count value chunk e =
     let parts = bind_ok (vlen_value_parts at_end value) _ chunk e in
-    let more = bind_ok (checked_u64 (count + 1)) _ chunk parts.2 in
-    let rows = bind_ok (index ((count + 1) ∷ []) (offset_type wide) (offset_bytes wide 0) parts.0.0) _ chunk more.2 in
-    let offsets = offsets_in_chunk wide rows.0 in
-    let rising = bind_ok (demand (rises offsets) InvalidOffsets) _ chunk rows.2 in
-    let items = bind_ok (in_a_row (Ok []) (λ sizes. content sizes byte_type (0 ∷ []) parts.0.1) (last_of offsets)) _ chunk rising.2 in
-    ap length (sym (ok_is (slices count offsets (all_bytes items.0)) chunk items.2)) ∙ length-map-range_with_len (λ place. plain (cut offsets (all_bytes items.0) place)) 0 count
+    let offsets = bind_ok (vlen_offsets wide index count parts.0.0) _ chunk parts.2 in
+    let items = bind_ok (in_a_row (Ok []) (λ sizes. content sizes byte_type (0 ∷ []) parts.0.1) (last_of offsets.0)) _ chunk offsets.2 in
+    ap length (sym (ok_is (slices count offsets.0 (all_bytes items.0)) chunk items.2)) ∙ length-map-range_with_len (λ place. plain (cut offsets.0 (all_bytes items.0) place)) 0 count
 
 pub optional_long : (mask content : Decoder) (sizes : List ℕ) (type : ElementType) (value : List ℕ) (chunk : Chunk) → ((part : List ℕ) (flags : Chunk) → mask sizes flag_type (0 ∷ []) part ≡ Ok flags → length flags ≡ product sizes)
     → optional_chunk mask content sizes (optional type) value ≡ Ok chunk → length chunk ≡ product sizes

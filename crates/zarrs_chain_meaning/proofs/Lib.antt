@@ -1,5 +1,6 @@
 pub mod Answered
 pub mod ArraySteps
+pub mod LayoutParts
 pub mod NestedParts
 pub mod ChainSteps
 pub mod PartSteps

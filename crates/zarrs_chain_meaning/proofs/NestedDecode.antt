@@ -17,6 +17,7 @@ use Rattle.zarrs_chain_meaning.specs.Parts.{length_of, all_bytes, byte_type, for
 use Rattle.zarrs_chain_meaning.specs.vlen.Vlen.{offsets_in_chunk, slices, vlen_value_parts, vlen_chunk, offset_bytes, offset_type, arranged, VlenStands}
 use Rattle.zarrs_chain_meaning.specs.optional.Optional.{optional_parts, under_flags, optional_chunk, flag_of, present_of, flag_type, blank_fill, flag_in}
 use Rattle.zarrs_bytes.proofs.Coding.{ok}
+use Rattle.zarrs_chain_meaning.proofs.LayoutParts.{cut_parts, parts_are}
 use Rattle.zarrs_chain_meaning.proofs.NestedStages.{arrays_are_map, row_positive}
 use Rattle.zarrs_chain_meaning.proofs.OptionalFor.{OptionalStandsFor, count_set}
 
@@ -32,8 +33,8 @@ part_only stand decode law type fill part (x ∷ chunk) s = law (length (x ∷ c
 
 -- ---- parts of values
 
-vlen_parts_of : (at_end : Bool) (head index items : List ℕ) → length head ≡ 8 → length_of head ≡ length index → vlen_value_parts at_end (arranged at_end head index items) ≡ Ok (index, items)
-vlen_parts_of false head index items eight is =
+cut_parts_of : (at_end : Bool) (head index items : List ℕ) → length head ≡ 8 → length_of head ≡ length index → cut_parts at_end (arranged at_end head index items) ≡ Ok (index, items)
+cut_parts_of false head index items eight is =
     let v : List ℕ = head ++ (index ++ items) in
     let long : length v ≡ 8 + (length index + length items) = omega (arith, length-append head (index ++ items), length-append index items, eight) in
     let number : length_of (take 8 v) ≡ length index = ap length_of (take_at head (index ++ items) 8 eight) ∙ is in
@@ -43,7 +44,7 @@ vlen_parts_of false head index items eight is =
     let first : nat_le 8 (length v) ≡ true = le-leb 8 (length v) (omega arith) in
     let second : nat_le (length_of (take 8 v)) (length v - 8) ≡ true = le-leb (length_of (take 8 v)) (length v - 8) (omega (arith, number)) in
     rw (first, second) (λ i. ok (ix i, dx i))
-vlen_parts_of true head index items eight is =
+cut_parts_of true head index items eight is =
     let v : List ℕ = items ++ (index ++ head) in
     let split : (items ++ index) ++ head ≡ v = append_assoc items index head in
     let long : length v ≡ length items + (length index + 8) = omega (arith, length-append items (index ++ head), length-append index head, eight) in
@@ -56,6 +57,9 @@ vlen_parts_of true head index items eight is =
     let first : nat_le 8 (length v) ≡ true = le-leb 8 (length v) (omega arith) in
     let second : nat_le (length_of (drop (length v - 8) v)) (length v - 8) ≡ true = le-leb (length_of (drop (length v - 8) v)) (length v - 8) (omega (arith, number)) in
     rw (first, second) (λ i. ok (ix i, dx i))
+
+vlen_parts_of : (at_end : Bool) (head index items : List ℕ) → length head ≡ 8 → length_of head ≡ length index → vlen_value_parts at_end (arranged at_end head index items) ≡ Ok (index, items)
+vlen_parts_of at_end head index items eight is = sym (parts_are at_end (arranged at_end head index items)) ∙ cut_parts_of at_end head index items eight is
 
 optional_parts_of : (head next mask items : List ℕ) → length head ≡ 8 → length next ≡ 8 → length_of head ≡ length mask → length_of next ≡ length items → length (head ++ (next ++ (mask ++ items))) < 2 ^ 64
     → optional_parts (head ++ (next ++ (mask ++ items))) ≡ Ok (mask, items)

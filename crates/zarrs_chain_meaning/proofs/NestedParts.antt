@@ -13,6 +13,7 @@ use Rattle.zarrs_chain_meaning.specs.Parts.{length_of, for_each}
 use Rattle.zarrs_chain_meaning.specs.vlen.Vlen.{vlen_value_parts, arranged}
 use Rattle.zarrs_chain_meaning.specs.optional.Optional.{optional_parts, flag_in, under_flags, flag_of, present_of}
 use Rattle.zarrs_chain_meaning.proofs.ArraySteps.{ok_is}
+use Rattle.zarrs_chain_meaning.proofs.LayoutParts.{cut_parts, parts_are}
 use Rattle.zarrs_chain_meaning.proofs.OptionalFor.{count_set}
 
 -- ---- parts of lists
@@ -65,8 +66,8 @@ pub record VlenCut (at_end : Bool) (value index items : List ℕ) : Type 0 where
 abbrev IsVlenCut : Bool → List ℕ → List ℕ × List ℕ → Type 0
 IsVlenCut at_end value parts = VlenCut at_end value parts.0 parts.1
 
-pub vlen_cut : (at_end : Bool) (value : List ℕ) (parts : List ℕ × List ℕ) → vlen_value_parts at_end value ≡ Ok parts → VlenCut at_end value parts.0 parts.1
-vlen_cut false value parts e =
+cut_so : (at_end : Bool) (value : List ℕ) (parts : List ℕ × List ℕ) → cut_parts at_end value ≡ Ok parts → VlenCut at_end value parts.0 parts.1
+cut_so false value parts e =
     let size = length_of (take 8 value) in
     let a = bind_ok (demand (nat_le 8 (length value)) (InvalidBytesLength (length value) 8)) _ parts e in
     let b = bind_ok (demand (nat_le size (length value - 8)) IndexLength) _ parts a.2 in
@@ -74,7 +75,7 @@ vlen_cut false value parts e =
     let inside = from_le_test size (length value - 8) (demand_ok (nat_le size (length value - 8)) IndexLength b.0 b.1) in
     let c = front_cut value size enough inside in
     subst (IsVlenCut false value) (ok_is (take size (drop 8 value), drop size (drop 8 value)) parts b.2) (record { head = take 8 value; parts = c.0; head_size = c.1; head_is = sym c.2 })
-vlen_cut true value parts e =
+cut_so true value parts e =
     let at = length value - 8 in
     let size = length_of (drop at value) in
     let a = bind_ok (demand (nat_le 8 (length value)) (InvalidBytesLength (length value) 8)) _ parts e in
@@ -83,6 +84,9 @@ vlen_cut true value parts e =
     let inside = from_le_test size at (demand_ok (nat_le size at) IndexLength b.0 b.1) in
     let c = back_cut value at size (omega (arith, enough)) inside in
     subst (IsVlenCut true value) (ok_is (take size (drop (at - size) value), take (at - size) value) parts b.2) (record { head = drop at value; parts = c.0; head_size = c.1; head_is = sym c.2 })
+
+pub vlen_cut : (at_end : Bool) (value : List ℕ) (parts : List ℕ × List ℕ) → vlen_value_parts at_end value ≡ Ok parts → VlenCut at_end value parts.0 parts.1
+vlen_cut at_end value parts e = cut_so at_end value parts (parts_are at_end value ∙ e)
 
 -- the parts of a value of `optional`
 pub record OptionalCut (value mask items : List ℕ) : Type 0 where

@@ -21,7 +21,7 @@ use Rattle.zarrs_bytes.proofs.Coding.{demand_ok, checked_ok, bind_ok}
 use Rattle.zarrs_chain_meaning.specs.ArrayStages.{arrays_map}
 use Rattle.zarrs_chain_meaning.specs.BytesStages.{outer_bytes}
 use Rattle.zarrs_chain_meaning.specs.Meaning.{Decoder, around_chunk, Measure, Standing, StandsThrough, in_a_row}
-use Rattle.zarrs_chain_meaning.specs.vlen.Vlen.{offsets_in_chunk, slices, vlen_value_parts, vlen_chunk, offset_bytes, offset_type, VlenStands}
+use Rattle.zarrs_chain_meaning.specs.vlen.Vlen.{offsets_in_chunk, slices, vlen_value_parts, vlen_offsets, vlen_chunk, offset_bytes, offset_type, VlenStands}
 use Rattle.zarrs_chain_meaning.specs.optional.Optional.{optional_parts, under_flags, optional_chunk, flag_of, present_of, flag_type, blank_fill, OptionalStands, flag_in}
 use Rattle.zarrs_chain_meaning.specs.Parts.{all_bytes, byte_type, for_each}
 use Rattle.zarrs_vlen_v2.proofs.Rows.{string_is}
@@ -76,11 +76,14 @@ pub vlen_read : (wide at_end : Bool) (is cs : Standing) (ie ce : Decoder) → Re
 vlen_read wide at_end is cs ie ce ilaw claw count type value chunk v e =
     let a = bind_ok (vlen_value_parts at_end value) _ chunk e in
     let found = vlen_cut at_end value a.0 a.1 in
-    let b = bind_ok (checked_u64 (count + 1)) _ chunk a.2 in
-    let i = bind_ok (ie ((count + 1) ∷ []) (offset_type wide) (offset_bytes wide 0) a.0.0) _ chunk b.2 in
-    let offsets = offsets_in_chunk wide i.0 in
-    let r = bind_ok (demand (rises offsets) InvalidOffsets) _ chunk i.2 in
-    let d = bind_ok (in_a_row (Ok []) (λ sizes. ce sizes byte_type (0 ∷ []) a.0.1) (last_of offsets)) _ chunk r.2 in
+    let o = bind_ok (vlen_offsets wide ie count a.0.0) _ chunk a.2 in
+    let offsets = o.0 in
+    let b = bind_ok (checked_u64 (count + 1)) _ offsets o.1 in
+    let i = bind_ok (ie ((count + 1) ∷ []) (offset_type wide) (offset_bytes wide 0) a.0.0) _ offsets b.2 in
+    let numbers = offsets_in_chunk wide i.0 in
+    let r = bind_ok (demand (rises numbers) InvalidOffsets) _ offsets i.2 in
+    let same : numbers ≡ offsets = ok_is numbers offsets r.2 in
+    let d = bind_ok (in_a_row (Ok []) (λ sizes. ce sizes byte_type (0 ∷ []) a.0.1) (last_of offsets)) _ chunk o.2 in
     let slices_is : slices count offsets (all_bytes d.0) ≡ chunk = ok_is (slices count offsets (all_bytes d.0)) chunk d.2 in
     let index = ilaw ((count + 1) ∷ []) (offset_type wide) (offset_bytes wide 0) a.0.0 i.0 (row_positive (count + 1) (omega arith)) i.1 in
     let items = part_read cs ce claw byte_type (0 ∷ []) (last_of offsets) a.0.1 d.0 d.1 in (
@@ -95,10 +98,10 @@ vlen_read wide at_end is cs ie ce ilaw claw count type value chunk v e =
         head_is = found.head_is;
         countable = (checked_ok (count + 1) b.0 b.1).0;
         index_stands = index.0;
-        rising = demand_ok (rises offsets) InvalidOffsets r.0 r.1;
-        byte_count = items.1;
+        rising = demand_ok (rises numbers) InvalidOffsets r.0 r.1;
+        byte_count = items.1 ∙ sym (ap last_of same);
         data_stands = items.0;
-        elements = sym slices_is;
+        elements = sym slices_is ∙ ap (λ (x : List ℕ). slices count x (all_bytes d.0)) (sym same);
       },
       subst (IsChunk type count) slices_is (slices_are type count offsets (all_bytes d.0) v),
     )

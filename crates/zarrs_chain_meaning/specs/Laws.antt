@@ -31,19 +31,12 @@ ChainStandsForOne {B} f =
     → IsChainOfMappings chain → All (λ size. 0 < size) sizes
     → (chain_meaning chain).Stands f sizes type fill value chunk → (chain_meaning chain).Stands f sizes type fill value other → chunk ≡ other
 
--- The chunk that a value stands for is what a chain answers.
+-- A chain answers a chunk of a value exactly where the value stands for it.
 abbrev pub StandsIsAnswered : {B : Type 0} → BytesCodecs B → Type 0
 StandsIsAnswered {B} f =
     (chain : PlainChain B) (sizes : List ℕ) (type : ElementType) (fill value : List ℕ) (chunk : Chunk)
     → IsChainOfMappings chain → All (λ size. 0 < size) sizes
-    → (chain_meaning chain).Stands f sizes type fill value chunk → (chain_meaning chain).chunk f sizes type fill value ≡ Ok chunk
-
--- What a chain answers of a value is a chunk that it stands for.
-abbrev pub AnsweredStands : {B : Type 0} → BytesCodecs B → Type 0
-AnsweredStands {B} f =
-    (chain : PlainChain B) (sizes : List ℕ) (type : ElementType) (fill value : List ℕ) (chunk : Chunk)
-    → IsChainOfMappings chain → All (λ size. 0 < size) sizes
-    → (chain_meaning chain).chunk f sizes type fill value ≡ Ok chunk → (chain_meaning chain).Stands f sizes type fill value chunk
+    → ((chain_meaning chain).chunk f sizes type fill value ≡ Ok chunk) ↔ (chain_meaning chain).Stands f sizes type fill value chunk
 
 -- For a chunk at most one value is written.
 abbrev pub ChainWrittenOnce : {B : Type 0} → BytesCodecs B → Type 0

@@ -14,7 +14,7 @@ ghost use Rattle.zarrs_chain_meaning.specs.MadeChain.{chain_made, chain_made_by}
 ghost use Rattle.zarrs_chain_meaning.specs.PlainChain.{PlainCodec};
 ghost use Rattle.zarrs_chain_meaning.specs.vlen.PlainForm.{PlainForm};
 ghost use Rattle.zarrs_chain_meaning.specs.vlen.PlainVlen.{plain_form_of, plain_codec_of};
-ghost use Rattle.zarrs_chain_meaning.specs.Laws.{ChainWrittenStands, ChainStandsForOne, StandsIsAnswered, AnsweredStands, ChainWrittenOnce, ValueIsWritten, NormalFormUpdated, WrittenForNormal, ChainWrittenAlike, WrittenKeeps, SizesGoByCount, SizesGrow};
+ghost use Rattle.zarrs_chain_meaning.specs.Laws.{ChainWrittenStands, ChainStandsForOne, StandsIsAnswered, ChainWrittenOnce, ValueIsWritten, NormalFormUpdated, WrittenForNormal, ChainWrittenAlike, WrittenKeeps, SizesGoByCount, SizesGrow};
 
 /// What is written for a chunk stands for its normal form.
 pub fn written_stands<B>()
@@ -26,14 +26,9 @@ pub fn stands_for_one<B>()
     ensures law { (f : BytesCodecs B) → ChainStandsForOne f }
 {}
 
-/// The chunk that a value stands for is what a chain answers.
+/// A chain answers a chunk of a value exactly where the value stands for it.
 pub fn stands_is_answered<B>()
     ensures law { (f : BytesCodecs B) → StandsIsAnswered f }
-{}
-
-/// What a chain answers of a value is a chunk that it stands for.
-pub fn answered_stands<B>()
-    ensures law { (f : BytesCodecs B) → AnsweredStands f }
 {}
 
 /// For a chunk at most one value is written.

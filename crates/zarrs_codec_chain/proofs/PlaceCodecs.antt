@@ -45,7 +45,7 @@ use Rattle.zarrs_packbits.specs.PartialRead.{all_below, packed_place_bytes, pack
 use Rattle.zarrs_plain_vlen.proofs.Alike.{reads_alike}
 use Rattle.zarrs_plain_vlen.proofs.Selected.{decoded_selects}
 use Rattle.zarrs_plain_vlen.specs.PlainRead.{plain_read}
-use Rattle.zarrs_plain_vlen.specs.VlenLayout.{VlenLayout, layout_of, span_bytes, span_numbers}
+use Rattle.zarrs_chain_meaning.specs.vlen.VlenLayout.{VlenLayout, layout_of, span_bytes, span_numbers}
 use Rattle.zarrs_plain_vlen.specs.VlenRead.{element_is_there, element_numbers, elements_at, elements_read, head_numbers, offsets_read, rests_on, stored_rests_on}
 
 -- ---- numbers place by place

@@ -16,10 +16,10 @@ pub use zarrs_chain_meaning::machine_bytes::chunks_are_bytes;
 // The laws of boxes, of containers and of whole chains.
 pub use zarrs_array_bytes::laws::tight_containers_are_same;
 pub use zarrs_chain::laws::{
-    answered_stands, chains_are_made_again, chains_are_made_alike, normal_moved, normal_twice,
-    normal_updated, reencoded_back, reencoded_is_canonical, reencoded_is_written, reencoded_twice,
-    stands_for_one, stands_is_answered, value_is_written, written_alike, written_is_canonical,
-    written_keeps, written_once, written_stands,
+    chains_are_made_again, chains_are_made_alike, normal_moved, normal_twice, normal_updated,
+    reencoded_back, reencoded_is_canonical, reencoded_is_written, reencoded_twice, stands_for_one,
+    stands_is_answered, value_is_written, written_alike, written_is_canonical, written_keeps,
+    written_once, written_stands,
 };
 pub use zarrs_chunk::laws::{numbers_name_elements, places_are_in_order, tuples_go_by_axis};
 

@@ -17,10 +17,10 @@ use Rattle.zarrs_bytes.proofs.Coding.{ok}
 use Rattle.zarrs_chain_meaning.proofs.ArraySteps.{ok_is}
 use Rattle.zarrs_plain_vlen.specs.Laws.{VlenReadsAlike}
 use Rattle.zarrs_chain_meaning.specs.vlen.PlainForm.{PlainForm}
-use Rattle.zarrs_plain_vlen.specs.VlenLayout.{VlenLayout, span_bytes, span_numbers, head_at, head_of, layout_at, layout_within, layout_of}
+use Rattle.zarrs_chain_meaning.specs.vlen.VlenLayout.{VlenLayout, span_bytes, span_numbers, head_at, head_of, layout_at, layout_within, layout_of}
 use Rattle.zarrs_plain_vlen.specs.VlenRead.{element_is_there, offsets_read, elements_read, vlen_read, element_numbers, elements_at, rests_on}
 use Rattle.zarrs_plain_vlen.proofs.ElementBytes.{numbers_at, cut_numbered}
-use Rattle.zarrs_plain_vlen.proofs.LayoutParts.{parts_at, parts_are}
+use Rattle.zarrs_chain_meaning.proofs.LayoutParts.{parts_at}
 use Rattle.zarrs_bytes.proofs.Ranges.{take_drop-numbers}
 use Rattle.zarrs_plain_vlen.proofs.RangesRead.{byte_of}
 use Rattle.zarrs_bytes.proofs.Alike.{All-first, All-second}
@@ -141,9 +141,7 @@ module _ (form : PlainForm) (count : ℕ) (value other places : List ℕ) (long 
   read_each v (Err e) = refl
 
   read_is : (v : List ℕ) → vlen_read form count v places ≡ read_at v (layout_of form.at_end v)
-  read_is v =
-      ap (λ (r : Result (List ℕ × List ℕ) CodecError). r >>= λ parts. offsets_read form count parts.0 >>= λ offsets. elements_read offsets parts.1 places) (parts_are form.at_end v)
-      ∙ read_each v (layout_of form.at_end v)
+  read_is v = read_each v (layout_of form.at_end v)
 
   from_offsets : (l : VlenLayout) (r : Result (List ℕ) CodecError) → LayoutInside n l → All Same (result_unwrap_or (r >>= λ offsets. ok (element_numbers l.content.start offsets places)) [])
       → (r >>= λ offsets. elements_read offsets (span_bytes value l.content) places) ≡ (r >>= λ offsets. elements_read offsets (span_bytes other l.content) places)

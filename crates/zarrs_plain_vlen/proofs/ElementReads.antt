@@ -18,7 +18,7 @@ use Rattle.zarrs_codec.specs.ByteSpan.{ByteSpan}
 use Rattle.zarrs_bytes.proofs.Coding.{ok}
 use Rattle.zarrs_chain_meaning.proofs.ArraySteps.{ok_is}
 use Rattle.zarrs_plain_vlen.specs.Elements.{element_zeros, joined_elements}
-use Rattle.zarrs_plain_vlen.specs.VlenLayout.{span_bytes}
+use Rattle.zarrs_chain_meaning.specs.vlen.VlenLayout.{span_bytes}
 use Rattle.zarrs_plain_vlen.specs.VlenRead.{element_is_there, elements_read, element_numbers}
 use Rattle.zarrs_plain_vlen.proofs.ElementBytes.{runs_there, numbers_inside, cuts_numbered, cuts_long, ends_long, gathered_holds}
 use Rattle.zarrs_bytes.proofs.Ranges.{ranges_within-numbers, ranges_bytes-numbers}

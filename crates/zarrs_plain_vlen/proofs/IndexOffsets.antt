@@ -4,6 +4,7 @@ use Rattle.std.specs.Prelude.{IsOkAnd}
 use Rattle.std.specs.List.{range_with_len}
 use Rattle.std.proofs.lemmas.List.FromFn.{length-map-range_with_len}
 use Rattle.zarrs_chunk.specs.Answer.{◌>>=◌, Answers, memory, demand, checked_u64}
+use Rattle.zarrs_chunk.specs.AnswerLaws.{demand_ok}
 use Rattle.zarrs_chunk.specs.ChunkShape.{product}
 use Rattle.zarrs_chunk.specs.declared.codec_error.CodecError.{CodecError}
 use Rattle.zarrs_chunk.specs.declared.codec_error.CodecError.TheVariants.{InvalidBytesLength, InvalidOffsets, Overflow}
@@ -21,10 +22,10 @@ use Rattle.zarrs_chain_meaning.proofs.ArraySteps.{err, ok_is}
 use Rattle.zarrs_chain_meaning.proofs.VlenOffsets.{numbers_in, numbers_long, zero_fits, fixed_held, rises_are}
 use Rattle.zarrs_array_bytes.proofs.ElementLemmas.{length_between}
 use Rattle.zarrs_codec.specs.ByteSpan.{ByteSpan}
-use Rattle.zarrs_plain_vlen.specs.VlenLayout.{span_bytes}
-use Rattle.zarrs_plain_vlen.specs.IndexSteps.{index_count}
+use Rattle.zarrs_chain_meaning.specs.vlen.VlenLayout.{span_bytes}
+use Rattle.zarrs_plain_vlen.specs.IndexSteps.{index_count, offsets_of_index}
 use Rattle.zarrs_chain_meaning.specs.vlen.PlainForm.{PlainForm}
-use Rattle.zarrs_plain_vlen.specs.VlenRead.{offsets_of_index, offsets_read}
+use Rattle.zarrs_plain_vlen.specs.VlenRead.{offsets_read}
 use Rattle.zarrs_chain_meaning.proofs.ChainSteps.{held_chunk}
 
 pub same_answer : {A : Type 0} (r : Result A CodecError) → (r >>= λ x. ok x) ≡ r
@@ -116,6 +117,14 @@ offsets_long form count part offsets e =
     let rows = bind_ok (bytes_chunk (Some form.order) (offsets_form form.wide (count + 1)) part) _ offsets n.2 in
     let rising = bind_ok (demand (rises (offsets_in_chunk form.wide rows.0)) InvalidOffsets) _ offsets rows.2 in
     ap length (sym (ok_is (offsets_in_chunk form.wide rows.0) offsets rising.2)) ∙ numbers_long form.wide rows.0 ∙ row_long form.order form.wide (count + 1) part rows.0 rows.1
+
+-- and they never fall
+pub offsets_rise : (form : PlainForm) (count : ℕ) (part offsets : List ℕ) → offsets_read form count part ≡ Ok offsets → rises offsets ≡ true
+offsets_rise form count part offsets e =
+    let n = bind_ok (checked_u64 (count + 1)) _ offsets e in
+    let rows = bind_ok (bytes_chunk (Some form.order) (offsets_form form.wide (count + 1)) part) _ offsets n.2 in
+    let rising = bind_ok (demand (rises (offsets_in_chunk form.wide rows.0)) InvalidOffsets) _ offsets rows.2 in
+    subst (λ (x : List ℕ). rises x ≡ true) (ok_is (offsets_in_chunk form.wide rows.0) offsets rising.2) (demand_ok (rises (offsets_in_chunk form.wide rows.0)) InvalidOffsets rising.0 rising.1)
 
 -- ---- what a call answers
 

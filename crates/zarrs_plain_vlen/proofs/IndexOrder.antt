@@ -10,7 +10,7 @@ use Rattle.zarrs_bytes.proofs.Coding.{ok}
 use Rattle.zarrs_chain_meaning.proofs.ArraySteps.{err}
 use Rattle.zarrs_plain_vlen.specs.Laws.{spelled_offsets, IndexIsRefusedInOrder}
 use Rattle.zarrs_chain_meaning.specs.vlen.PlainForm.{PlainForm}
-use Rattle.zarrs_plain_vlen.specs.VlenRead.{offsets_of_index}
+use Rattle.zarrs_plain_vlen.specs.IndexSteps.{offsets_of_index}
 use Rattle.zarrs_plain_vlen.proofs.IndexOffsets.{at_length, guard, index_long, row_is}
 
 module _ (form : PlainForm) (count : ℕ) (index : List ℕ) where

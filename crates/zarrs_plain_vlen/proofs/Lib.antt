@@ -1,7 +1,6 @@
 pub mod ElementBytes
 pub mod RangesRead
 pub mod IndexOffsets
-pub mod LayoutParts
 pub mod StoredReads
 pub mod Selected
 pub mod Alike

@@ -11,17 +11,17 @@ use Rattle.zarrs_chunk.specs.Selection.{Selection, places_of}
 use Rattle.zarrs_chunk.proofs.PlaceLaws.{known_below}
 use Rattle.zarrs_chain_meaning.specs.CodecMeaning.{CodecStands, codec_chunk, codec_representation, meaning}
 use Rattle.zarrs_chain_meaning.specs.Meaning.{Decoder, around_chunk, in_a_row}
-use Rattle.zarrs_chain_meaning.specs.vlen.Vlen.{vlen_chunk, vlen_value_parts, slices, offsets_in_chunk}
+use Rattle.zarrs_chain_meaning.specs.vlen.Vlen.{vlen_chunk, vlen_value_parts, slices}
 use Rattle.zarrs_chain_meaning.specs.Parts.{all_bytes, byte_type}
 use Rattle.zarrs_chunk.specs.declared.codec_error.CodecError.{CodecError}
-use Rattle.zarrs_chunk.specs.declared.codec_error.CodecError.TheVariants.{InvalidBytesLength, InvalidOffsets, InvalidByteRange, Overflow, EndiannessMissing}
+use Rattle.zarrs_chunk.specs.declared.codec_error.CodecError.TheVariants.{InvalidBytesLength, InvalidByteRange, Overflow, EndiannessMissing}
 use Rattle.zarrs_data_type.specs.Element.{Element, plain, absent, Chunk}
 use Rattle.zarrs_data_type.specs.ElementType.{ElementType}
 use Rattle.zarrs_data_type.specs.Form.{form_of}
 use Rattle.zarrs_data_type.specs.declared.endianness.Endianness.{Endianness}
 use Rattle.zarrs_data_type.specs.declared.endianness.Endianness.TheVariants.{Little, Big}
 use Rattle.zarrs_array_bytes.specs.Elements.{cut, piece, select}
-use Rattle.zarrs_array_bytes.specs.Offsets.{rises, is_offsets, last_of}
+use Rattle.zarrs_array_bytes.specs.Offsets.{is_offsets, last_of}
 use Rattle.zarrs_array_bytes.proofs.ElementLemmas.{length_piece}
 use Rattle.zarrs_array_bytes.proofs.OffsetLemmas.{rising_steps, rising_last, flat_map-concat}
 use Rattle.zarrs_array_bytes.proofs.Pieces.{concat-pieces}
@@ -40,9 +40,8 @@ use Rattle.zarrs_chain_meaning.proofs.CodecLaws.{chunk_only}
 use Rattle.zarrs_plain_vlen.specs.Laws.{VlenReadSelects, PartSelects}
 use Rattle.zarrs_chain_meaning.specs.vlen.PlainVlen.{plain_codec_of}
 use Rattle.zarrs_chain_meaning.specs.vlen.PlainForm.{PlainForm}
-use Rattle.zarrs_chain_meaning.specs.vlen.VlenSteps.{offsets_form}
-use Rattle.zarrs_plain_vlen.specs.VlenRead.{element_is_there, offsets_of_index, offsets_read, elements_read, vlen_read}
-use Rattle.zarrs_plain_vlen.proofs.IndexOffsets.{offsets_long, row_is}
+use Rattle.zarrs_plain_vlen.specs.VlenRead.{element_is_there, offsets_read, elements_read, vlen_read}
+use Rattle.zarrs_plain_vlen.proofs.IndexOffsets.{offsets_long, offsets_rise, row_is}
 use Rattle.zarrs_chain_meaning.proofs.VlenOffsets.{rises_are}
 
 -- what the codec `bytes` reads
@@ -145,22 +144,16 @@ whole_selects : (form : PlainForm) (order : Option Endianness) (count : ℕ) (va
     → vlen_chunk form.wide form.at_end (bytes_decoder (Some form.order)) (bytes_decoder order) count value ≡ Ok chunk → All (λ place. place < count) places
     → vlen_read form count value places ≡ Ok (select chunk places)
 whole_selects form order count value chunk places e below =
-    let wide = form.wide in
     let parts = bind_ok (vlen_value_parts form.at_end value) _ chunk e in
     let index = parts.0.0 in
     let content = parts.0.1 in
-    let counted = bind_ok (checked_u64 (count + 1)) _ chunk parts.2 in
-    let rows = bind_ok (bytes_chunk (Some form.order) (offsets_form wide (count + 1)) index) _ chunk counted.2 in
-    let offsets = offsets_in_chunk wide rows.0 in
-    let rising = bind_ok (demand (rises offsets) InvalidOffsets) _ chunk rows.2 in
-    let items = bind_ok (in_a_row (Ok []) (λ sizes. bytes_decoder order sizes byte_type (0 ∷ []) content) (last_of offsets)) _ chunk rising.2 in
+    let found = bind_ok (offsets_read form count index) _ chunk parts.2 in
+    let offsets = found.0 in
+    let read = found.1 in
+    let items = bind_ok (in_a_row (Ok []) (λ sizes. bytes_decoder order sizes byte_type (0 ∷ []) content) (last_of offsets)) _ chunk found.2 in
     let is : slices count offsets (all_bytes items.0) ≡ chunk = ok_is _ chunk items.2 in
-    let read : offsets_read form count index ≡ Ok offsets =
-    next_answer (checked_u64 (count + 1)) counted.0 (λ _. offsets_of_index form (count + 1) index) counted.1
-    ∙ next_answer (bytes_chunk (Some form.order) (offsets_form wide (count + 1)) index) rows.0 (λ rs. demand (rises (offsets_in_chunk wide rs)) InvalidOffsets >>= λ _. ok (offsets_in_chunk wide rs)) rows.1
-    ∙ next_answer (demand (rises offsets) InvalidOffsets) rising.0 (λ _. ok offsets) rising.1 in
     let long : length offsets ≡ count + 1 = offsets_long form count index offsets read in
-    let up : is_offsets offsets ≡ true = rises_are offsets (omega (arith, long)) ∙ demand_ok (rises offsets) InvalidOffsets rising.1 in
+    let up : is_offsets offsets ≡ true = rises_are offsets (omega (arith, long)) ∙ offsets_rise form count index offsets read in
     let known = data_known order (last_of offsets) content items.0 items.1 in
     let there : list_all (element_is_there offsets (length content)) places ≡ true = there_all offsets (length content) count places up long (λ some. (known some).0) below in
     next_answer (vlen_value_parts form.at_end value) parts.0 (λ p. offsets_read form count p.0 >>= λ os. elements_read os p.1 places) parts.1

@@ -10,12 +10,12 @@ use Rattle.zarrs_chain_meaning.specs.vlen.Vlen.{vlen_value_parts}
 use Rattle.zarrs_bytes.proofs.Coding.{ok}
 use Rattle.zarrs_chain_meaning.proofs.ArraySteps.{err, next_answer}
 use Rattle.zarrs_chain_meaning.specs.vlen.PlainForm.{PlainForm}
-use Rattle.zarrs_plain_vlen.specs.VlenLayout.{VlenLayout, span_bytes, span_numbers, head_of, layout_of}
+use Rattle.zarrs_chain_meaning.specs.vlen.VlenLayout.{VlenLayout, span_bytes, span_numbers, head_of, layout_of}
 use Rattle.zarrs_data_type.specs.ElementType.{ElementType}
 use Rattle.zarrs_plain_vlen.specs.PlainRead.{plain_read}
 use Rattle.zarrs_plain_vlen.specs.VlenRead.{stored_vlen_read, offsets_read, elements_read, vlen_read, elements_at, rests_on}
 use Rattle.zarrs_plain_vlen.proofs.IndexOffsets.{offsets_long}
-use Rattle.zarrs_plain_vlen.proofs.LayoutParts.{parts_at, parts_are}
+use Rattle.zarrs_chain_meaning.proofs.LayoutParts.{parts_at}
 use Rattle.zarrs_bytes.proofs.BytesAt.{sure_parts}
 
 next_err : {A B : Type 0} (r : Result A CodecError) (cause : CodecError) (f : A → Result B CodecError) → r ≡ Err cause → (r >>= f) ≡ err cause
@@ -28,7 +28,7 @@ module _ (form : PlainForm) (count : ℕ) (value places : List ℕ) where
   rest parts = offsets_read form count parts.0 >>= λ offsets. elements_read offsets parts.1 places
 
   parts_ok : (layout : VlenLayout) → layout_of form.at_end value ≡ Ok layout → vlen_value_parts form.at_end value ≡ ok (parts_at value layout)
-  parts_ok layout e = parts_are form.at_end value ∙ next_answer (layout_of form.at_end value) layout (λ l. ok (parts_at value l)) e
+  parts_ok layout e = next_answer (layout_of form.at_end value) layout (λ l. ok (parts_at value l)) e
 
   pub read_unindexed : (layout : VlenLayout) (cause : CodecError) → layout_of form.at_end value ≡ Ok layout → offsets_read form count (span_bytes value layout.index) ≡ Err cause → vlen_read form count value places ≡ Err cause
   read_unindexed layout cause e f =

@@ -1,5 +1,5 @@
 -- What a layout is seen as.
-use Rattle.zarrs_plain_vlen.specs.VlenLayout.{VlenLayout}
+use Rattle.zarrs_chain_meaning.specs.vlen.VlenLayout.{VlenLayout}
 use Rattle.zarrs_plain_vlen.specs.declared.layout.Layout.{Layout}
 
 -- where index and data stand

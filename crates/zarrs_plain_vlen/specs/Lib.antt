@@ -1,5 +1,4 @@
 -- A plain `vlen` in part.
-pub mod VlenLayout
 pub mod StoredBytes
 pub mod IndexSteps
 pub mod Layout

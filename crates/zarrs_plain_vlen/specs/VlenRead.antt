@@ -1,33 +1,23 @@
 -- What a read in part answers through a plain `vlen`, and the bytes that the answer rests on.
-use Rattle.std.specs.Prelude.{ℕ, ◌+◌, ◌-◌, Bool, nat_le, ◌||◌, Option, Some, None, List, [], ◌∷◌, ◌++◌, length, map, slice_index, Result, Ok, Err}
+use Rattle.std.specs.Prelude.{ℕ, ◌+◌, ◌-◌, Bool, nat_le, ◌||◌, Option, Some, None, List, [], ◌++◌, length, map, slice_index, Result, Ok}
 use Rattle.std.specs.Result.{result_unwrap_or}
 use Rattle.std.specs.List.{flat_map, list_all, range_with_len}
-use Rattle.zarrs_chunk.specs.Answer.{◌>>=◌, demand, checked_u64, seen}
+use Rattle.zarrs_chunk.specs.Answer.{◌>>=◌, demand, seen}
 use Rattle.zarrs_chunk.specs.declared.codec_error.CodecError.{CodecError}
-use Rattle.zarrs_chunk.specs.declared.codec_error.CodecError.TheVariants.{InvalidOffsets, InvalidByteRange}
+use Rattle.zarrs_chunk.specs.declared.codec_error.CodecError.TheVariants.{InvalidByteRange}
 use Rattle.zarrs_data_type.specs.Element.{plain, Chunk}
 use Rattle.zarrs_data_type.specs.Form.{form_of}
 use Rattle.zarrs_array_bytes.specs.Elements.{cut}
-use Rattle.zarrs_array_bytes.specs.Offsets.{rises}
 use Rattle.zarrs_bytes.specs.BytesCodec.{bytes_chunk}
-use Rattle.zarrs_chain_meaning.specs.vlen.Vlen.{offset_bytes, offset_type, offsets_in_chunk, vlen_value_parts}
+use Rattle.zarrs_chain_meaning.specs.vlen.Vlen.{vlen_offsets, vlen_value_parts}
 use Rattle.zarrs_chain_meaning.specs.vlen.PlainForm.{PlainForm}
-use Rattle.zarrs_plain_vlen.specs.VlenLayout.{span_numbers, head_of, layout_of, span_bytes}
+use Rattle.zarrs_chain_meaning.specs.vlen.VlenLayout.{span_numbers, head_of, layout_of, span_bytes}
 
 -- ---- the answer
 
--- so many offsets that an index part stands for, or the first error
-abbrev pub offsets_of_index : PlainForm → ℕ → List ℕ → Result (List ℕ) CodecError
-offsets_of_index form count index = do
-  chunk ← bytes_chunk (Some form.order) (form_of (count ∷ []) (offset_type form.wide) (offset_bytes form.wide 0)) index
-  _ ← demand (rises (offsets_in_chunk form.wide chunk)) InvalidOffsets
-  Ok (offsets_in_chunk form.wide chunk)
-
 -- the offsets of so many elements, one more than these, that an index part stands for, or the first error
 abbrev pub offsets_read : PlainForm → ℕ → List ℕ → Result (List ℕ) CodecError
-offsets_read form count index = do
-  _ ← checked_u64 (count + 1)
-  offsets_of_index form (count + 1) index
+offsets_read form = vlen_offsets form.wide (λ sizes type fill. bytes_chunk (Some form.order) (form_of sizes type fill))
 
 -- the element at a place is empty, or ends within so many bytes of data
 abbrev pub element_is_there : List ℕ → ℕ → ℕ → Bool

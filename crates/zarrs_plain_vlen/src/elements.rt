@@ -11,7 +11,7 @@ ghost use Rattle.zarrs_codec.specs.StorageState.{after_reading};
 ghost use Rattle.zarrs_array_bytes.specs.Cuts.{run_size};
 ghost use Rattle.zarrs_plain_vlen.specs.Elements.{AddsNumbers, joined_size, run_numbers, element_zeros, joined_elements};
 ghost use Rattle.zarrs_plain_vlen.specs.StoredBytes.{SureAt, stored_bytes};
-ghost use Rattle.zarrs_plain_vlen.specs.VlenLayout.{span_numbers, span_bytes};
+ghost use Rattle.zarrs_chain_meaning.specs.vlen.VlenLayout.{span_numbers, span_bytes};
 ghost use Rattle.zarrs_plain_vlen.specs.VlenRead.{element_is_there, element_numbers, elements_read};
 ghost use Rattle.zarrs_chunk.specs.Answer.{Appends, AnswersBy, AnswersItems, memory_or_fault};
 ghost use Rattle.zarrs_array_bytes.specs.Pieces.{ends as ends_of};

@@ -3,7 +3,7 @@ ghost use Rattle.std.specs.Prelude.{◌≡◌, ◌≤◌, ◌+◌, true, IfOk, i
 ghost use Rattle.zarrs_codec.specs.ByteRanges.{bytes_in_ranges, range_indices};
 ghost use Rattle.zarrs_codec.specs.StorageState.{after_reading};
 ghost use Rattle.zarrs_plain_vlen.specs.StoredBytes.{AreRead, SureAt, stored_bytes};
-ghost use Rattle.zarrs_plain_vlen.specs.VlenLayout.{span_bytes, span_numbers};
+ghost use Rattle.zarrs_chain_meaning.specs.vlen.VlenLayout.{span_bytes, span_numbers};
 ghost use Rattle.std.specs.List.{list_all};
 
 use std::alloc::Global;

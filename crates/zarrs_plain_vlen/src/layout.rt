@@ -5,7 +5,7 @@ ghost use Rattle.zarrs_codec.specs.StorageState.{after_reading};
 ghost use Rattle.zarrs_chain_meaning.specs.vlen.VlenSettings.{is_at_end};
 ghost use Rattle.zarrs_plain_vlen.specs.Layout.{vlen_layout};
 ghost use Rattle.zarrs_plain_vlen.specs.StoredBytes.{SureAt, stored_bytes};
-ghost use Rattle.zarrs_plain_vlen.specs.VlenLayout.{head_of, layout_within, layout_of};
+ghost use Rattle.zarrs_chain_meaning.specs.vlen.VlenLayout.{head_of, layout_within, layout_of};
 ghost use Rattle.zarrs_plain_vlen.specs.VlenRead.{head_numbers};
 
 use crate::handle_reads::read_range;

@@ -3,7 +3,7 @@
 use Rattle.std.specs.Cmp.Lexicographic.{pointwise}
 use Rattle.std.specs.Int.{w32, w64, to_le_bytes, from_le_bytes}
 use Rattle.std.specs.List.{range_with_len}
-use Rattle.std.specs.Prelude.{ℕ, ◌+◌, ◌^◌, Bool, false, nat_lt, if◌then◌else◌, List, [], ◌∷◌, Result, Ok, map, ◌≡◌, ◌<◌, true, ◌++◌, length, ◌&&◌, nat_eq, ◌-◌, nat_le, take, drop}
+use Rattle.std.specs.Prelude.{ℕ, ◌+◌, ◌^◌, Bool, false, nat_lt, if◌then◌else◌, List, [], ◌∷◌, Result, Ok, map, ◌≡◌, ◌<◌, true, ◌++◌, length, nat_eq, ◌||◌}
 use Rattle.zarrs_array_bytes.specs.Elements.{cut}
 use Rattle.zarrs_array_bytes.specs.Offsets.{rises, last_of}
 use Rattle.zarrs_array_bytes.specs.Pieces.{ends}
@@ -12,9 +12,10 @@ use Rattle.zarrs_chain_meaning.specs.BytesStages.{in_memory}
 use Rattle.zarrs_chain_meaning.specs.Meaning.{Measure, Encoder, Decoder, Standing, Keeping, Meaning, in_a_row}
 use Rattle.zarrs_chain_meaning.specs.Parts.{byte_type, the_byte, byte_elements, all_bytes, part_length_bytes, length_of}
 use Rattle.zarrs_chain_meaning.specs.declared.codec_name.TheConstants.{VLEN}
+use Rattle.zarrs_chain_meaning.specs.vlen.VlenLayout.{span_bytes, layout_of}
 use Rattle.zarrs_chunk.specs.Answer.{◌>>=◌, demand, checked_u64}
 use Rattle.zarrs_chunk.specs.ChunkShape.{product}
-use Rattle.zarrs_chunk.specs.declared.codec_error.CodecError.TheVariants.{UnsupportedDataType, OffsetTooLarge, OffsetNotKept, InvalidBytesLength, IndexLength, InvalidOffsets}
+use Rattle.zarrs_chunk.specs.declared.codec_error.CodecError.TheVariants.{UnsupportedDataType, OffsetTooLarge, OffsetNotKept, InvalidOffsets}
 use Rattle.zarrs_chunk.specs.declared.codec_error.CodecError.{CodecError}
 use Rattle.zarrs_codec.specs.declared.bytes_representation.BytesRepresentation.TheVariants.{UnboundedSize}
 use Rattle.zarrs_data_type.specs.Element.{Element, plain, Chunk}
@@ -53,8 +54,7 @@ offset_elements wide offsets = map (λ offset. plain (offset_bytes wide offset))
 
 -- the offset type has the number
 abbrev pub offset_fits : Bool → ℕ → Bool
-offset_fits true offset = true
-offset_fits false offset = nat_lt offset (2 ^ 32)
+offset_fits wide offset = wide || nat_lt offset (2 ^ 32)
 
 -- the numbers that offsets as elements are
 abbrev pub offsets_in_chunk : Bool → Chunk → List ℕ
@@ -90,25 +90,23 @@ vlen_value wide at_end keep index data' chunk = do
 
 -- the index and the data of a value, or the first error
 abbrev pub vlen_value_parts : Bool → List ℕ → Result (List ℕ × List ℕ) CodecError
-vlen_value_parts false value = do
-  _ ← demand (nat_le 8 (length value)) (InvalidBytesLength (length value) 8)
-  let size = length_of (take 8 value)
-  _ ← demand (nat_le size (length value - 8)) IndexLength
-  Ok (take size (drop 8 value), drop size (drop 8 value))
-vlen_value_parts true value = do
-  _ ← demand (nat_le 8 (length value)) (InvalidBytesLength (length value) 8)
-  let size = length_of (drop (length value - 8) value)
-  _ ← demand (nat_le size (length value - 8)) IndexLength
-  Ok (take size (drop (length value - 8 - size) value), take (length value - 8 - size) value)
+vlen_value_parts at_end value = do
+  layout ← layout_of at_end value
+  Ok (span_bytes value layout.index, span_bytes value layout.content)
+
+-- the offsets of so many elements, one more than these, that an index part stands for by its decoder, or the first error
+abbrev pub vlen_offsets : Bool → Decoder → ℕ → List ℕ → Result (List ℕ) CodecError
+vlen_offsets wide index count part = do
+  _ ← checked_u64 (count + 1)
+  chunk ← index ((count + 1) ∷ []) (offset_type wide) (offset_bytes wide 0) part
+  _ ← demand (rises (offsets_in_chunk wide chunk)) InvalidOffsets
+  Ok (offsets_in_chunk wide chunk)
 
 -- the chunk of so many elements that a value stands for, by the decoders of its two chains; or the first error
 abbrev pub vlen_chunk : Bool → Bool → Decoder → Decoder → ℕ → List ℕ → Result Chunk CodecError
 vlen_chunk wide at_end index data' count value = do
   parts ← vlen_value_parts at_end value
-  _ ← checked_u64 (count + 1)
-  offset_chunk ← index ((count + 1) ∷ []) (offset_type wide) (offset_bytes wide 0) parts.0
-  let offsets = offsets_in_chunk wide offset_chunk
-  _ ← demand (rises offsets) InvalidOffsets
+  offsets ← vlen_offsets wide index count parts.0
   byte_chunk ← in_a_row (Ok []) (λ sizes. data' sizes byte_type (0 ∷ []) parts.1) (last_of offsets)
   Ok (slices count offsets (all_bytes byte_chunk))
 

@@ -9,7 +9,7 @@ use Rattle.zarrs_chunk.specs.Runs.{joined_runs}
 use Rattle.zarrs_array_bytes.specs.Validity.{Holds}
 use Rattle.zarrs_codec.specs.StorageState.{value_or_empty}
 use Rattle.zarrs_plain_vlen.specs.Elements.{element_zeros}
-use Rattle.zarrs_plain_vlen.specs.VlenLayout.{span_bytes}
+use Rattle.zarrs_chain_meaning.specs.vlen.VlenLayout.{span_bytes}
 use Rattle.zarrs_plain_vlen.specs.VlenRead.{elements_read}
 use Rattle.zarrs_plain_vlen.proofs.ElementBytes.{gathered_rises, gathered_ends, gathered_flush}
 use Rattle.zarrs_plain_vlen.proofs.ElementReads.{elements_held}

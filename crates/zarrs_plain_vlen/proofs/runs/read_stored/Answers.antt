@@ -6,7 +6,7 @@ use Rattle.zarrs_array_bytes.specs.Validity.{Holds}
 use Rattle.zarrs_codec.specs.StorageState.{StorageState, are_sure, value_or_empty}
 use Rattle.zarrs_plain_vlen.specs.Layout.{vlen_layout}
 use Rattle.zarrs_chain_meaning.specs.vlen.PlainVlen.{plain_form}
-use Rattle.zarrs_plain_vlen.specs.VlenLayout.{span_bytes, span_numbers}
+use Rattle.zarrs_chain_meaning.specs.vlen.VlenLayout.{span_bytes, span_numbers}
 use Rattle.zarrs_plain_vlen.specs.VlenRead.{elements_read, offsets_read}
 use Rattle.zarrs_plain_vlen.proofs.StoredReads.{read_unindexed, read_indexed, sure_index, runs_known}
 use Rattle.zarrs_plain_vlen.proofs.runs.read_stored.Goals as goal

@@ -1,4 +1,4 @@
--- The parts of a value by where they stand.
+-- The parts of a value of `vlen`, cut by the length that its head says.
 use Rattle.std.proofs.Common.{◌≡◌, ℕ, ◌+◌, ◌-◌, ◌≤◌, Bool, true, false, nat_le, List, length, take, drop, Result, arith, refl, ap, ap₂, sym, ◌∙◌}
 use Rattle.std.proofs.lemmas.Bool.Decides.{nat_tests}
 use Rattle.std.proofs.lemmas.List.{drop-drop, take_rest}
@@ -6,10 +6,10 @@ use Rattle.zarrs_chunk.specs.Answer.{◌>>=◌, demand}
 use Rattle.zarrs_chunk.specs.declared.codec_error.CodecError.{CodecError}
 use Rattle.zarrs_chunk.specs.declared.codec_error.CodecError.TheVariants.{InvalidBytesLength, IndexLength}
 use Rattle.zarrs_codec.specs.ByteSpan.{ByteSpan}
+use Rattle.zarrs_bytes.proofs.Coding.{ok}
 use Rattle.zarrs_chain_meaning.specs.Parts.{length_of}
 use Rattle.zarrs_chain_meaning.specs.vlen.Vlen.{vlen_value_parts}
-use Rattle.zarrs_bytes.proofs.Coding.{ok}
-use Rattle.zarrs_plain_vlen.specs.VlenLayout.{VlenLayout, span_bytes, head_at, layout_at, layout_within, layout_of}
+use Rattle.zarrs_chain_meaning.specs.vlen.VlenLayout.{VlenLayout, span_bytes, head_at, layout_at, layout_within}
 
 abbrev Parts : Type 0
 Parts = List ℕ × List ℕ
@@ -17,6 +17,17 @@ Parts = List ℕ × List ℕ
 -- the index and the data of a value that has this layout
 abbrev pub parts_at : List ℕ → VlenLayout → Parts
 parts_at value layout = (span_bytes value layout.index, span_bytes value layout.content)
+
+-- the index and the data of a value, cut from it
+abbrev pub cut_parts : Bool → List ℕ → Result Parts CodecError
+cut_parts false value =
+    let size = length_of (take 8 value) in
+    demand (nat_le 8 (length value)) (InvalidBytesLength (length value) 8) >>= λ _.
+    demand (nat_le size (length value - 8)) IndexLength >>= λ _. ok (take size (drop 8 value), drop size (drop 8 value))
+cut_parts true value =
+    let size = length_of (drop (length value - 8) value) in
+    demand (nat_le 8 (length value)) (InvalidBytesLength (length value) 8) >>= λ _.
+    demand (nat_le size (length value - 8)) IndexLength >>= λ _. ok (take size (drop (length value - 8 - size) value), take (length value - 8 - size) value)
 
 outer : (test : Bool) (cause : CodecError) (head : ByteSpan) (f : Result Parts CodecError) (g : ByteSpan → Result VlenLayout CodecError) (view : VlenLayout → Parts)
     → (test ≡ true → f ≡ (g head >>= λ l. ok (view l))) → (demand test cause >>= λ _. f) ≡ (((demand test cause >>= λ _. ok head) >>= g) >>= λ l. ok (view l))
@@ -31,8 +42,8 @@ inner false cause parts layout view h = refl
 pair : (a b c d : List ℕ) → a ≡ c → b ≡ d → ◌≡◌ {A = Parts} (a, b) (c, d)
 pair a b c d e f = ap₂ (λ (x y : List ℕ). (x, y)) e f
 
--- the parts are what stands there
-pub parts_are : (at_end : Bool) (value : List ℕ) → vlen_value_parts at_end value ≡ (layout_of at_end value >>= λ layout. ok (parts_at value layout))
+-- what is cut is what stands at the layout
+pub parts_are : (at_end : Bool) (value : List ℕ) → cut_parts at_end value ≡ vlen_value_parts at_end value
 parts_are false value =
     let n = length value in
     let size = length_of (take 8 value) in
