@@ -9,9 +9,8 @@ use Rattle.zarrs_array_bytes.specs.Elements.{element_at}
 -- a blank element: zeros, an empty text, or an absent element
 abbrev pub blank_element : ElementType → Element
 blank_element (fixed width components sign) = plain (replicate (element_size width components) 0)
-blank_element text = plain []
-blank_element bytes = plain []
 blank_element (optional type) = absent
+blank_element type = plain []
 
 -- a mask over elements has zeros and ones, and where a byte is 0, the element under it is blank
 pub record IsOverBlanks (mask : List ℕ) (type : ElementType) (held : Held) : Type 0 where

@@ -12,9 +12,8 @@ use Rattle.zarrs_array_bytes.specs.Elements.{elements}
 -- 64 bits count the bytes of so many elements, or their offsets, else `Overflow`; under optional types those of the innermost type
 abbrev pub sizes_fit : ElementType → ℕ → Result (Unit {0}) CodecError
 sizes_fit (fixed width components sign) count = demand (nat_lt (count * element_size width components) (2 ^ 64)) Overflow
-sizes_fit text count = demand (nat_lt (count + 1) (2 ^ 64)) Overflow
-sizes_fit bytes count = demand (nat_lt (count + 1) (2 ^ 64)) Overflow
 sizes_fit (optional type) count = sizes_fit type count
+sizes_fit type count = demand (nat_lt (count + 1) (2 ^ 64)) Overflow
 
 -- the error for a wrong length, of the length that was found and the one that was due
 abbrev pub LengthRefusal : Type 0

@@ -8,14 +8,14 @@ use Rattle.zarrs_chunk.specs.Region.{Region}
 use Rattle.zarrs_chunk.specs.Tuples.{is_box_inside}
 use Rattle.zarrs_chunk.specs.declared.codec_error.CodecError.TheVariants.{IncompatibleDimensionality}
 use Rattle.zarrs_codec.specs.CoordinateMap.{CoordinateMap, same_places, composition}
-use Rattle.zarrs_array_to_array.specs.ArrayToArrayCodec.{ArrayMapping, transpose, reshape, squeeze, IsMapping, coordinates, chained}
+use Rattle.zarrs_array_to_array.specs.ArrayToArrayCodec.{ArrayMapping, transpose, reshape, squeeze, IsMapping, coordinates, chained, keeps_places}
 use Rattle.zarrs_array_to_array.specs.Reshape.{reshaped}
 use Rattle.zarrs_array_to_array.specs.Squeeze.{squeezed}
 use Rattle.zarrs_array_to_array.specs.Transpose.{transposition}
 use Rattle.zarrs_array_to_array.proofs.AnswerSteps.{step_ok}
 use Rattle.zarrs_array_to_array.proofs.Chains.{codec_map}
 use Rattle.zarrs_array_regions.specs.declared.window.Window.{Window}
-use Rattle.zarrs_array_regions.specs.KeptRegions.{keeps_places, keeps_regions}
+use Rattle.zarrs_array_regions.specs.KeptRegions.{keeps_regions}
 use Rattle.zarrs_array_regions.specs.Windows.{KeepsWindow, window_of, next_window, part_map, behind_window, last_window, region_map}
 use Rattle.zarrs_array_regions.proofs.WindowMaps.{windows_compose, here_is}
 use Rattle.zarrs_array_to_array.proofs.Readers.{same_map}

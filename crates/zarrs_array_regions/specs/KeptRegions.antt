@@ -5,20 +5,13 @@ use Rattle.zarrs_chunk.specs.ChunkShape.{product}
 use Rattle.zarrs_chunk.specs.Region.{Region}
 use Rattle.zarrs_chunk.specs.Selection.{Selection, subset, indices, bounds_of}
 use Rattle.zarrs_chunk.specs.Tuples.{is_box_inside}
-use Rattle.zarrs_array_to_array.specs.ArrayToArrayCodec.{ArrayMapping, transpose, reshape, squeeze}
-
--- the codec leaves each place where it is
-abbrev pub keeps_places : ArrayMapping → Bool
-keeps_places (transpose order) = false
-keeps_places (reshape dims) = true
-keeps_places squeeze = true
+use Rattle.zarrs_array_to_array.specs.ArrayToArrayCodec.{ArrayMapping, reshape, keeps_places}
 
 -- The codecs take every region to a region: no transposition stands behind a reshape, which gives the chunk other axes.
 abbrev pub keeps_regions : List ArrayMapping → Bool
 keeps_regions [] = true
-keeps_regions (transpose order ∷ codecs) = keeps_regions codecs
 keeps_regions (reshape dims ∷ codecs) = list_all keeps_places codecs
-keeps_regions (squeeze ∷ codecs) = keeps_regions codecs
+keeps_regions (codec ∷ codecs) = keeps_regions codecs
 
 -- no length of the box is zero
 abbrev pub is_filled : Region → Bool

@@ -4,7 +4,8 @@ ghost use Rattle.std.specs.List.{list_all};
 ghost use Rattle.zarrs_chunk.specs.Indexer.{selection_of};
 ghost use Rattle.zarrs_chunk.specs.Region.{Region};
 ghost use Rattle.zarrs_array_to_array.specs.Mapping.{mapping_of};
-ghost use Rattle.zarrs_array_regions.specs.KeptRegions.{keeps_places as keeps_places_of, keeps_regions as keeps_regions_of, is_filled as is_filled_of, kept_region as kept_region_of, IsKept};
+ghost use Rattle.zarrs_array_to_array.specs.ArrayToArrayCodec.{keeps_places as keeps_places_of};
+ghost use Rattle.zarrs_array_regions.specs.KeptRegions.{keeps_regions as keeps_regions_of, is_filled as is_filled_of, kept_region as kept_region_of, IsKept};
 
 use zarrs_array_to_array::ArrayToArrayCodec;
 use zarrs_chunk::{ArraySubset, ChunkShape, Indexer};

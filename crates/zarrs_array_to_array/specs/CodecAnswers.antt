@@ -15,8 +15,7 @@ use Rattle.zarrs_array_to_array.specs.declared.transpose.transpose_codec.TheCons
 -- the codec accepts elements of the type: transposition of those that are not optional, the others of all
 abbrev pub type_taken : ArrayMapping → ElementType → Result (Unit {0}) CodecError
 type_taken (transpose order) type = demand (not (is_some (inner_of type))) (UnsupportedDataType TRANSPOSE)
-type_taken (reshape dims) type = Ok tt
-type_taken squeeze type = Ok tt
+type_taken codec type = Ok tt
 
 -- the sizes of the decoded chunk, where those of the moved one fix them; or the first error
 abbrev pub sizes_before : ArrayMapping → List ℕ → Result (Option (List ℕ)) CodecError

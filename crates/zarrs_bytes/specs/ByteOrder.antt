@@ -13,9 +13,8 @@ reversed_pieces size count bytes = concat (map reverse (pieces size count bytes)
 
 -- An element's bytes with its components in the byte order: as they are for little, each component turned round for big. In memory each component has its lowest byte first, so the same step leads from memory to a value and back.
 abbrev pub bytes_in_order : Option Endianness → ℕ → ℕ → List ℕ → List ℕ
-bytes_in_order None width components bytes = bytes
-bytes_in_order (Some Little) width components bytes = bytes
 bytes_in_order (Some Big) width components bytes = reversed_pieces (component_bytes width) components bytes
+bytes_in_order order width components bytes = bytes
 
 -- where a size is given, each whole piece of that size reversed; the bytes left over at the end stay
 abbrev pub turned_bytes : Option ℕ → List ℕ → List ℕ

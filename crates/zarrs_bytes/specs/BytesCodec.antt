@@ -33,9 +33,7 @@ length_by order sizes (fixed width components sign) fill = do
   len ← checked_u64 (count * element_size width components)
   _ ← demand (has_order order width) EndiannessMissing
   Ok len
-length_by order sizes text fill = Err (UnsupportedDataType BYTES)
-length_by order sizes bytes fill = Err (UnsupportedDataType BYTES)
-length_by order sizes (optional type) fill = Err (UnsupportedDataType BYTES)
+length_by order sizes type fill = Err (UnsupportedDataType BYTES)
 
 -- how many bytes the value of such a chunk has, or the first error of chunks that the codec doesn't accept
 abbrev pub bytes_length : Option Endianness → Form → Result ℕ CodecError

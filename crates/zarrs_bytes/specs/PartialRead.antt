@@ -69,9 +69,7 @@ RepeatsFill fill places result = IfOk result (λ bytes. bytes.items ≡ flat_map
 -- how many bytes an element of a fixed type has; none of any other type
 abbrev pub place_size : ElementType → ℕ
 place_size (fixed width components sign) = element_size width components
-place_size text = 0
-place_size bytes = 0
-place_size (optional type) = 0
+place_size type = 0
 
 -- the type is fixed, an element has at least one byte, and `fill` is as long as one
 abbrev pub IsFilledType : ElementType → List ℕ → Type 0

@@ -29,7 +29,7 @@ use Rattle.zarrs_codec.specs.CoordinateMap.{CoordinateMap, IsCoordinateMap, comp
 use Rattle.zarrs_codec.specs.declared.bytes_representation.BytesRepresentation.{BytesRepresentation}
 use Rattle.zarrs_codec.specs.declared.bytes_representation.BytesRepresentation.TheVariants.{FixedSize}
 use Rattle.zarrs_codec.proofs.Fences.{first_true, second_true}
-use Rattle.zarrs_array_to_array.specs.ArrayToArrayCodec.{ArrayMapping, coordinates, transpose, reshape, squeeze}
+use Rattle.zarrs_array_to_array.specs.ArrayToArrayCodec.{ArrayMapping, coordinates, transpose, reshape, squeeze, keeps_places}
 use Rattle.zarrs_array_to_array.specs.CodecAnswers.{type_taken}
 use Rattle.zarrs_array_to_array.specs.Reshape.{reshaped}
 use Rattle.zarrs_array_to_array.specs.Squeeze.{squeezed}
@@ -43,7 +43,7 @@ use Rattle.zarrs_chain_meaning.specs.ArrayStages.{arrays_map, codec_map}
 use Rattle.zarrs_chain_meaning.specs.BytesStages.{in_memory, outer_value}
 use Rattle.zarrs_chain_meaning.specs.Chain.{taken_form}
 use Rattle.zarrs_chain_meaning.specs.CodecMeaning.{chain_value, codec_normal_element, codec_representation, codec_value, meaning}
-use Rattle.zarrs_chain_meaning.specs.KeptBytes.{codec_keeps_bytes, hands_on}
+use Rattle.zarrs_chain_meaning.specs.KeptBytes.{codec_keeps_bytes}
 use Rattle.zarrs_chain_meaning.specs.PlainChain.{PlainCodec, bytes_codec}
 use Rattle.zarrs_chain_meaning.specs.sharding.Sharding.{inner_value, is_left_out}
 use Rattle.zarrs_chain_meaning.proofs.ArraySteps.{at_ok, next_answer, ok_is, ok_no_err}
@@ -60,7 +60,7 @@ use Rattle.zarrs_chain.proofs.LeftOut.{same_left_out}
 
 -- ---- no element moves
 
-one_stays : (type : ElementType) (codec : ArrayMapping) (sizes : List ℕ) (m : CoordinateMap) (place : ℕ) → hands_on codec ≡ true → codec_map type codec sizes ≡ Ok m → m.from place ≡ place
+one_stays : (type : ElementType) (codec : ArrayMapping) (sizes : List ℕ) (m : CoordinateMap) (place : ℕ) → keeps_places codec ≡ true → codec_map type codec sizes ≡ Ok m → m.from place ≡ place
 one_stays type (transpose order) sizes m place h e = absurd (false≢true h)
 one_stays type (reshape dims) sizes m place h e =
     let a = bind_ok (type_taken (reshape dims) type) (λ x. coordinates (reshape dims) sizes) m e in
@@ -70,14 +70,14 @@ one_stays type squeeze sizes m place h e =
     let a = bind_ok (type_taken squeeze type) (λ x. coordinates squeeze sizes) m e in
     ap (λ (x : CoordinateMap). x.from place) (sym (ok_is (same_places (squeezed sizes)) m a.2))
 
-all_stay : (type : ElementType) (codecs : List ArrayMapping) (sizes : List ℕ) (m : CoordinateMap) (place : ℕ) → list_all hands_on codecs ≡ true → arrays_map type codecs sizes ≡ Ok m → m.from place ≡ place
+all_stay : (type : ElementType) (codecs : List ArrayMapping) (sizes : List ℕ) (m : CoordinateMap) (place : ℕ) → list_all keeps_places codecs ≡ true → arrays_map type codecs sizes ≡ Ok m → m.from place ≡ place
 all_stay type [] sizes m place h e = ap (λ (x : CoordinateMap). x.from place) (sym (ok_is (same_places sizes) m e))
 all_stay type (codec ∷ codecs) sizes m place h e =
     let a = bind_ok (codec_map type codec sizes) (λ (first : CoordinateMap). arrays_map type codecs first.encoded >>= (λ rest. ok (composition first rest))) m e in
     let b = bind_ok (arrays_map type codecs a.0.encoded) (λ (rest : CoordinateMap). ok (composition a.0 rest)) m a.2 in
     ap (λ (x : CoordinateMap). x.from place) (sym (ok_is (composition a.0 b.0) m b.2))
-    ∙ ap a.0.from (all_stay type codecs a.0.encoded b.0 place (second_true (hands_on codec) (list_all hands_on codecs) h) b.1)
-    ∙ one_stays type codec sizes a.0 place (first_true (hands_on codec) (list_all hands_on codecs) h) a.1
+    ∙ ap a.0.from (all_stay type codecs a.0.encoded b.0 place (second_true (keeps_places codec) (list_all keeps_places codecs) h) b.1)
+    ∙ one_stays type codec sizes a.0 place (first_true (keeps_places codec) (list_all keeps_places codecs) h) a.1
 
 moved_nowhere : (sizes : List ℕ) (m : CoordinateMap) (chunk : Chunk) → IsCoordinateMap sizes m → length chunk ≡ product sizes → ((place : ℕ) → m.from place ≡ place) → moved_chunk m chunk ≡ chunk
 moved_nowhere sizes m chunk is long stays =

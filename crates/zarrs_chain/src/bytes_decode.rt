@@ -5,7 +5,7 @@ ghost use Rattle.std.specs.List.{list_all};
 ghost use Rattle.zarrs_array_to_array.specs.Mapping.{mapping_of};
 ghost use Rattle.zarrs_bytes.specs.BytesCodec.{BytesTakes, turn_size};
 ghost use Rattle.zarrs_bytes.specs.GivenBytes.{HoldsGiven};
-ghost use Rattle.zarrs_chain_meaning.specs.KeptBytes.{hands_on};
+ghost use Rattle.zarrs_array_to_array.specs.ArrayToArrayCodec.{keeps_places};
 ghost use Rattle.zarrs_chain.specs.CodecCalls.{ReadsBehind};
 ghost use Rattle.zarrs_chain.specs.FormView.{lent_form};
 
@@ -32,7 +32,7 @@ pub(crate) fn bytes_decode<'a>(
     ensures answer { ReadsBehind codec.now codecs.now (lent_form form.entry) value.entry result }
     ensures tight { IfOk result (IsTight form.entry.data_type.now) }
     ensures kept { turn_size codec.now form.entry.data_type.now ≡ None
-        → list_all hands_on (map mapping_of codecs.now) ≡ true → HoldsGiven value.entry result }
+        → list_all keeps_places (map mapping_of codecs.now) ≡ true → HoldsGiven value.entry result }
 {
     let Form {
         shape,

@@ -29,7 +29,5 @@ AreElements type chunk = All (IsElement type) chunk
 
 -- the element that the bytes of a fill value are
 abbrev pub fill_element : ElementType → List ℕ → Element
-fill_element (fixed width count sign) fill = plain fill
-fill_element text fill = plain fill
-fill_element bytes fill = plain fill
 fill_element (optional type) fill = if is_null fill then absent else present (fill_element type (front_of fill))
+fill_element type fill = plain fill

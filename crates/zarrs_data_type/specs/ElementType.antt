@@ -40,17 +40,14 @@ components_of (optional type) = None
 
 -- whether an element is bytes of any length
 abbrev pub is_variable : ElementType → Bool
-is_variable (fixed width count sign) = false
 is_variable text = true
 is_variable bytes = true
-is_variable (optional type) = false
+is_variable type = false
 
 -- the type inside, where the type is optional: that of the elements that are present
 abbrev pub inner_of : ElementType → Option ElementType
-inner_of (fixed width count sign) = None
-inner_of text = None
-inner_of bytes = None
 inner_of (optional type) = Some type
+inner_of type = None
 
 -- a fixed type has a bit in each component, a component in each element, and fewer than 2^64 bytes in an element
 pub record IsFixedType (width count : ℕ) : Type 0 where

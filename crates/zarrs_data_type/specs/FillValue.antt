@@ -18,6 +18,5 @@ front_of fill = take (length fill - 1) fill
 -- The bytes are a fill value of the type: of a fixed type as many as an element has, of a variable type any, of an optional type the byte 0, or bytes that fit the type inside and then 1.
 abbrev pub fill_fits : ElementType → List ℕ → Bool
 fill_fits (fixed width count sign) fill = length fill == element_size width count
-fill_fits text fill = true
-fill_fits bytes fill = true
 fill_fits (optional type) fill = is_null fill || (ends_in_one fill && fill_fits type (front_of fill))
+fill_fits type fill = true

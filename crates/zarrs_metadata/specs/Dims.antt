@@ -12,8 +12,7 @@ pub data Dim : Type 0 where
 -- the size isn't the number zero
 abbrev pub is_nonzero : Dim → Bool
 is_nonzero (size n) = not (n == 0)
-is_nonzero auto = true
-is_nonzero (input_dims axes) = true
+is_nonzero dim = true
 
 -- the size is what the others leave
 abbrev pub is_auto : Dim → Bool
@@ -34,9 +33,8 @@ has_no_zero dims = list_all is_nonzero dims
 -- how many sizes are what the others leave
 abbrev pub autos : List Dim → ℕ
 autos [] = 0
-autos (size n ∷ dims) = autos dims
 autos (auto ∷ dims) = suc (autos dims)
-autos (input_dims axes ∷ dims) = autos dims
+autos (dim ∷ dims) = autos dims
 
 -- at most one size is what the others leave, and none is the number zero
 abbrev pub is_reshape : List Dim → Bool

@@ -24,7 +24,7 @@ use Rattle.zarrs_packbits.specs.PackBitsSettings.{PackBitsSettings, packed_layou
 use Rattle.zarrs_packbits.specs.PackedLayout.{IsPackedLayout, element_bits_len}
 use Rattle.zarrs_packbits.specs.PaddingByte.{padding_holds, value_len, value_with}
 use Rattle.zarrs_packbits.specs.Packing.{packing}
-use Rattle.zarrs_packbits.specs.PartialRead.{span_start, span_end, packed_place_bytes, packed_places_bytes, all_below, read_packed_places}
+use Rattle.zarrs_packbits.specs.PartialRead.{packed_place_bytes, packed_places_bytes, all_below, read_packed_places, run_end, run_start}
 use Rattle.zarrs_packbits.proofs.Exact.{joined, cut, is_cut, normal_cut, stream_cut, stands_flat, decoded_only}
 use Rattle.zarrs_packbits.proofs.FlatChunk.{nf}
 use Rattle.zarrs_packbits.proofs.LocalLemmas.{element_of_piece, element_some}
@@ -194,12 +194,12 @@ all_same value other (n ∷ ns) h =
 same_element : (l : PackedLayout) (value other : List ℕ) (p : ℕ) → IsPackedLayout l → All (SameByte value other) (packed_place_bytes l p) → element_bits l value p ≡ element_bits l other p
 same_element l value other p s h =
     let next : (p + 1) * element_bits_len l ≡ p * element_bits_len l + element_bits_len l = omega arith in
-    let some : span_start l p < span_end l p = omega (arith, element_some l s) in
-    let len = span_end l p - span_start l p in
+    let some : run_start l (p, 1) < run_end l (p, 1) = omega (arith, element_some l s) in
+    let len = run_end l (p, 1) - run_start l (p, 1) in
     let one : len ≡ suc (len - 1) = omega arith in
-    let ends = reaches value other (span_start l p) (len - 1) (subst (λ k. All (SameByte value other) (range_with_len (span_start l p) k)) one h) in
+    let ends = reaches value other (run_start l (p, 1)) (len - 1) (subst (λ k. All (SameByte value other) (range_with_len (run_start l (p, 1)) k)) one h) in
     sym (element_of_piece l value p (omega (arith, ends.0)) (omega arith))
-    ∙ ap (λ (b : List ℕ). components_from l (p * element_bits_len l % 8) l.group (bits_of b)) (same_taken value other (span_start l p) len h)
+    ∙ ap (λ (b : List ℕ). components_from l (p * element_bits_len l % 8) l.group (bits_of b)) (same_taken value other (run_start l (p, 1)) len h)
     ∙ element_of_piece l other p (omega (arith, ends.1)) (omega arith)
 
 same_elements : (l : PackedLayout) (value other places : List ℕ) → IsPackedLayout l → All (SameByte value other) (packed_places_bytes l places) → map (packed_element l value) places ≡ map (packed_element l other) places

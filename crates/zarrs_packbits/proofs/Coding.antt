@@ -27,7 +27,7 @@ use Rattle.zarrs_packbits.specs.PackBitsSettings.{PackBitsSettings, packed_layou
 use Rattle.zarrs_packbits.specs.PackedLayout.{IsPackedLayout, layout_components, element_bits_len}
 use Rattle.zarrs_packbits.specs.PaddingByte.{lead, value_len, padding_holds, value_with}
 use Rattle.zarrs_packbits.specs.Packing.{packing}
-use Rattle.zarrs_packbits.specs.PartialRead.{span_end}
+use Rattle.zarrs_packbits.specs.PartialRead.{run_end}
 use Rattle.zarrs_packbits.proofs.ElementBits.{AllLong, all_long, element_long, packed_joined, packed_sized, places_hold, stream_of_pieces}
 use Rattle.zarrs_packbits.proofs.LocalLemmas.{element_within}
 use Rattle.zarrs_packbits.proofs.RunLemmas.{run_elements}
@@ -88,7 +88,7 @@ pub all_places : (l : PackedLayout) (v : List ℕ) → IsPackedLayout l → leng
 all_places l v s e =
     all_long (l.group * l.size) (element_bits l v) 0 l.elements (λ p lt.
     let next : (p + 1) * element_bits_len l ≡ p * element_bits_len l + element_bits_len l = omega arith in
-    let end : span_end l p ≤ length v = omega (arith, e, element_within l p (omega arith)) in
+    let end : run_end l (p, 1) ≤ length v = omega (arith, e, element_within l p (omega arith)) in
     element_long l v p s end)
 
 -- the whole chunk's components are those of its elements, in order

@@ -21,7 +21,7 @@ use Rattle.zarrs_packbits.specs.declared.layout.PackedLayout.{PackedLayout}
 use Rattle.zarrs_packbits.specs.PackedLayout.{IsPackedLayout, layout_components, element_bits_len}
 use Rattle.zarrs_packbits.specs.PaddingByte.{lead}
 use Rattle.zarrs_packbits.specs.Packing.{number_of, bytes_from_bits, packing}
-use Rattle.zarrs_packbits.specs.PartialRead.{span_end}
+use Rattle.zarrs_packbits.specs.PartialRead.{run_end}
 use Rattle.zarrs_packbits.proofs.BitLemmas.{length-bytes_of, length-pieces}
 use Rattle.zarrs_packbits.proofs.FieldLemmas.{flat_more}
 use Rattle.zarrs_packbits.proofs.FlatChunk.{nf}
@@ -129,7 +129,7 @@ full_long : (l : PackedLayout) (kept : List ℕ) → IsPackedLayout l → length
 full_long l kept s h = omega (arith, widened_len l.first l.above l.sign kept, h, s.size)
 
 -- an element of a value that has its bits has its bytes
-pub element_long : (l : PackedLayout) (v : List ℕ) (p : ℕ) → IsPackedLayout l → span_end l p ≤ length v → length (element_bits l v p) ≡ 8 * (l.group * l.size)
+pub element_long : (l : PackedLayout) (v : List ℕ) (p : ℕ) → IsPackedLayout l → run_end l (p, 1) ≤ length v → length (element_bits l v p) ≡ 8 * (l.group * l.size)
 element_long l v p s h =
     let bits = bits_of (drop (lead l) v) in
     let at = p * element_bits_len l in

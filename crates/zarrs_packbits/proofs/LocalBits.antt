@@ -18,7 +18,7 @@ use Rattle.zarrs_packbits.specs.Laws as laws
 use Rattle.zarrs_packbits.specs.PackedLayout.{IsPackedLayout, element_bits_len}
 use Rattle.zarrs_packbits.specs.PaddingByte.{lead}
 use Rattle.zarrs_packbits.specs.Packing.{packing}
-use Rattle.zarrs_packbits.specs.PartialRead.{all_below, packed_place_bytes, packed_places_bytes, span_end}
+use Rattle.zarrs_packbits.specs.PartialRead.{all_below, packed_place_bytes, packed_places_bytes, run_end}
 use Rattle.zarrs_packbits.proofs.LocalLemmas.{flat_range_same}
 use Rattle.zarrs_array_bytes.proofs.Pieces.{take-drop-take}
 use Rattle.zarrs_packbits.proofs.RunLemmas.{place_end}
@@ -46,8 +46,8 @@ inside_both l value other [] s h = (refl, refl)
 inside_both l value other (p ∷ ps) s h =
     let one : SameBits l value other p = All-head (SameBits l value other) p ps h in
     let rest = inside_both l value other ps s (All-tail (SameBits l value other) p ps h) in
-    let a : nat_le (span_end l p) (length value) ≡ true = (let e = one.in_value in grind (arith, nat_tests)) in
-    let b : nat_le (span_end l p) (length other) ≡ true = (let e = one.in_other in grind (arith, nat_tests)) in (
+    let a : nat_le (run_end l (p, 1)) (length value) ≡ true = (let e = one.in_value in grind (arith, nat_tests)) in
+    let b : nat_le (run_end l (p, 1)) (length other) ≡ true = (let e = one.in_other in grind (arith, nat_tests)) in (
       list_all-append (λ k. nat_lt k (length value)) (packed_place_bytes l p) (packed_places_bytes l ps) ∙ ap (λ (x : Bool). x && all_below (length value) (packed_places_bytes l ps)) (place_end l (length value) p s ∙ a) ∙ rest.0,
       list_all-append (λ k. nat_lt k (length other)) (packed_place_bytes l p) (packed_places_bytes l ps) ∙ ap (λ (x : Bool). x && all_below (length other) (packed_places_bytes l ps)) (place_end l (length other) p s ∙ b) ∙ rest.1,
     )

@@ -7,7 +7,7 @@ use Rattle.zarrs_array_bytes.proofs.Pieces.{take-drop-take}
 use Rattle.zarrs_packbits.proofs.LowBits.{bits_of-drop, bits_of-take}
 use Rattle.zarrs_packbits.specs.Bits.{bits_of, field}
 use Rattle.zarrs_codec.specs.ByteSpan.{ByteSpan}
-use Rattle.zarrs_packbits.specs.PartialRead.{span_start, span_end}
+use Rattle.zarrs_packbits.specs.PartialRead.{run_end, run_start}
 use Rattle.zarrs_packbits.specs.declared.layout.PackedLayout.{PackedLayout}
 use Rattle.zarrs_packbits.specs.PackedLayout.{IsPackedLayout, is_whole, bits_in, element_bits_len}
 use Rattle.zarrs_metadata.specs.declared.codec.packbits.PackBitsPaddingEncoding.{PackBitsPaddingEncoding}
@@ -25,13 +25,13 @@ whole_element l s h =
     let e : l.count ≡ 8 * l.size = omega (arith, s.size) in
     ap (λ k. l.group * k) e ∙ (let d : l.group * (8 * l.size) ≡ 8 * (l.group * l.size) = omega arith in d)
 
-pub whole_start : (l : PackedLayout) (p : ℕ) → IsPackedLayout l → is_whole l ≡ true → p * (l.group * l.size) ≡ span_start l p
+pub whole_start : (l : PackedLayout) (p : ℕ) → IsPackedLayout l → is_whole l ≡ true → p * (l.group * l.size) ≡ run_start l (p, 1)
 whole_start l p s h =
     let e : p * element_bits_len l ≡ 8 * (p * (l.group * l.size)) = ap (λ k. p * k) (whole_element l s h) ∙ (let d : p * (8 * (l.group * l.size)) ≡ 8 * (p * (l.group * l.size)) = omega arith in d) in
     let z : lead l ≡ 0 = ap (λ (p : PackBitsPaddingEncoding). length (padding_bytes_before p 0)) (s.bare h) in
     omega arith
 
-pub whole_end : (l : PackedLayout) (p : ℕ) → IsPackedLayout l → is_whole l ≡ true → p * (l.group * l.size) + l.group * l.size ≡ span_end l p
+pub whole_end : (l : PackedLayout) (p : ℕ) → IsPackedLayout l → is_whole l ≡ true → p * (l.group * l.size) + l.group * l.size ≡ run_end l (p, 1)
 whole_end l p s h =
     let e : (p + 1) * element_bits_len l ≡ 8 * ((p + 1) * (l.group * l.size)) = ap (λ k. (p + 1) * k) (whole_element l s h) ∙ (let d : (p + 1) * (8 * (l.group * l.size)) ≡ 8 * ((p + 1) * (l.group * l.size)) = omega arith in d) in
     let z : lead l ≡ 0 = ap (λ (p : PackBitsPaddingEncoding). length (padding_bytes_before p 0)) (s.bare h) in
@@ -78,24 +78,24 @@ flat_range_same f g (suc n) h =
     ∙ ap (λ xs. flat_map g (range_with_len 0 n) ++ xs) (h n (omega arith))
     ∙ sym (flat_more g n) ∙ ap (λ m. flat_map g (range_with_len 0 m)) (sym e)
 
-pub span_len_holds : (l : PackedLayout) (p : ℕ) → p * element_bits_len l % 8 + element_bits_len l ≤ 8 * (span_end l p - span_start l p)
+pub span_len_holds : (l : PackedLayout) (p : ℕ) → p * element_bits_len l % 8 + element_bits_len l ≤ 8 * (run_end l (p, 1) - run_start l (p, 1))
 span_len_holds l p =
     let e : (p + 1) * element_bits_len l ≡ p * element_bits_len l + element_bits_len l = omega arith in
     omega arith
 
-pub element_of_piece : (l : PackedLayout) (v : List ℕ) (p : ℕ) → span_end l p ≤ length v → span_start l p ≤ span_end l p
-    → components_from l (p * element_bits_len l % 8) l.group (bits_of (take (span_end l p - span_start l p) (drop (span_start l p) v))) ≡ element_bits l v p
+pub element_of_piece : (l : PackedLayout) (v : List ℕ) (p : ℕ) → run_end l (p, 1) ≤ length v → run_start l (p, 1) ≤ run_end l (p, 1)
+    → components_from l (p * element_bits_len l % 8) l.group (bits_of (take (run_end l (p, 1) - run_start l (p, 1)) (drop (run_start l (p, 1)) v))) ≡ element_bits l v p
 element_of_piece l v p h le =
     let k = l.count in
-    let m = span_end l p - span_start l p in
-    let here : ℕ → List ℕ = λ part. field (p * element_bits_len l % 8 + part * k) k (bits_of (take m (drop (span_start l p) v))) in
+    let m = run_end l (p, 1) - run_start l (p, 1) in
+    let here : ℕ → List ℕ = λ part. field (p * element_bits_len l % 8 + part * k) k (bits_of (take m (drop (run_start l (p, 1)) v))) in
     let there : ℕ → List ℕ = λ part. field (p * element_bits_len l + part * k) k (bits_of (drop (lead l) v)) in
     let same : (part : ℕ) → part < l.group → here part ≡ there part = λ part lt.
     let more : part + 1 ≤ l.group = omega arith in
     let row : (part + 1) * k ≤ element_bits_len l = mul-le-mul_right k more in
     let next : (part + 1) * k ≡ part * k + k = omega arith in
-    field_of_piece v (span_start l p) m (p * element_bits_len l % 8 + part * k) k (omega arith) (omega (arith, span_len_holds l p))
-    ∙ ap (λ n. field n k (bits_of v)) (let e : 8 * span_start l p + (p * element_bits_len l % 8 + part * k) ≡ 8 * lead l + (p * element_bits_len l + part * k) = omega arith in e)
+    field_of_piece v (run_start l (p, 1)) m (p * element_bits_len l % 8 + part * k) k (omega arith) (omega (arith, span_len_holds l p))
+    ∙ ap (λ n. field n k (bits_of v)) (let e : 8 * run_start l (p, 1) + (p * element_bits_len l % 8 + part * k) ≡ 8 * lead l + (p * element_bits_len l + part * k) = omega arith in e)
     ∙ sym (field_of_rest v (lead l) (p * element_bits_len l + part * k) k) in
     flat_range_same (λ part. full_component l.first l.above l.sign (here part)) (λ part. full_component l.first l.above l.sign (there part)) l.group (λ part lt. ap (full_component l.first l.above l.sign) (same part lt))
 

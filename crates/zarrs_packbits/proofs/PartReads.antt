@@ -26,9 +26,9 @@ use Rattle.zarrs_packbits.specs.declared.layout.PackedLayout.{PackedLayout}
 use Rattle.zarrs_packbits.specs.PackBitsSettings.{PackBitsSettings, packed_layout}
 use Rattle.zarrs_packbits.specs.PackedLayout.{IsPackedLayout, is_whole, element_bits_len}
 use Rattle.zarrs_packbits.specs.Packing.{packing}
-use Rattle.zarrs_packbits.specs.PartialRead.{span_start, span_end, packed_place_bytes, packed_places_bytes, all_below, read_packed_bytes, read_packed_places}
+use Rattle.zarrs_packbits.specs.PartialRead.{packed_place_bytes, packed_places_bytes, all_below, read_packed_bytes, read_packed_places, run_end, run_start}
 use Rattle.zarrs_bytes.specs.PlannedRanges.{spans}
-use Rattle.zarrs_packbits.specs.ReadPlan.{run_start, run_end, run_span, IsPackBitsPlan, IsPlanOfRuns}
+use Rattle.zarrs_packbits.specs.ReadPlan.{run_span, IsPackBitsPlan, IsPlanOfRuns}
 use Rattle.zarrs_packbits.proofs.ElementBits.{AllLong, element_long, places_hold, plain_holds}
 use Rattle.zarrs_packbits.proofs.FlatRead.{are_runs}
 use Rattle.zarrs_packbits.proofs.RunLemmas.{all_at, place_end, runs_sure, whole_run_start, whole_run_end, head_of, tail_of}
@@ -53,7 +53,7 @@ pub all_read : (l : PackedLayout) (v places : List ℕ) → IsPackedLayout l →
 all_read l v [] s h = tt
 all_read l v (p ∷ ps) s h =
     let both = sym (list_all-append (λ k. nat_lt k (length v)) (packed_place_bytes l p) (packed_places_bytes l ps)) ∙ h in
-    let end : span_end l p ≤ length v = from_le_test _ _ (sym (place_end l (length v) p s) ∙ first_true _ _ both) in
+    let end : run_end l (p, 1) ≤ length v = from_le_test _ _ (sym (place_end l (length v) p s) ∙ first_true _ _ both) in
     (element_long l v p s end, all_read l v ps s (second_true _ _ both))
 
 fills_sized : (size : ℕ) (fill places : List ℕ) → length fill ≡ size → AllSized size (map (λ (_ : ℕ). fill) places)
@@ -91,13 +91,13 @@ places_found settings sizes (optional type) fill places items stored l e h small
 
 -- ---- the plan
 
-places_covered : (q : ℕ → Bool) (l : PackedLayout) (a b start len : ℕ) → ((k : ℕ) → a ≤ k → k < b → q k ≡ true) → a ≤ span_start l start → run_end l (start, len) ≤ b → list_all q (packed_places_bytes l (range_with_len start len)) ≡ true
+places_covered : (q : ℕ → Bool) (l : PackedLayout) (a b start len : ℕ) → ((k : ℕ) → a ≤ k → k < b → q k ≡ true) → a ≤ run_start l (start, 1) → run_end l (start, len) ≤ b → list_all q (packed_places_bytes l (range_with_len start len)) ≡ true
 places_covered q l a b start zero h from to = refl
 places_covered q l a b start (suc len) h from to =
     let e : (start + suc len) * element_bits_len l ≡ (start + 1) * element_bits_len l + len * element_bits_len l = omega arith in
     let f : (start + 1 + len) * element_bits_len l ≡ (start + suc len) * element_bits_len l = ap (λ n. n * element_bits_len l) (let d : start + 1 + len ≡ start + suc len = omega arith in d) in
     let g : (start + 1) * element_bits_len l ≡ start * element_bits_len l + element_bits_len l = omega arith in
-    let here : list_all q (packed_place_bytes l start) ≡ true = range_passes q (span_start l start) (span_end l start - span_start l start) (λ k x y. h k (omega arith) (omega arith)) in
+    let here : list_all q (packed_place_bytes l start) ≡ true = range_passes q (run_start l (start, 1)) (run_end l (start, 1) - run_start l (start, 1)) (λ k x y. h k (omega arith) (omega arith)) in
     list_all-append q (packed_place_bytes l start) (packed_places_bytes l (range_with_len (start + 1) len))
     ∙ ap (λ (x : Bool). x && list_all q (packed_places_bytes l (range_with_len (start + 1) len))) here
     ∙ places_covered q l a b (start + 1) len h (omega arith) (omega (arith, f))

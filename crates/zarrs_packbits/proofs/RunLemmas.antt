@@ -11,7 +11,7 @@ use Rattle.std.proofs.lemmas.Bool.Decides.{nat_tests}
 use Rattle.zarrs_packbits.specs.Bits.{bits_of, field}
 use Rattle.zarrs_array_bytes.proofs.UpdateSteps.{range_more}
 use Rattle.zarrs_codec.specs.ByteSpan.{ByteSpan}
-use Rattle.zarrs_packbits.specs.PartialRead.{all_below, span_start, span_end, packed_place_bytes}
+use Rattle.zarrs_packbits.specs.PartialRead.{all_below, packed_place_bytes, run_end, run_start}
 use Rattle.zarrs_bytes.proofs.Ranges.{all_below-range}
 use Rattle.zarrs_packbits.proofs.FlatRead.{end_within, ranges_bytes, range_bytes, local_read, are_runs}
 use Rattle.zarrs_codec.specs.ByteRanges.{read_ranges, range_indices}
@@ -29,7 +29,7 @@ use Rattle.zarrs_packbits.specs.Packing.{packing}
 use Rattle.zarrs_packbits.specs.PaddingByte.{lead, padding_bytes_before}
 use Rattle.zarrs_packbits.specs.BitStream.{components_from, element_bits}
 use Rattle.zarrs_bytes.specs.PlannedRanges.{spans}
-use Rattle.zarrs_packbits.specs.ReadPlan.{run_start, run_end, run_span, run_bits, runs_len}
+use Rattle.zarrs_packbits.specs.ReadPlan.{run_span, run_bits, runs_len}
 use Rattle.zarrs_chunk.specs.Runs.{joined_runs}
 use Rattle.zarrs_packbits.proofs.LocalLemmas.{ordered_run, whole_element, element_some, field_of_piece, field_of_rest, flat_range_same}
 use Rattle.zarrs_packbits.proofs.BlockLemmas.{components_more}
@@ -95,17 +95,17 @@ run_elements l v start (suc len) =
 both_le : (a b n : ℕ) → a ≤ b → (nat_le a n && nat_le b n) ≡ nat_le b n
 both_le a b n h = grind (arith, nat_tests)
 
-pub place_end : (l : PackedLayout) (n p : ℕ) → IsPackedLayout l → all_below n (packed_place_bytes l p) ≡ nat_le (span_end l p) n
+pub place_end : (l : PackedLayout) (n p : ℕ) → IsPackedLayout l → all_below n (packed_place_bytes l p) ≡ nat_le (run_end l (p, 1)) n
 place_end l n p s =
     let next : (p + 1) * element_bits_len l ≡ p * element_bits_len l + element_bits_len l = omega arith in
-    let some : span_start l p < span_end l p = omega (arith, element_some l s) in
-    all_below-range n (span_start l p) (span_end l p - span_start l p) (omega arith) ∙ ap (λ k. nat_le k n) (let e : span_start l p + (span_end l p - span_start l p) ≡ span_end l p = omega arith in e)
+    let some : run_start l (p, 1) < run_end l (p, 1) = omega (arith, element_some l s) in
+    all_below-range n (run_start l (p, 1)) (run_end l (p, 1) - run_start l (p, 1)) (omega arith) ∙ ap (λ k. nat_le k n) (let e : run_start l (p, 1) + (run_end l (p, 1) - run_start l (p, 1)) ≡ run_end l (p, 1) = omega arith in e)
 
 pub run_inside : (l : PackedLayout) (n start len : ℕ) → IsPackedLayout l → all_below n (flat_map (packed_place_bytes l) (range_with_len start (len + 1))) ≡ nat_le (run_end l (start, len + 1)) n
 run_inside l n start zero s =
     list_all-append (λ k. nat_lt k n) (packed_place_bytes l start) []
     ∙ ap (λ (b : Bool). b && true) (place_end l n start s)
-    ∙ and_true (nat_le (span_end l start) n)
+    ∙ and_true (nat_le (run_end l (start, 1)) n)
   where
     and_true : (b : Bool) → (b && true) ≡ b
     and_true true = refl
@@ -119,7 +119,7 @@ run_inside l n start (suc len) s =
     ∙ list_all-append (λ k. nat_lt k n) front (packed_place_bytes l p)
     ∙ ap (λ (b : Bool). b && all_below n (packed_place_bytes l p)) (ap (λ m. all_below n (flat_map (packed_place_bytes l) (range_with_len start m))) (let e : suc len ≡ len + 1 = omega arith in e) ∙ run_inside l n start len s)
     ∙ ap (λ (b : Bool). nat_le (run_end l (start, len + 1)) n && b) (place_end l n p s)
-    ∙ both_le (run_end l (start, len + 1)) (span_end l p) n (omega arith)
+    ∙ both_le (run_end l (start, len + 1)) (run_end l (p, 1)) n (omega arith)
     ∙ ap (λ m. nat_le (lead l + (m * element_bits_len l + 7) / 8) n) (let e : p + 1 ≡ start + (suc len + 1) = omega arith in e)
 
 -- ---- of a run's bytes
@@ -290,7 +290,7 @@ run_sure q l start (suc len) s h k a b some =
     let both = all_split q front (packed_place_bytes l p) (sym (ap (list_all q) split) ∙ h) in
     let end : (p + 1) * element_bits_len l ≡ (start + suc len) * element_bits_len l = ap (λ n. n * element_bits_len l) (let e : p + 1 ≡ start + suc len = omega arith in e) in
     let next : (p + 1) * element_bits_len l ≡ p * element_bits_len l + element_bits_len l = omega arith in
-    let here : span_start l p ≤ k → q k ≡ true = λ le. all_at q (span_start l p) (span_end l p - span_start l p) (second_true _ _ both) k le (omega arith) in
+    let here : run_start l (p, 1) ≤ k → q k ≡ true = λ le. all_at q (run_start l (p, 1)) (run_end l (p, 1) - run_start l (p, 1)) (second_true _ _ both) k le (omega arith) in
     elim (cases_lt k (run_end l (start, len))) [
       | inl lt ↦ (elim (cases_lt 0 len) [
         | inl more ↦ run_sure q l start len s (first_true _ _ both) k a lt more

@@ -7,7 +7,8 @@ use Rattle.zarrs_packbits.specs.Bits.{bits_of, field}
 use Rattle.zarrs_packbits.specs.BitStream.{components_from}
 use Rattle.zarrs_packbits.specs.KeptBits.{full_component}
 use Rattle.zarrs_packbits.specs.PackedLayout.{IsOneTwoOrFour, IsPackedLayout, element_bits_len, is_whole}
-use Rattle.zarrs_packbits.specs.ReadPlan.{run_bits, run_end, run_start, runs_len}
+use Rattle.zarrs_packbits.specs.PartialRead.{run_end, run_start}
+use Rattle.zarrs_packbits.specs.ReadPlan.{run_bits, runs_len}
 use Rattle.zarrs_packbits.specs.declared.layout.PackedLayout.{PackedLayout}
 use Rattle.zarrs_packbits.proofs.LocalLemmas.{field_of_piece, flat_range_same}
 use Rattle.zarrs_packbits.proofs.RunLemmas.{run_parts, run_some, run_within}

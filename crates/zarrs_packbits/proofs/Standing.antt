@@ -23,7 +23,7 @@ use Rattle.zarrs_packbits.specs.PaddingByte.{value_len, lead, padding_bytes_befo
 use Rattle.zarrs_packbits.specs.BitStream.{stream_of_bytes, bytes_packed}
 use Rattle.zarrs_packbits.proofs.FlatChunk.{nf, decoded, IsFlatChunk, FlatStands}
 use Rattle.zarrs_packbits.proofs.LayoutLemmas.{chosen}
-use Rattle.zarrs_packbits.specs.PartialRead.{all_below, span_start, span_end, packed_place_bytes}
+use Rattle.zarrs_packbits.specs.PartialRead.{all_below, packed_place_bytes, run_end, run_start}
 use Rattle.zarrs_codec.proofs.Fences.{second_true, first_true}
 use Rattle.zarrs_chunk.proofs.Inside.{from_lt_test, lt_test}
 use Rattle.zarrs_packbits.proofs.LocalLemmas.{element_within, flat_range_same}
@@ -278,7 +278,7 @@ range_below b s (suc n) h =
 pub place_inside : (l : PackedLayout) (p : ℕ) → p < l.elements → all_below (value_len l) (packed_place_bytes l p) ≡ true
 place_inside l p h =
     let next : (p + 1) * element_bits_len l ≡ p * element_bits_len l + element_bits_len l = omega arith in
-    range_below (value_len l) (span_start l p) (span_end l p - span_start l p) (omega (arith, element_within l p h))
+    range_below (value_len l) (run_start l (p, 1)) (run_end l (p, 1) - run_start l (p, 1)) (omega (arith, element_within l p h))
 
 pub places_inside : (l : PackedLayout) (ps : List ℕ) → all_below l.elements ps ≡ true → all_below (value_len l) (flat_map (packed_place_bytes l) ps) ≡ true
 places_inside l [] h = refl

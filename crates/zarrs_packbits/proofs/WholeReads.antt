@@ -31,7 +31,7 @@ use Rattle.zarrs_packbits.specs.Packing.{packing}
 use Rattle.zarrs_packbits.specs.PaddingByte.{lead, padding_bytes_before}
 use Rattle.zarrs_metadata.specs.declared.codec.packbits.PackBitsPaddingEncoding.{PackBitsPaddingEncoding}
 use Rattle.zarrs_codec.specs.StorageState.{are_sure}
-use Rattle.zarrs_packbits.specs.PartialRead.{all_below, bytes_of_places, packed_place_bytes, packed_places_bytes, read_packed_places, read_places_of, span_start, span_end}
+use Rattle.zarrs_packbits.specs.PartialRead.{all_below, bytes_of_places, packed_place_bytes, packed_places_bytes, read_packed_places, read_places_of, run_end, run_start}
 use Rattle.zarrs_packbits.proofs.CodecLaws.{read_at}
 use Rattle.zarrs_packbits.proofs.ElementBits.{places_hold}
 use Rattle.zarrs_packbits.proofs.Exact.{joined, joined_plain}
@@ -51,14 +51,14 @@ pub whole_places : (l : PackedLayout) (places : List ℕ) → IsPackedLayout l �
 whole_places l [] s h = refl
 whole_places l (p ∷ ps) s h =
     let size = l.group * l.size in
-    let first : span_start l p ≡ p * size = sym (whole_start l p s h) in
-    let len : span_end l p - span_start l p ≡ size = (let e = whole_start l p s h in let f = whole_end l p s h in omega arith) in
+    let first : run_start l (p, 1) ≡ p * size = sym (whole_start l p s h) in
+    let len : run_end l (p, 1) - run_start l (p, 1) ≡ size = (let e = whole_start l p s h in let f = whole_end l p s h in omega arith) in
     ap₂ (λ (xs ys : List ℕ). xs ++ ys) (ap₂ range_with_len first len) (whole_places l ps s h)
 
 place_tests : (l : PackedLayout) (n size : ℕ) (places : List ℕ) → IsPackedLayout l → is_whole l ≡ true → size ≡ l.group * l.size → all_below n (packed_places_bytes l places) ≡ list_all (λ place. nat_le (place * size + size) n) places
 place_tests l n size [] s h is = refl
 place_tests l n size (p ∷ ps) s h is =
-    let end : span_end l p ≡ p * size + size = sym (whole_end l p s h) ∙ ap (λ k. p * k + k) (sym is) in
+    let end : run_end l (p, 1) ≡ p * size + size = sym (whole_end l p s h) ∙ ap (λ k. p * k + k) (sym is) in
     list_all-append (λ k. nat_lt k n) (packed_place_bytes l p) (packed_places_bytes l ps)
     ∙ ap₂ (λ (a b : Bool). a && b) (place_end l n p s ∙ ap (λ k. nat_le k n) end) (place_tests l n size ps s h is)
 

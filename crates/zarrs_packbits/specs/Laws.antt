@@ -15,7 +15,7 @@ use Rattle.zarrs_packbits.specs.PackBitsSettings.{PackBitsSettings, packed_layou
 use Rattle.zarrs_packbits.specs.Bits.{bits_of, field}
 use Rattle.zarrs_packbits.specs.PackedLayout.{element_bits_len}
 use Rattle.zarrs_packbits.specs.PaddingByte.{lead}
-use Rattle.zarrs_packbits.specs.PartialRead.{packed_places_bytes, span_end, read_packed_places, read_places_of}
+use Rattle.zarrs_packbits.specs.PartialRead.{packed_places_bytes, read_packed_places, read_places_of, run_end}
 
 -- A value that is written for a chunk stands for the chunk's normal form.
 abbrev pub PackBitsWrittenStands : Type 0
@@ -92,8 +92,8 @@ place_bits l value place = field (place * element_bits_len l) (element_bits_len 
 
 -- two values both have all bytes of the place, and the same kept bits there
 pub record SameBits (l : PackedLayout) (value other : List ℕ) (place : ℕ) : Type 0 where
-  pub in_value : span_end l place ≤ length value
-  pub in_other : span_end l place ≤ length other
+  pub in_value : run_end l (place, 1) ≤ length value
+  pub in_other : run_end l (place, 1) ≤ length other
   pub same : place_bits l value place ≡ place_bits l other place
 
 -- Two values that both have all bytes of these places, and the same kept bits there, are read alike at these places, whatever else stands in these bytes.

@@ -1,11 +1,11 @@
 -- Which bits a codec `packbits` keeps, and how it packs the chunks that it accepts.
 -- Source: zarrs, `PackBitsCodec`.
-use Rattle.std.specs.Prelude.{◌≡◌, ℕ, ◌+◌, ◌-◌, ◌*◌, ◌==◌, ◌&&◌, nat_le, nat_lt, Bool, true, false, not, Option, Some, None, List, Result, Ok, Err, is_ok, if◌then◌else◌}
+use Rattle.std.specs.Prelude.{◌≡◌, ℕ, ◌+◌, ◌-◌, ◌*◌, ◌==◌, ◌&&◌, nat_le, nat_lt, Bool, true, false, not, Option, Some, None, unwrap_or, List, Result, Ok, Err, is_ok, if◌then◌else◌}
 use Rattle.zarrs_chunk.specs.Answer.{◌>>=◌, demand, checked_u64, seen}
 use Rattle.zarrs_chunk.specs.ChunkShape.{product}
 use Rattle.zarrs_chunk.specs.declared.codec_error.CodecError.{CodecError}
 use Rattle.zarrs_chunk.specs.declared.codec_error.CodecError.TheVariants.{UnsupportedDataType, InvalidFillValue, BitRange, Overflow}
-use Rattle.zarrs_data_type.specs.ElementType.{ElementType, fixed, text, bytes, optional, component_bytes}
+use Rattle.zarrs_data_type.specs.ElementType.{ElementType, fixed, component_bytes}
 use Rattle.zarrs_data_type.specs.FillValue.{fill_fits}
 use Rattle.zarrs_metadata.specs.declared.codec.packbits.PackBitsPaddingEncoding.{PackBitsPaddingEncoding}
 use Rattle.zarrs_metadata.specs.declared.codec.packbits.PackBitsPaddingEncoding.TheVariants as padding
@@ -25,11 +25,6 @@ pub record PackBitsSettings : Type 0 where
   pub first_bit : Option ℕ
   pub last_bit : Option ℕ
 
--- the number that is given, or else this one
-abbrev pub or_else : Option ℕ → ℕ → ℕ
-or_else None number = number
-or_else (Some given) number = given
-
 -- both bits are given, and the last is below the first
 abbrev pub is_reversed : Option ℕ → Option ℕ → Bool
 is_reversed (Some first) (Some last) = nat_lt last first
@@ -44,11 +39,11 @@ packbits_settings padding first last = do
 
 -- the first bit of a component that is kept
 abbrev pub first_of : PackBitsSettings → ℕ
-first_of settings = or_else settings.first_bit 0
+first_of settings = unwrap_or settings.first_bit 0
 
 -- the last bit that is kept of a component of so many bits
 abbrev pub last_bit_of : PackBitsSettings → ℕ → ℕ
-last_bit_of settings width = or_else settings.last_bit (width - 1)
+last_bit_of settings width = unwrap_or settings.last_bit (width - 1)
 
 -- components of so many bits have the bits that are kept
 abbrev pub has_bits : PackBitsSettings → ℕ → Bool
@@ -85,9 +80,7 @@ packed_layout settings form = elim form.type [
     count ← checked_u64 (product form.sizes)
     _ ← demand (is_in_reach (layout_for settings count width components sign)) Overflow
     Ok (layout_for settings count width components sign)
-  | text ↦ Err (UnsupportedDataType PACKBITS)
-  | bytes ↦ Err (UnsupportedDataType PACKBITS)
-  | optional type ↦ Err (UnsupportedDataType PACKBITS)
+  | _ ↦ Err (UnsupportedDataType PACKBITS)
 ]
 
 -- how many bytes the value of such a chunk has, or the first error

@@ -8,23 +8,13 @@ use Rattle.zarrs_packbits.specs.Packing.{packing}
 
 -- the padding byte, where it stands before the packed bytes
 abbrev pub padding_bytes_before : PackBitsPaddingEncoding → ℕ → List ℕ
-padding_bytes_before None spare = []
 padding_bytes_before FirstByte spare = spare ∷ []
-padding_bytes_before LastByte spare = []
+padding_bytes_before place spare = []
 
 -- the padding byte, where it stands behind them
 abbrev pub padding_bytes_behind : PackBitsPaddingEncoding → ℕ → List ℕ
-padding_bytes_behind None spare = []
-padding_bytes_behind FirstByte spare = []
 padding_bytes_behind LastByte spare = spare ∷ []
-
--- the padding byte of a chunk's value, where it stands before the packed bytes
-abbrev pub padding_before : PackedLayout → List ℕ
-padding_before l = padding_bytes_before l.padding (spare_of l)
-
--- the padding byte of a chunk's value, where it stands behind them
-abbrev pub padding_behind : PackedLayout → List ℕ
-padding_behind l = padding_bytes_behind l.padding (spare_of l)
+padding_bytes_behind place spare = []
 
 -- how many bytes stand before the packed ones
 abbrev pub lead : PackedLayout → ℕ
@@ -50,4 +40,4 @@ padding_holds l value = padding_is l.padding (spare_of l) value
 
 -- the value with these bits packed, and the padding byte where it belongs
 abbrev pub value_with : PackedLayout → List ℕ → List ℕ
-value_with l bits = padding_before l ++ (packing bits ++ padding_behind l)
+value_with l bits = padding_bytes_before l.padding (spare_of l) ++ (packing bits ++ padding_bytes_behind l.padding (spare_of l))

@@ -22,17 +22,17 @@ use Rattle.zarrs_packbits.specs.PackedLayout.{element_bits_len}
 use Rattle.zarrs_packbits.specs.PaddingByte.{lead}
 use Rattle.zarrs_packbits.specs.Packing.{packing}
 
--- the first byte of a value that holds kept bits of the place
-abbrev pub span_start : PackedLayout → ℕ → ℕ
-span_start l place = lead l + place * element_bits_len l / 8
+-- the first byte of a value that holds kept bits of the run
+abbrev pub run_start : PackedLayout → ℕ × ℕ → ℕ
+run_start l run = lead l + run.0 * element_bits_len l / 8
 
--- the first byte behind those that hold kept bits of the place
-abbrev pub span_end : PackedLayout → ℕ → ℕ
-span_end l place = lead l + ((place + 1) * element_bits_len l + 7) / 8
+-- the first byte behind those that hold kept bits of the run
+abbrev pub run_end : PackedLayout → ℕ × ℕ → ℕ
+run_end l run = lead l + ((run.0 + run.1) * element_bits_len l + 7) / 8
 
 -- the numbers of a place's bytes
 abbrev pub packed_place_bytes : PackedLayout → ℕ → List ℕ
-packed_place_bytes l place = range_with_len (span_start l place) (span_end l place - span_start l place)
+packed_place_bytes l place = range_with_len (run_start l (place, 1)) (run_end l (place, 1) - run_start l (place, 1))
 
 -- the numbers of the bytes of these places, place by place
 abbrev pub packed_places_bytes : PackedLayout → List ℕ → List ℕ

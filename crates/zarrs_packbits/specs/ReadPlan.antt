@@ -9,16 +9,7 @@ use Rattle.zarrs_packbits.specs.Bits.{bits_of}
 use Rattle.zarrs_packbits.specs.BitStream.{components_from}
 use Rattle.zarrs_packbits.specs.declared.layout.PackedLayout.{PackedLayout}
 use Rattle.zarrs_packbits.specs.PackedLayout.{element_bits_len, is_whole}
-use Rattle.zarrs_packbits.specs.PaddingByte.{lead}
-use Rattle.zarrs_packbits.specs.PartialRead.{packed_places_bytes}
-
--- the first byte of a value that holds bits of the run
-abbrev pub run_start : PackedLayout → ℕ × ℕ → ℕ
-run_start l run = lead l + run.0 * element_bits_len l / 8
-
--- the first byte behind those that hold bits of the run
-abbrev pub run_end : PackedLayout → ℕ × ℕ → ℕ
-run_end l run = lead l + ((run.0 + run.1) * element_bits_len l + 7) / 8
+use Rattle.zarrs_packbits.specs.PartialRead.{packed_places_bytes, run_end, run_start}
 
 -- the bytes that hold bits of the run
 abbrev pub run_span : PackedLayout → ℕ × ℕ → ℕ × ℕ

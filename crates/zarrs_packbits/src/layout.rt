@@ -2,7 +2,7 @@
 ghost use Rattle.std.specs.Prelude.{IsTrue, ◌<◌, ◌≤◌, ◌+◌, ◌≡◌, length};
 ghost use Rattle.zarrs_packbits.specs.PackedLayout.{IsOneTwoOrFour, IsPackedLayout, is_whole, is_in_reach, spare_of};
 ghost use Rattle.zarrs_packbits.specs.PaddingByte.{lead, trail, value_len, padding_holds};
-ghost use Rattle.zarrs_packbits.specs.ReadPlan.{run_start, run_end};
+ghost use Rattle.zarrs_packbits.specs.PartialRead.{run_end, run_start};
 
 use zarrs_metadata::PackBitsPaddingEncoding;
 

@@ -4,8 +4,8 @@ ghost use Rattle.std.specs.Prelude.{◌≡◌, ◌+◌, ◌*◌, ◌^◌, ◌<�
 ghost use Rattle.zarrs_chunk.specs.Answer.{Gives};
 ghost use Rattle.zarrs_packbits.specs.Bits.{bits_of};
 ghost use Rattle.zarrs_packbits.specs.BitStream.{bytes_packed, bytes_unpacked};
-ghost use Rattle.zarrs_packbits.specs.PackedLayout.{IsPackedLayout, is_whole, layout_components};
-ghost use Rattle.zarrs_packbits.specs.PaddingByte.{padding_before, padding_behind, value_len};
+ghost use Rattle.zarrs_packbits.specs.PackedLayout.{IsPackedLayout, is_whole, layout_components, spare_of};
+ghost use Rattle.zarrs_packbits.specs.PaddingByte.{padding_bytes_before, padding_bytes_behind, value_len};
 
 use crate::bit_appends::in_range;
 use crate::bit_writer::BitWriter;
@@ -20,7 +20,7 @@ use zarrs_metadata::PackBitsPaddingEncoding;
 /// Puts the padding byte, where it stands first.
 fn begin_value(alloc: Global, layout: &PackedLayout, room: usize) -> Result<BitWriter, AllocError>
     requires layout { IsPackedLayout layout.now }
-    ensures value { IfOk result (λ w. w ≡ bits_of (padding_before layout.now)) }
+    ensures value { IfOk result (λ w. w ≡ bits_of (padding_bytes_before layout.now.padding (spare_of layout.now))) }
 {
     let mut writer = BitWriter::with_capacity(alloc, room)?;
     match layout.padding {
@@ -33,7 +33,8 @@ fn begin_value(alloc: Global, layout: &PackedLayout, room: usize) -> Result<BitW
 /// Puts the padding byte, where it stands last.
 fn end_value(layout: &PackedLayout, mut value: Vec<u8>) -> Result<Vec<u8>, AllocError>
     requires layout { IsPackedLayout layout.now }
-    ensures value { IfOk result (λ v. v.items ≡ value.items ++ padding_behind layout.now) }
+    ensures value { IfOk result (λ v. v.items ≡ value.items ++ padding_bytes_behind
+        layout.now.padding (spare_of layout.now)) }
 {
     match layout.padding {
         PackBitsPaddingEncoding::LastByte => value.push(layout.spare())?,

@@ -3,7 +3,8 @@ ghost use Rattle.std.specs.Prelude.{◌≡◌, ◌+◌, ◌-◌, ◌*◌, ◌%�
 ghost use Rattle.zarrs_packbits.specs.BlockBits.{block_len};
 ghost use Rattle.zarrs_packbits.specs.KeptBits.{sign_weight};
 ghost use Rattle.zarrs_packbits.specs.PackedLayout.{IsOneTwoOrFour, IsPackedLayout, element_bits_len, is_whole};
-ghost use Rattle.zarrs_packbits.specs.ReadPlan.{run_bits, run_end, run_start, runs_len};
+ghost use Rattle.zarrs_packbits.specs.PartialRead.{run_end, run_start};
+ghost use Rattle.zarrs_packbits.specs.ReadPlan.{run_bits, runs_len};
 ghost use Rattle.zarrs_packbits.specs.WrittenBits.{AppendsBits, AppendsComponents};
 
 use crate::blocks::{bit_block, half_block, lift_byte, quarter_block};

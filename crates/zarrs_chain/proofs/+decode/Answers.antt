@@ -26,7 +26,7 @@ use Rattle.zarrs_chain_meaning.proofs.OptionalSteps.{mask_refused, part_refused,
 use Rattle.zarrs_chain_meaning.proofs.PartSteps.{chunk_of_none}
 use Rattle.zarrs_chain.proofs.BytesBehind.{takes_behind, reads_behind}
 use Rattle.zarrs_chain.proofs.KeptBytes.{bytes_kept, raw_is, given_below, held_through}
-use Rattle.zarrs_chain_meaning.specs.KeptBytes.{hands_on}
+use Rattle.zarrs_array_to_array.specs.ArrayToArrayCodec.{keeps_places}
 use Rattle.zarrs_chain.proofs.VlenDecode.{content_bytes, content_answered, content_counted, offsets_answered, vlen_answered, index_refused_by, content_refused_by}
 use Rattle.zarrs_chain_meaning.specs.ArrayStages.{arrays_map}
 use Rattle.zarrs_chain_meaning.specs.BytesStages.{outer_bytes}
@@ -86,7 +86,7 @@ decode::chain_decode-returns g t c =
           held_through c.args.value c.in_ok-below.below c.in_ok-chunk.chunk c.decode_arrays.result
           (raw_is (c.in_ok-below.ensures.kept (c.deref.ensures.value ∙ k.outer)))
           (c.in_ok-chunk.ensures.kept k.codec)
-          (c.decode_arrays.ensures.kept (subst (λ (cs : List ArrayToArrayCodec). list_all hands_on (map mapping_of cs) ≡ true) (sym c.as_slice-codecs.ensures.value) k.arrays));
+          (c.decode_arrays.ensures.kept (subst (λ (cs : List ArrayToArrayCodec). list_all keeps_places (map mapping_of cs) ≡ true) (sym c.as_slice-codecs.ensures.value) k.arrays));
     }
 
 pub decode::chain_decode-bytes_decode-requires : goal.decode::chain_decode-bytes_decode-requires
@@ -117,7 +117,7 @@ decode::chain_decode-returns-in-Bytes-clause-kept g t c = λ k.
     given_below c.args.value c.in_ok-below.below c.bytes_decode.result
     (raw_is (c.in_ok-below.ensures.kept (c.deref.ensures.value ∙ k.outer)))
     (c.bytes_decode.ensures.kept (bytes_kept c.args.chain.now.array_to_bytes c.in-Bytes.codec c.args.form.data_type.now c.in-Bytes.is k.codec)
-    (subst (λ (cs : List ArrayToArrayCodec). list_all hands_on (map mapping_of cs) ≡ true) (sym c.as_slice-codecs.ensures.value) k.arrays))
+    (subst (λ (cs : List ArrayToArrayCodec). list_all keeps_places (map mapping_of cs) ≡ true) (sym c.as_slice-codecs.ensures.value) k.arrays))
 
 pub decode::chain_decode-returns-in_err-taken-clause-exact : goal.decode::chain_decode-returns-in_err-taken-clause-exact
 decode::chain_decode-returns-in_err-taken-clause-exact g t c =

@@ -16,7 +16,7 @@ use Rattle.zarrs_chain_meaning.proofs.OptionalSteps.{mask_answers}
 use Rattle.zarrs_chain_meaning.specs.ArrayStages.{arrays_map}
 use Rattle.zarrs_chain_meaning.specs.BytesStages.{outer_value, in_memory}
 use Rattle.zarrs_chain_meaning.specs.Chain.{held_value, held_part}
-use Rattle.zarrs_chain_meaning.specs.KeptBytes.{hands_on}
+use Rattle.zarrs_array_to_array.specs.ArrayToArrayCodec.{keeps_places}
 use Rattle.zarrs_chain.specs.ChainView.{plain_chain, plain_vlen, plain_vlen_at}
 use Rattle.zarrs_chain.specs.FormView.{lent_form}
 use Rattle.zarrs_chain_meaning.specs.vlen.VlenSettings.{is_wide, is_at_end}
@@ -109,7 +109,7 @@ encode::chain_encode-returns g t c =
       };
       kept = λ k.
           given_through c.args.held c.in_ok-chunk.chunk (raw_of c.in_ok-below.below) c.encode_bytes.result
-          (c.in_ok-chunk.ensures.kept (subst (λ (cs : List ArrayToArrayCodec). list_all hands_on (map mapping_of cs) ≡ true) (sym c.deref.ensures.value) k.arrays))
+          (c.in_ok-chunk.ensures.kept (subst (λ (cs : List ArrayToArrayCodec). list_all keeps_places (map mapping_of cs) ≡ true) (sym c.deref.ensures.value) k.arrays))
           (c.in_ok-below.ensures.kept k.codec)
           (c.encode_bytes.ensures.kept (c.deref-2.ensures.value ∙ k.outer));
     }

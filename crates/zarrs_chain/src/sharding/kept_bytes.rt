@@ -3,7 +3,8 @@ ghost use Rattle.std.specs.List.{list_all};
 ghost use Rattle.std.specs.Prelude.{◌≡◌, is_none, map, true};
 ghost use Rattle.zarrs_array_to_array.specs.Mapping.{mapping_of};
 ghost use Rattle.zarrs_bytes.specs.BytesCodec.{turn_size};
-ghost use Rattle.zarrs_chain_meaning.specs.KeptBytes.{KeepsBytes, codec_keeps_bytes, hands_on};
+ghost use Rattle.zarrs_chain_meaning.specs.KeptBytes.{KeepsBytes, codec_keeps_bytes};
+ghost use Rattle.zarrs_array_to_array.specs.ArrayToArrayCodec.{keeps_places};
 ghost use Rattle.zarrs_chain.specs.ChainView.{plain_chain, plain_codec};
 
 use crate::array_to_bytes_codec::ArrayToBytesCodec;
@@ -14,7 +15,7 @@ use zarrs_data_type::{DataType, Endianness, HasComponents};
 
 /// Whether each of these codecs hands on a container as it is.
 fn hand_on(codecs: &[ArrayToArrayCodec]) -> bool
-    ensures value { result ≡ list_all hands_on (map mapping_of codecs.now) }
+    ensures value { result ≡ list_all keeps_places (map mapping_of codecs.now) }
 {
     match codecs {
         [] => true,

@@ -2,7 +2,8 @@ use Rattle.std.proofs.Common.{◌≡◌, ℕ, ◌<◌, get_or, arith, ap, map}
 use Rattle.std.proofs.lemmas.List.{drop_more}
 use Rattle.std.proofs.lemmas.List.Elements.{All-push}
 use Rattle.zarrs_codec.specs.ByteSpan.{ByteSpan}
-use Rattle.zarrs_packbits.specs.ReadPlan.{run_span, run_start, run_end}
+use Rattle.zarrs_packbits.specs.PartialRead.{run_end, run_start}
+use Rattle.zarrs_packbits.specs.ReadPlan.{run_span}
 use Rattle.zarrs_packbits.proofs.LocalLemmas.{more_spans}
 use Rattle.zarrs_packbits.proofs.runs.run_ranges.Goals as goal
 
