@@ -6,7 +6,7 @@ use Rattle.zarrs_bytes.specs.PlannedRanges.{IsPlan as IsElementPlan}
 use Rattle.zarrs_chain_meaning.specs.CodecMeaning.{meaning}
 use Rattle.zarrs_chain_meaning.specs.Meaning.{Meaning, through}
 use Rattle.zarrs_chain_meaning.specs.PlainChain.{PlainCodec, bytes_codec, packbits_codec, vlen_codec, sharding_codec}
-use Rattle.zarrs_chain_meaning.specs.CodecFacts.{facts}
+use Rattle.zarrs_chain_meaning.specs.CodecFacts.{facts, if_alone}
 use Rattle.zarrs_chain_meaning.specs.vlen.PlainForm.{PlainForm}
 use Rattle.zarrs_chain_meaning.specs.sharding.Sharding.{Span}
 use Rattle.zarrs_chunk.specs.ChunkShape.{product}
@@ -137,5 +137,4 @@ shard_depth codec = (part_of codec).depth
 
 -- the byte order of `bytes` without bytes-to-bytes codecs: there the bytes of places are those of their elements, and a write over a stored value replaces them alone
 abbrev pub order_in_place : {B : Type 0} → List B → PlainCodec B → Option (Option Endianness)
-order_in_place [] codec = (facts codec).order
-order_in_place (first ∷ rest) codec = None
+order_in_place outer codec = if_alone [] (facts codec).order outer

@@ -1,5 +1,5 @@
 -- The index of a shard that a decoder keeps: what it is of what is stored, and what a read by it rests on.
-use Rattle.std.specs.Prelude.{◌≡◌, ℕ, ◌*◌, Bool, true, false, Option, Some, None, IfSome, List, [], ◌∷◌, length, Result, Ok, is_some, option_map}
+use Rattle.std.specs.Prelude.{◌≡◌, ℕ, ◌*◌, ◌&&◌, Bool, true, false, Option, Some, None, IfSome, List, [], length, slice_get, Result, Ok, is_none, is_some, option_map}
 use Rattle.std.proofs.Props.{props}
 use Rattle.zarrs_chunk.specs.Answer.{◌>>=◌}
 use Rattle.zarrs_chunk.specs.declared.codec_error.CodecError.{CodecError}
@@ -17,8 +17,7 @@ use Rattle.zarrs_codec_chain.specs.declared.sharding.shard_index.ShardIndex.{Sha
 
 -- whether a read asks for an index: it does over `sharding_indexed` where there are no bytes-to-bytes codecs
 abbrev pub asks_index : {B : Type 0} → List B → PlainCodec B → Bool
-asks_index [] codec = is_some (part_of codec).indexed
-asks_index (first ∷ rest) codec = false
+asks_index outer codec = is_none (slice_get outer 0) && is_some (part_of codec).indexed
 
 -- where the inner chunks of a value stand, by its index, or the first error; nowhere where values have none
 abbrev pub spans_with : {B : Type 0} → Option (IndexPart B) → BytesCodecs B → List ℕ → List ℕ → Result (List Span) CodecError
