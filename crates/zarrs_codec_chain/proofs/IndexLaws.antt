@@ -11,7 +11,8 @@ use Rattle.zarrs_codec.specs.BytesToBytesCodec.{BytesCodecs}
 use Rattle.zarrs_codec.specs.StorageState.{are_sure}
 use Rattle.zarrs_codec_chain.proofs.ShardPlaces.{shard_behind_each, through_rests_each}
 use Rattle.zarrs_codec_chain.specs.ChunkRead.{are_given_sure}
-use Rattle.zarrs_codec_chain.specs.CodecPart.{IndexPart, Part, shard_part}
+use Rattle.zarrs_codec_chain.specs.CodecPart.{Part, shard_part}
+use Rattle.zarrs_codec_chain.specs.KeptIndex.{IndexPart, shard_index_part}
 use Rattle.zarrs_codec_chain.specs.PartRead.{PlaceReader}
 use Rattle.zarrs_codec_chain.specs.PlaceLaws.{IsLawfulReader, Resting, RestsEach, rests_through}
 use Rattle.zarrs_codec_chain.specs.ShardRead.{index_bytes_at, shard_rests_behind, spans_by, spans_in, spans_rest}
@@ -19,16 +20,17 @@ use Rattle.zarrs_data_type.specs.Element.{Chunk}
 use Rattle.zarrs_data_type.specs.ElementType.{ElementType}
 
 -- A read fails by the index's error; where all is sure that it rests on, the index's bytes are, and what it rests on behind them; and that goes by which places they are.
-pub record IsLawfulIndex {B : Type 0} (f : BytesCodecs B) (read : PlaceReader) (rests : Resting) (index : IndexPart B) : Type 0 where
+pub record IsLawfulIndex {B : Type 0} (f : BytesCodecs B) (read : PlaceReader) (rests : Resting) (index : IndexPart B) (behind : Resting) : Type 0 where
   pub refused : (sizes : List ℕ) (type : ElementType) (fill value places : List ℕ) (error : CodecError) → index.spans f sizes value ≡ Err error → read sizes type fill (Some value) places ≡ Err error
   pub bytes_sure : (sizes : List ℕ) (type : ElementType) (fill value places : List ℕ) (sure : Option (ℕ → Bool)) → are_given_sure sure (rests sizes type fill (Some value) places) ≡ true → are_given_sure sure (index.bytes f sizes value) ≡ true
-  pub behind_sure : (sizes : List ℕ) (type : ElementType) (fill : List ℕ) (stored : Option (List ℕ)) (places : List ℕ) (sure : Option (ℕ → Bool)) → are_given_sure sure (rests sizes type fill stored places) ≡ true → are_given_sure sure (index.rests_behind f sizes type fill stored places) ≡ true
-  pub behind_each : (sizes : List ℕ) (type : ElementType) (fill : List ℕ) (stored : Option (List ℕ)) → RestsEach (index.rests_behind f sizes type fill stored)
+  pub behind_sure : (sizes : List ℕ) (type : ElementType) (fill : List ℕ) (stored : Option (List ℕ)) (places : List ℕ) (sure : Option (ℕ → Bool)) → are_given_sure sure (rests sizes type fill stored places) ≡ true → are_given_sure sure (behind sizes type fill stored places) ≡ true
+  pub behind_each : (sizes : List ℕ) (type : ElementType) (fill : List ℕ) (stored : Option (List ℕ)) → RestsEach (behind sizes type fill stored)
 
 -- the same, where there is an index
-abbrev pub IndexLaws : {B : Type 0} → BytesCodecs B → PlaceReader → Resting → Option (IndexPart B) → Type 0
-IndexLaws f read rests None = Unit {0}
-IndexLaws f read rests (Some index) = IsLawfulIndex f read rests index
+abbrev pub IndexLaws : {B : Type 0} → BytesCodecs B → PlaceReader → Resting → Option (IndexPart B) → Option (BytesCodecs B → Resting) → Type 0
+IndexLaws f read rests None None = Unit {0}
+IndexLaws f read rests (Some index) (Some behind) = IsLawfulIndex f read rests index (behind f)
+IndexLaws f read rests _ _ = ⊥
 
 -- ---- shards
 
@@ -68,7 +70,7 @@ module _ {B : Type 0} (f : BytesCodecs B) (arrays : List ArrayMapping) (m : Mean
   shard_behind_sure sizes type fill (Some value) places sure e = behind_size inner_rests_on shape sizes type fill value places at_end (index.chunk f) sure (index_size (index.representation f) shape sizes) e
 
   -- the index of a shard keeps them
-  pub shard_index : IsLawfulReader f m (p.read f) (p.rests_on f) → IndexLaws f (shard.read f) (shard.rests_on f) shard.indexed
+  pub shard_index : IsLawfulReader f m (p.read f) (p.rests_on f) → IndexLaws f (shard.read f) (shard.rests_on f) (Some (shard_index_part index shape at_end)) shard.rests_behind
   shard_index laws = record {
     refused = λ sizes type fill value places error e. spans_refused (spans_in shape at_end (index.representation f) (index.chunk f) sizes value) _ error e;
     bytes_sure = λ sizes type fill value places sure e. index_at_size inner_rests_on shape sizes type fill value places at_end (index.chunk f) sure (index_size (index.representation f) shape sizes) e;

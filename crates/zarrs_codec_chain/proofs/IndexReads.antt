@@ -1,7 +1,7 @@
 -- Reads by the index of a shard that is kept, or that is read first.
 use Rattle.std.proofs.Common.{◌≡◌, ℕ, ◌<◌, ◌^◌, ◌&&◌, Bool, true, false, if◌then◌else◌, Option, Some, None, List, [], ◌∷◌, length, map, Result, Ok, Err, refl, ap, sym, subst, ◌∙◌}
 use Rattle.std.specs.Prelude.{IfErr, IfOk, IfSome, is_some}
-use Rattle.std.specs.Option.{option_map, option_map_or}
+use Rattle.std.specs.Option.{option_map, unwrap_or}
 use Rattle.zarrs_array_bytes.specs.Held.{Held}
 use Rattle.zarrs_array_bytes.specs.Validity.{Holds}
 use Rattle.zarrs_bytes.proofs.Coding.{ok, bind_ok}
@@ -25,8 +25,8 @@ use Rattle.zarrs_codec_chain.proofs.LawfulPart.{part_laws, same_sure}
 use Rattle.zarrs_codec_chain.proofs.PartialReads.{IsReadable, is_readable, stored_selects, unstored_read}
 use Rattle.zarrs_codec_chain.proofs.SureReads.{where_sure}
 use Rattle.zarrs_codec_chain.specs.ChunkRead.{ReadsStoredChunk, are_given_sure, asks_in_part, encoded_places, outer_stored, stored_read, WhereSureBy}
-use Rattle.zarrs_codec_chain.specs.CodecPart.{IndexPart, codec_read, codec_rests_on, part_of, rests_where}
-use Rattle.zarrs_codec_chain.specs.KeptIndex.{IsIndexOf, asks_index, bytes_with, codec_index, codec_spans, index_rests_on, index_seen, keeps_nothing, knows_index, spans_with}
+use Rattle.zarrs_codec_chain.specs.CodecPart.{codec_read, codec_rests_on, part_of, rests_where}
+use Rattle.zarrs_codec_chain.specs.KeptIndex.{IndexPart, IsIndexOf, asks_index, bytes_with, codec_index, codec_spans, index_of, index_rests_on, index_seen, keeps_nothing, knows_index, spans_with}
 use Rattle.zarrs_codec_chain.specs.PlaceLaws.{Resting, RestsEach, SameMembers}
 use Rattle.zarrs_codec_chain.specs.PartRead.{PlaceReader}
 use Rattle.zarrs_codec_chain.proofs.IndexLaws.{IndexLaws}
@@ -109,48 +109,52 @@ none_asked None (Ok numbers) e = absurd cc
 none_asked None (Err x) e = absurd cc
 none_asked (Some test) r e = refl
 
-abbrev rests_with : {B : Type 0} → Option (IndexPart B) → BytesCodecs B → Resting → Resting
-rests_with index f rests sizes type fill stored places = option_map_or (λ index. index.rests_behind f sizes type fill stored places) index (rests sizes type fill stored places)
+module _ {B : Type 0} (f : BytesCodecs B) (read : PlaceReader) (rests : BytesCodecs B → Resting) (sizes : List ℕ) (type : ElementType) (fill : List ℕ) where
+  with_behind : (index : Option (IndexPart B)) (behind : Option (BytesCodecs B → Resting)) → IndexLaws f read (rests f) index behind → (stored : Option (List ℕ)) (places : List ℕ) (sure : Option (ℕ → Bool))
+      → are_given_sure sure (rests f sizes type fill stored places) ≡ true → are_given_sure sure (unwrap_or behind rests f sizes type fill stored places) ≡ true
+  with_behind None None laws stored places sure e = e
+  with_behind (Some index) (Some behind) laws stored places sure e = laws.behind_sure sizes type fill stored places sure e
+  with_behind None (Some behind) laws stored places sure e = absurd laws
+  with_behind (Some index) None laws stored places sure e = absurd laws
 
-module _ {B : Type 0} (f : BytesCodecs B) (read : PlaceReader) (rests : Resting) (sizes : List ℕ) (type : ElementType) (fill : List ℕ) where
-  with_behind : (index : Option (IndexPart B)) → IndexLaws f read rests index → (stored : Option (List ℕ)) (places : List ℕ) (sure : Option (ℕ → Bool)) → are_given_sure sure (rests sizes type fill stored places) ≡ true
-      → are_given_sure sure (rests_with index f rests sizes type fill stored places) ≡ true
-  with_behind None laws stored places sure e = e
-  with_behind (Some index) laws stored places sure e = laws.behind_sure sizes type fill stored places sure e
+  with_bytes : (index : Option (IndexPart B)) (behind : Option (BytesCodecs B → Resting)) → IndexLaws f read (rests f) index behind → (value places : List ℕ) (sure : Option (ℕ → Bool))
+      → are_given_sure sure (rests f sizes type fill (Some value) places) ≡ true → are_given_sure sure (bytes_with index f sizes value) ≡ true
+  with_bytes None behind laws value places sure e = none_asked sure (rests f sizes type fill (Some value) places) e
+  with_bytes (Some index) (Some behind) laws value places sure e = laws.bytes_sure sizes type fill value places sure e
+  with_bytes (Some index) None laws value places sure e = absurd laws
 
-  with_bytes : (index : Option (IndexPart B)) → IndexLaws f read rests index → (value places : List ℕ) (sure : Option (ℕ → Bool)) → are_given_sure sure (rests sizes type fill (Some value) places) ≡ true → are_given_sure sure (bytes_with index f sizes value) ≡ true
-  with_bytes None laws value places sure e = none_asked sure (rests sizes type fill (Some value) places) e
-  with_bytes (Some index) laws value places sure e = laws.bytes_sure sizes type fill value places sure e
+  with_each : (index : Option (IndexPart B)) (behind : Option (BytesCodecs B → Resting)) → IndexLaws f read (rests f) index behind → (stored : Option (List ℕ)) → RestsEach (rests f sizes type fill stored) → RestsEach (unwrap_or behind rests f sizes type fill stored)
+  with_each index None laws stored each = each
+  with_each (Some index) (Some behind) laws stored each = laws.behind_each sizes type fill stored
+  with_each None (Some behind) laws stored each = absurd laws
 
-  with_each : (index : Option (IndexPart B)) → IndexLaws f read rests index → (stored : Option (List ℕ)) → RestsEach (rests sizes type fill stored) → RestsEach (rests_with index f rests sizes type fill stored)
-  with_each None laws stored each = each
-  with_each (Some index) laws stored each = laws.behind_each sizes type fill stored
-
-  with_refused : (index : Option (IndexPart B)) → IndexLaws f read rests index → is_some index ≡ true → (value places : List ℕ) (error : CodecError) → spans_with index f sizes value ≡ Err error → read sizes type fill (Some value) places ≡ Err error
-  with_refused None laws there value places error e = absurd cc
-  with_refused (Some index) laws there value places error e = laws.refused sizes type fill value places error e
+  with_refused : (index : Option (IndexPart B)) (behind : Option (BytesCodecs B → Resting)) → IndexLaws f read (rests f) index behind → is_some behind ≡ true → (value places : List ℕ) (error : CodecError)
+      → spans_with index f sizes value ≡ Err error → read sizes type fill (Some value) places ≡ Err error
+  with_refused index None laws there value places error e = absurd cc
+  with_refused (Some index) (Some behind) laws there value places error e = laws.refused sizes type fill value places error e
+  with_refused None (Some behind) laws there value places error e = absurd laws
 
 abbrev SureSo : StorageState → Type 0 → Option (List ℕ) → Type 0
 SureSo before P asked = IfSome asked (λ numbers. are_sure before.sure numbers ≡ true → P)
 
 module _ {B : Type 0} (f : BytesCodecs B) where
-  laws_of : (codec : PlainCodec B) → IndexLaws f (codec_read f codec) (codec_rests_on f codec) (part_of codec).indexed
+  laws_of : (codec : PlainCodec B) → IndexLaws f (codec_read f codec) (codec_rests_on f codec) (index_of codec) (part_of codec).rests_behind
   laws_of codec = (part_laws codec).indexed f
 
   -- where all is sure that a read rests on, what it rests on behind the index is
   pub behind_sure : (codec : PlainCodec B) (sizes : List ℕ) (type : ElementType) (fill : List ℕ) (stored : Option (List ℕ)) (places : List ℕ) (sure : Option (ℕ → Bool)) → are_given_sure sure (codec_rests_on f codec sizes type fill stored places) ≡ true
       → are_given_sure sure (rests_where true f codec sizes type fill stored places) ≡ true
-  behind_sure codec sizes type fill stored places sure e = with_behind f (codec_read f codec) (codec_rests_on f codec) sizes type fill (part_of codec).indexed (laws_of codec) stored places sure e
+  behind_sure codec sizes type fill stored places sure e = with_behind f (codec_read f codec) (part_of codec).rests_on sizes type fill (index_of codec) (part_of codec).rests_behind (laws_of codec) stored places sure e
 
   -- and so are the index's bytes
   pub index_is_sure : (codec : PlainCodec B) (sizes : List ℕ) (type : ElementType) (fill : List ℕ) (stored : Option (List ℕ)) (places : List ℕ) (sure : Option (ℕ → Bool)) → are_given_sure sure (codec_rests_on f codec sizes type fill stored places) ≡ true
       → are_given_sure sure (index_rests_on f codec sizes stored) ≡ true
   index_is_sure codec sizes type fill None places sure e = none_asked sure (codec_rests_on f codec sizes type fill None places) e
-  index_is_sure codec sizes type fill (Some value) places sure e = with_bytes f (codec_read f codec) (codec_rests_on f codec) sizes type fill (part_of codec).indexed (laws_of codec) value places sure e
+  index_is_sure codec sizes type fill (Some value) places sure e = with_bytes f (codec_read f codec) (part_of codec).rests_on sizes type fill (index_of codec) (part_of codec).rests_behind (laws_of codec) value places sure e
 
   where_each : (known : Bool) (codec : PlainCodec B) (sizes : List ℕ) (type : ElementType) (fill : List ℕ) (stored : Option (List ℕ)) → RestsEach (rests_where known f codec sizes type fill stored)
   where_each false codec sizes type fill stored = ((part_laws codec).places f).rests_each sizes type fill stored
-  where_each true codec sizes type fill stored = with_each f (codec_read f codec) (codec_rests_on f codec) sizes type fill (part_of codec).indexed (laws_of codec) stored (((part_laws codec).places f).rests_each sizes type fill stored)
+  where_each true codec sizes type fill stored = with_each f (codec_read f codec) (part_of codec).rests_on sizes type fill (index_of codec) (part_of codec).rests_behind (laws_of codec) stored (((part_laws codec).places f).rests_each sizes type fill stored)
 
   -- where the bytes are sure that places rest on, those are that the same places in another order rest on
   pub sure_alike : (known : Bool) (codec : PlainCodec B) (sure : Option (ℕ → Bool)) (ps qs : List ℕ) → SameMembers ps qs → (sizes : List ℕ) (type : ElementType) (fill : List ℕ) (stored : Option (List ℕ)) (P : Type 0)
@@ -189,7 +193,7 @@ shard_refused : {B : Type 0} (f : BytesCodecs B) (codec : PlainCodec B) (sizes :
     → codec_index f codec sizes stored ≡ Err error → codec_read f codec sizes type fill stored places ≡ Err error
 shard_refused f codec sizes type fill None places error asks e = absurd cc
 shard_refused f codec sizes type fill (Some value) places error asks e =
-    with_refused f (codec_read f codec) (codec_rests_on f codec) sizes type fill (part_of codec).indexed (laws_of f codec) asks value places error (spans_refused (codec_spans f codec sizes value) (length value) error e)
+    with_refused f (codec_read f codec) (part_of codec).rests_on sizes type fill (index_of codec) (part_of codec).rests_behind (laws_of f codec) asks value places error (spans_refused (codec_spans f codec sizes value) (length value) error e)
 
 module _ {B : Type 0} (f : BytesCodecs B) (form : ChunkForm B) (encoded : List ℕ) (r : BytesRepresentation) (mappings : IsChainOfMappings form.chain) (positive : All (λ size. 0 < size) form.sizes) (taken : taken_form f form.chain form.sizes form.type form.fill ≡ Ok (encoded, r)) (before : StorageState) (selection : Selection) where
   -- what a read answers of what is stored, by the one exact answer

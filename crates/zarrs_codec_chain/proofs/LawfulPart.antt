@@ -39,6 +39,7 @@ use Rattle.zarrs_codec_chain.proofs.IndexLaws.{IndexLaws, shard_index}
 use Rattle.zarrs_codec_chain.proofs.PlaceCodecs.{bytes_places, packbits_places, vlen_places, whole_places}
 use Rattle.zarrs_codec_chain.proofs.ShardPlaces.{shard_places, through_places}
 use Rattle.zarrs_codec_chain.specs.CodecPart.{part_of, codec_read, Part, bytes_part, packbits_part, shard_part, vlen_part, whole_part}
+use Rattle.zarrs_codec_chain.specs.KeptIndex.{IndexPart, index_of, shard_index_part}
 use Rattle.zarrs_codec_chain.specs.PartRead.{whole_read}
 use Rattle.zarrs_codec_chain.specs.PlaceLaws.{SameMembers, ReadsEach, IsLawfulReader}
 
@@ -65,7 +66,7 @@ pub record IsBytes {B : Type 0} (m : Meaning B) (p : Part B) (order : Option End
   pub does : p ≡ bytes_part order
 
 -- What is read of places, and what that rests on, keeps what is asked of it, and so does an index; a codec that has one reads in part. Where it is planned, what places rest on doesn't go by what is stored, values that agree there are read alike, and the ranges have these bytes. What is planned is read in part; a codec reads all in part, or nothing and then by the whole chunk, of all bytes; where it has a plain form, by that. Only `bytes` replaces its places' bytes alone.
-pub record IsLawfulPart {B : Type 0} (m : Meaning B) (x : Facts) (p : Part B) : Type 1 where
+pub record IsLawfulPart {B : Type 0} (m : Meaning B) (x : Facts) (i : Option (IndexPart B)) (p : Part B) : Type 1 where
   pub places : (f : BytesCodecs B) → IsLawfulReader f m (p.read f) (p.rests_on f)
   pub rests_alike : (f : BytesCodecs B) (sizes : List ℕ) (type : ElementType) (fill : List ℕ) (stored : Option (List ℕ)) (places : List ℕ) → p.plans ≡ true → p.rests_on f sizes type fill None places ≡ p.rests_on f sizes type fill stored places
   pub alike : (f : BytesCodecs B) (value other : List ℕ) → ReadsAlike p f value other (All (SameByte value other))
@@ -76,13 +77,13 @@ pub record IsLawfulPart {B : Type 0} (m : Meaning B) (x : Facts) (p : Part B) : 
   pub plainly : (f : BytesCodecs B) (form : PlainForm) (sizes : List ℕ) (type : ElementType) (fill : List ℕ) (stored : Option (List ℕ)) (places : List ℕ) → x.plain ≡ Some form → p.read f sizes type fill stored places ≡ plain_read form (product sizes) type fill stored places
   pub rests_plainly : (f : BytesCodecs B) (form : PlainForm) (sizes : List ℕ) (type : ElementType) (fill : List ℕ) (stored : Option (List ℕ)) (places : List ℕ) → x.plain ≡ Some form → p.rests_on f sizes type fill stored places ≡ Ok (stored_rests_on form (product sizes) stored places)
   pub in_place : (order : Option Endianness) → x.order ≡ Some order → IsBytes m p order
-  pub indexed : (f : BytesCodecs B) → IndexLaws f (p.read f) (p.rests_on f) p.indexed
-  pub index_asks : is_some p.indexed ≡ true → x.reads ≡ true
+  pub indexed : (f : BytesCodecs B) → IndexLaws f (p.read f) (p.rests_on f) i p.rests_behind
+  pub index_asks : is_some p.rests_behind ≡ true → x.reads ≡ true
 
 -- ---- read whole
 
 -- a codec that is read whole keeps them, whatever it means
-pub whole_part_laws : {B : Type 0} (m : Meaning B) (x : Facts) → x.reads ≡ false → x.plain ≡ None → x.order ≡ None → IsLawfulPart m x (whole_part m)
+pub whole_part_laws : {B : Type 0} (m : Meaning B) (x : Facts) → x.reads ≡ false → x.plain ≡ None → x.order ≡ None → IsLawfulPart m x None (whole_part m)
 whole_part_laws m x reads none orderless = record {
   places = λ f. whole_places f m;
   rests_alike = λ f sizes type fill stored places plans. absurd cc;
@@ -108,7 +109,7 @@ bytes_alike : {B : Type 0} (order : Option Endianness) (f : BytesCodecs B) (valu
 bytes_alike order f value other Agreeing alike sizes type fill places numbers plans is agree =
     alike type fill places (subst Agreeing (sym (ok_is (place_bytes (place_size type) places) numbers is)) agree)
 
-bytes_part_laws : {B : Type 0} (order : Option Endianness) → IsLawfulPart {B = B} (bytes_meaning order) (facts {B = B} (bytes_codec order)) (bytes_part order)
+bytes_part_laws : {B : Type 0} (order : Option Endianness) → IsLawfulPart {B = B} (bytes_meaning order) (facts {B = B} (bytes_codec order)) None (bytes_part order)
 bytes_part_laws order = record {
   places = λ f. bytes_places f order;
   rests_alike = λ f sizes type fill stored places e. refl;
@@ -137,7 +138,7 @@ packed_bytes : {L : Type 0} (ranges : List ByteSpan) (bytes_of : L → List ℕ)
 packed_bytes ranges bytes_of Plan same (Ok l) plan = (bytes_of l, refl, same l plan)
 packed_bytes ranges bytes_of Plan same (Err e) plan = absurd plan
 
-packbits_part_laws : {B : Type 0} (settings : PackBitsSettings) → IsLawfulPart {B = B} (packbits_meaning settings) (facts {B = B} (packbits_codec settings)) (packbits_part settings)
+packbits_part_laws : {B : Type 0} (settings : PackBitsSettings) → IsLawfulPart {B = B} (packbits_meaning settings) (facts {B = B} (packbits_codec settings)) None (packbits_part settings)
 packbits_part_laws settings = record {
   places = λ f. packbits_places f settings;
   rests_alike = λ f sizes type fill stored places e. refl;
@@ -159,7 +160,7 @@ some_is : (x y : PlainForm) → Some x ≡ Some y → x ≡ y
 some_is x y e = cc
 
 -- where it reads in part exactly if it is plain, whatever is in it
-vlen_part_laws : {B : Type 0} (codec : PlainCodec B) (form : Option PlainForm) → (facts codec).plain ≡ form → (facts codec).reads ≡ is_some form → (facts codec).order ≡ None → IsLawfulPart (meaning codec) (facts codec) (vlen_part form (meaning codec))
+vlen_part_laws : {B : Type 0} (codec : PlainCodec B) (form : Option PlainForm) → (facts codec).plain ≡ form → (facts codec).reads ≡ is_some form → (facts codec).order ≡ None → IsLawfulPart (meaning codec) (facts codec) None (vlen_part form (meaning codec))
 vlen_part_laws codec None p reads orderless = whole_part_laws (meaning codec) (facts codec) reads p orderless
 vlen_part_laws codec (Some form) p reads orderless = record {
   places = λ f. vlen_places f codec (Some form) p;
@@ -180,7 +181,7 @@ vlen_part_laws codec (Some form) p reads orderless = record {
 
 -- where the array-to-bytes codec of the inner chain keeps them
 shard_part_laws : {B : Type 0} (arrays : List _) (m : Meaning B) (p : Part B) (outer : List B) (index : Meaning B) (shape : List ℕ) (at_end : Bool) → ((f : BytesCodecs B) → IsLawfulReader f m (p.read f) (p.rests_on f))
-    → IsLawfulPart (shard_meaning shape at_end (through arrays m outer) index) (record whole_facts { reads = true }) (shard_part arrays m p outer index shape at_end)
+    → IsLawfulPart (shard_meaning shape at_end (through arrays m outer) index) (record whole_facts { reads = true }) (Some (shard_index_part index shape at_end)) (shard_part arrays m p outer index shape at_end)
 shard_part_laws arrays m p outer index shape at_end laws = record {
   places = λ f. shard_places f shape at_end (through arrays m outer) index _ _ (through_places f arrays m (p.read f) (p.rests_on f) outer (laws f));
   rests_alike = λ f sizes type fill stored places plans. absurd cc;
@@ -199,7 +200,7 @@ shard_part_laws arrays m p outer index shape at_end laws = record {
 -- ---- all of them
 
 -- every array-to-bytes codec keeps them
-pub part_laws : {B : Type 0} (codec : PlainCodec B) → IsLawfulPart (meaning codec) (facts codec) (part_of codec)
+pub part_laws : {B : Type 0} (codec : PlainCodec B) → IsLawfulPart (meaning codec) (facts codec) (index_of codec) (part_of codec)
 unfolding meaning
 part_laws (bytes_codec order) = bytes_part_laws order
 part_laws (packbits_codec settings) = packbits_part_laws settings

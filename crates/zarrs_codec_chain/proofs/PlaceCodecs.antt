@@ -24,6 +24,7 @@ use Rattle.zarrs_chunk.specs.ChunkShape.{product}
 use Rattle.zarrs_chunk.specs.declared.codec_error.CodecError.{CodecError}
 use Rattle.zarrs_chunk.specs.declared.codec_error.CodecError.TheVariants.{InvalidByteRange}
 use Rattle.zarrs_codec.specs.BytesToBytesCodec.{BytesCodecs}
+use Rattle.zarrs_codec.specs.StorageState.{value_indices}
 use Rattle.zarrs_codec.specs.declared.bytes_representation.BytesRepresentation.{BytesRepresentation}
 use Rattle.zarrs_codec.specs.declared.bytes_representation.BytesRepresentation.TheVariants.{FixedSize}
 use Rattle.zarrs_codec_chain.proofs.ShardPlaces.{all_same}
@@ -31,7 +32,7 @@ use Rattle.zarrs_codec_chain.proofs.ShardReads.{no_refusal, same_element, then_e
 use Rattle.zarrs_codec_chain.proofs.SizedAlike.{Agree, bytes_sized, packed_sized}
 use Rattle.zarrs_codec_chain.specs.CodecPart.{bytes_part, packbits_part, vlen_part, whole_part}
 use Rattle.zarrs_codec_chain.specs.PartRead.{whole_read}
-use Rattle.zarrs_codec_chain.specs.PlaceLaws.{SameMembers, ReadsEach, RestsEach, IsSame, ReadsBy, IsLawfulReader, whole_rests}
+use Rattle.zarrs_codec_chain.specs.PlaceLaws.{SameMembers, ReadsEach, RestsEach, IsSame, ReadsBy, IsLawfulReader}
 use Rattle.zarrs_data_type.specs.Element.{absent, Chunk, fill_element, plain}
 use Rattle.zarrs_data_type.specs.ElementType.{ElementType}
 use Rattle.zarrs_data_type.specs.Form.{form_of}
@@ -141,7 +142,7 @@ whole_each decode sizes type fill (Some value) = then_each (decode sizes type fi
 selected_of : (r : Result Chunk CodecError) (chunk : Chunk) (places : List ℕ) → r ≡ Ok chunk → (r >>= λ c. ok (select c places)) ≡ Ok (select chunk places)
 selected_of r chunk places e = rw e refl
 
-whole_local : (decode : Decoder) → ReadsBy (whole_read decode) whole_rests
+whole_local : (decode : Decoder) → ReadsBy (whole_read decode) (λ sizes type fill stored places. ok (value_indices stored))
 whole_local decode sizes type fill value other places numbers l e h =
     let all : All (IsSame value other) (range_with_len 0 (length value)) = subst (All (IsSame value other)) (sym (ok_is (range_with_len 0 (length value)) numbers e)) h in
     ap (λ (v : List ℕ). whole_read decode sizes type fill (Some v) places) (all_same value other l all)

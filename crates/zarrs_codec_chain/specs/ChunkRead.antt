@@ -4,7 +4,7 @@ use Rattle.zarrs_chain_meaning.specs.CodecMeaning.{codec_chunk, codec_representa
 use Rattle.zarrs_array_bytes.specs.Validity.{Holds}
 use Rattle.zarrs_array_bytes.specs.Held.{Held}
 use Rattle.zarrs_data_type.specs.Form.{form_of, Form}
-use Rattle.std.specs.Prelude.{◌≡◌, ℕ, ◌||◌, Bool, true, false, if◌then◌else◌, Option, Some, None, IfSome, IfOk, IsOkAnd, List, [], ◌∷◌, map, Result, Ok, Err, IfErr, is_ok, is_some, option_map, Vec}
+use Rattle.std.specs.Prelude.{◌≡◌, ℕ, ◌&&◌, ◌||◌, Bool, true, false, if◌then◌else◌, Option, Some, None, IfSome, IfOk, IsOkAnd, List, [], map, slice_get, Result, Ok, Err, IfErr, is_ok, is_none, is_some, option_map, Vec}
 use Rattle.zarrs_chunk.specs.Answer.{◌>>=◌, seen, AnswersBy, memory, memory_or_fault, is_fault, GivesBy}
 use Rattle.zarrs_chunk.specs.Region.{Region}
 use Rattle.zarrs_chunk.specs.Selection.{Selection, places_of, bounds_of}
@@ -23,14 +23,14 @@ use Rattle.zarrs_array_regions.specs.Windows.{window_of, window_places, last_win
 use Rattle.zarrs_chain_meaning.specs.ArrayStages.{arrays_map}
 use Rattle.zarrs_chain_meaning.specs.BytesStages.{outer_bytes}
 use Rattle.zarrs_chain_meaning.specs.Chain.{taken_form, chain_reads}
-use Rattle.zarrs_chain_meaning.specs.CodecFacts.{facts}
+use Rattle.zarrs_chain_meaning.specs.CodecFacts.{facts, if_alone}
 use Rattle.zarrs_chain_meaning.specs.PlainChain.{PlainCodec, PlainChain}
 use Rattle.std.proofs.Common.{Global}
 use Rattle.zarrs_chunk.specs.Runs.{joined_runs}
 use Rattle.zarrs_codec.specs.declared.capabilities.PartialDecoderCapability.{PartialDecoderCapability}
 use Rattle.zarrs_chain.specs.ChainView.{plain_chain}
 use Rattle.zarrs_chain.specs.declared.codec_chain.CodecChain.{CodecChain}
-use Rattle.zarrs_codec_chain.specs.CodecPart.{part_of, codec_read, order_in_place, codec_rests_on, rests_where}
+use Rattle.zarrs_codec_chain.specs.CodecPart.{part_of, codec_read, codec_rests_on, rests_where}
 use Rattle.zarrs_chain_meaning.specs.ChunkForm.{ChunkForm}
 use Rattle.std.specs.Option.{option_map_or}
 
@@ -60,12 +60,11 @@ stored_read f form stored selection = do
 
 -- whether a read asks for the bytes of its places alone: it does over `bytes` and `packbits` where there are no bytes-to-bytes codecs
 abbrev pub reads_places : {B : Type 0} → List B → PlainCodec B → Bool
-reads_places [] codec = (part_of codec).plans
-reads_places (first ∷ rest) codec = false
+reads_places outer codec = is_none (slice_get outer 0) && (part_of codec).plans
 
--- the byte order of a chain that writes in place, where it does
+-- the byte order of a chain that writes in place, where it does: over `bytes` without bytes-to-bytes codecs the bytes of places are those of their elements, and a write over a stored value replaces them alone
 abbrev pub form_in_place : {B : Type 0} → ChunkForm B → Option (Option Endianness)
-form_in_place form = order_in_place form.chain.bytes_to_bytes form.chain.array_to_bytes
+form_in_place form = if_alone [] (facts form.chain.array_to_bytes).order form.chain.bytes_to_bytes
 
 -- the region that a selection selects, where its bytes are planned in the order in which they stand: over `bytes` without bytes-to-bytes codecs, of one that goes through the array-to-array codecs as a region
 abbrev pub planned_region : {B : Type 0} → ChunkForm B → Selection → Option Region
@@ -97,8 +96,7 @@ IsReadPlan f form _ _ = ⊥
 
 -- whether a read asks for a part of the value alone: it does over `bytes`, `packbits`, a plain `vlen` and `sharding_indexed` where there are no bytes-to-bytes codecs
 abbrev pub asks_in_part : {B : Type 0} → List B → PlainCodec B → Bool
-asks_in_part [] codec = (facts codec).reads
-asks_in_part (first ∷ rest) codec = false
+asks_in_part outer codec = is_none (slice_get outer 0) && (facts codec).reads
 
 -- the numbers of the bytes that a read asks for, of what is stored, where it asks for a part alone and a shard's index is known, or isn't; or the first error
 abbrev pub read_rests_where : {B : Type 0} → Bool → BytesCodecs B → ChunkForm B → Option (List ℕ) → Selection → Result (Option (List ℕ)) CodecError

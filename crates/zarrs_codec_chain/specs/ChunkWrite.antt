@@ -22,7 +22,7 @@ use Rattle.zarrs_bytes.specs.PartialRead.{place_size}
 use Rattle.zarrs_bytes.specs.PartialWrite.{bytes_left, filled_chunk, with_place_bytes}
 use Rattle.zarrs_chain_meaning.specs.ArrayStages.{arrays_map}
 use Rattle.zarrs_chain_meaning.specs.ChunkForm.{ChunkForm}
-use Rattle.zarrs_codec_chain.specs.CodecPart.{order_in_place}
+use Rattle.zarrs_codec_chain.specs.ChunkRead.{form_in_place}
 use Rattle.zarrs_chain_meaning.specs.CodecMeaning.{chain_meaning}
 use Rattle.zarrs_codec_chain.specs.PartialDecoder.{chunk_reader}
 use Rattle.std.proofs.Common.{Global}
@@ -49,7 +49,7 @@ selection_left f form order stored selection new = do
 
 -- the same, in place where the chain writes in place
 abbrev pub stored_written : {B : Type 0} → BytesCodecs B → ChunkForm B → Option (List ℕ) → Selection → Held → Result (List ℕ) CodecError
-stored_written f form stored selection new = selection_left f form (order_in_place form.chain.bytes_to_bytes form.chain.array_to_bytes) stored selection new
+stored_written f form stored selection new = selection_left f form (form_in_place form) stored selection new
 
 -- the chunk that an edit starts from, or the first error: the one that the stored value stands for; where there is none, one of fill elements
 abbrev pub started_chunk : {B : Type 0} → BytesCodecs B → ChunkForm B → Option (List ℕ) → Result Chunk CodecError

@@ -1,22 +1,20 @@
 -- What each array-to-bytes codec does in part, as one record: what a read of places answers and rests on, what is planned, and whether a write replaces its places' bytes alone.
-use Rattle.std.specs.Option.{option_map_or}
-use Rattle.std.specs.Prelude.{ℕ, suc, Bool, true, false, Option, Some, None, IsOkAnd, List, [], ◌∷◌, Result, Ok}
+use Rattle.std.specs.Prelude.{ℕ, suc, if◌then◌else◌, Bool, true, false, Option, Some, None, unwrap_or, IsOkAnd, List, [], Result, Ok}
 use Rattle.zarrs_bytes.specs.PartialRead.{place_bytes, place_size, read_places}
 use Rattle.zarrs_bytes.specs.PlannedRanges.{IsPlan as IsElementPlan}
 use Rattle.zarrs_chain_meaning.specs.CodecMeaning.{meaning}
 use Rattle.zarrs_chain_meaning.specs.Meaning.{Meaning, through}
 use Rattle.zarrs_chain_meaning.specs.PlainChain.{PlainCodec, bytes_codec, packbits_codec, vlen_codec, sharding_codec}
-use Rattle.zarrs_chain_meaning.specs.CodecFacts.{facts}
+use Rattle.zarrs_chain_meaning.specs.CodecFacts.{facts, if_alone}
 use Rattle.zarrs_chain_meaning.specs.vlen.PlainForm.{PlainForm}
-use Rattle.zarrs_chain_meaning.specs.sharding.Sharding.{Span}
 use Rattle.zarrs_chunk.specs.ChunkShape.{product}
-use Rattle.zarrs_chunk.specs.declared.codec_error.CodecError.{CodecError}
 use Rattle.zarrs_array_to_array.specs.ArrayToArrayCodec.{ArrayMapping}
 use Rattle.zarrs_codec.specs.BytesToBytesCodec.{BytesCodecs}
 use Rattle.zarrs_codec.specs.ByteSpan.{ByteSpan}
+use Rattle.zarrs_codec.specs.StorageState.{value_indices}
 use Rattle.zarrs_codec_chain.specs.PartRead.{PlaceReader, whole_read}
-use Rattle.zarrs_codec_chain.specs.PlaceLaws.{Resting, read_through, rests_through, whole_rests}
-use Rattle.zarrs_codec_chain.specs.ShardRead.{index_bytes_in, shard_read, shard_rests, shard_rests_behind, spans_in}
+use Rattle.zarrs_codec_chain.specs.PlaceLaws.{Resting, read_through, rests_through}
+use Rattle.zarrs_codec_chain.specs.ShardRead.{shard_read, shard_rests, shard_rests_behind}
 use Rattle.zarrs_data_type.specs.ElementType.{ElementType}
 use Rattle.zarrs_data_type.specs.Form.{Form, form_of}
 use Rattle.zarrs_data_type.specs.declared.endianness.Endianness.{Endianness}
@@ -26,20 +24,13 @@ use Rattle.zarrs_packbits.specs.ReadPlan.{IsPackBitsPlan}
 use Rattle.zarrs_plain_vlen.specs.PlainRead.{plain_read}
 use Rattle.zarrs_plain_vlen.specs.VlenRead.{stored_rests_on}
 
--- Of a codec whose values have an index: where the inner chunks of a value stand, by its index; the numbers of the index's bytes; and what a read of places rests on behind it.
-pub record IndexPart (B : Type 0) : Type 0 where
-  pub spans : BytesCodecs B → List ℕ → List ℕ → Result (List Span) CodecError
-  pub bytes : BytesCodecs B → List ℕ → List ℕ → Result (List ℕ) CodecError
-  pub rests_behind : BytesCodecs B → Resting
-
--- The bytes that are there may be none: nothing is stored. What is asked of a plan, and of what a read rests on, is asked of places of the chunk that the codec gets. The depth is how many shards stand in one another.
+-- The bytes that are there may be none: nothing is stored. What is asked of a plan, and of what a read rests on, is asked of places of the chunk that the codec gets; of a codec whose values have an index, what a read rests on behind it too.
 pub record Part (B : Type 0) : Type 1 where
   pub read : BytesCodecs B → PlaceReader
   pub rests_on : BytesCodecs B → Resting
   pub plans : Bool
   pub IsPlanned : List ℕ → ElementType → List ℕ → List ℕ → List ByteSpan → Type 0
-  pub depth : ℕ
-  pub indexed : Option (IndexPart B)
+  pub rests_behind : Option (BytesCodecs B → Resting)
 
 -- ---- read and written whole
 
@@ -47,11 +38,10 @@ pub record Part (B : Type 0) : Type 1 where
 abbrev pub whole_part : {B : Type 0} → Meaning B → Part B
 whole_part m = record {
   read = λ f. whole_read (m.chunk f);
-  rests_on = λ f. whole_rests;
+  rests_on = λ f sizes type fill stored places. Ok (value_indices stored);
   plans = false;
   IsPlanned = λ sizes type fill places ranges. ⊥;
-  depth = 0;
-  indexed = None;
+  rests_behind = None;
 }
 
 -- ---- bytes, packbits
@@ -91,12 +81,7 @@ abbrev pub shard_part : {B : Type 0} → List ArrayMapping → Meaning B → Par
 shard_part arrays m p outer index shape at_end = record (whole_part m) {
   read = λ f. shard_read shape at_end (index.representation f) (index.chunk f) (read_through f arrays (m.representation f) (p.read f) outer);
   rests_on = λ f. shard_rests shape at_end (index.representation f) (index.chunk f) (rests_through arrays (p.rests_on f) outer);
-  depth = suc p.depth;
-  indexed = Some (record {
-    spans = λ f. spans_in shape at_end (index.representation f) (index.chunk f);
-    bytes = λ f. index_bytes_in shape at_end (index.representation f);
-    rests_behind = λ f. shard_rests_behind shape at_end (index.representation f) (index.chunk f) (rests_through arrays (p.rests_on f) outer);
-  });
+  rests_behind = Some (λ f. shard_rests_behind shape at_end (index.representation f) (index.chunk f) (rests_through arrays (p.rests_on f) outer));
 }
 
 -- ---- all of them
@@ -119,9 +104,7 @@ codec_rests_on f codec = (part_of codec).rests_on f
 
 -- What a read rests on: where the index is known, what is behind it, of `sharding_indexed` what the inner reads rest on; where it isn't, or values have none, all of it.
 abbrev pub rests_where : {B : Type 0} → Bool → BytesCodecs B → PlainCodec B → Resting
-rests_where false f codec sizes type fill stored places = (part_of codec).rests_on f sizes type fill stored places
-rests_where true f codec sizes type fill stored places =
-    option_map_or (λ index. index.rests_behind f sizes type fill stored places) (part_of codec).indexed ((part_of codec).rests_on f sizes type fill stored places)
+rests_where known f codec = if known then unwrap_or (part_of codec).rests_behind (part_of codec).rests_on f else (part_of codec).rests_on f
 
 -- whether the bytes of a place are known before anything is read
 abbrev pub codec_plans : {B : Type 0} → PlainCodec B → Bool
@@ -133,9 +116,9 @@ IsCodecPlan codec form = (part_of codec).IsPlanned form.sizes form.type form.fil
 
 -- how many shards stand in one another: none, but where the codec is `sharding_indexed`
 abbrev pub shard_depth : {B : Type 0} → PlainCodec B → ℕ
-shard_depth codec = (part_of codec).depth
+shard_depth (sharding_codec sa sx sb ia ix ib shape at_end) = suc (shard_depth sx)
+shard_depth codec = 0
 
 -- the byte order of `bytes` without bytes-to-bytes codecs: there the bytes of places are those of their elements, and a write over a stored value replaces them alone
 abbrev pub order_in_place : {B : Type 0} → List B → PlainCodec B → Option (Option Endianness)
-order_in_place [] codec = (facts codec).order
-order_in_place (first ∷ rest) codec = None
+order_in_place outer codec = if_alone [] (facts codec).order outer

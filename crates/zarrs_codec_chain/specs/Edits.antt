@@ -1,7 +1,7 @@
 -- Edits of a stored chunk, one after another.
 use Rattle.std.specs.Prelude.{◌≡◌, ℕ, zero, suc, ◌+◌, Bool, true, false, Option, Some, None, IfNone, IfSome, List, [], ◌∷◌, take, Result, Ok, Err, IsOkAnd, All}
 use Rattle.std.specs.Option.{unwrap_or}
-use Rattle.zarrs_chunk.specs.Answer.{◌>>=◌, Excused, fault, memory_or_fault, never, seen}
+use Rattle.zarrs_chunk.specs.Answer.{◌>>=◌, Excused, fault, memory_or_fault, seen}
 use Rattle.zarrs_chunk.specs.Indexer.{selection_of}
 use Rattle.zarrs_chunk.specs.declared.codec_error.CodecError.{CodecError}
 use Rattle.zarrs_data_type.specs.Element.{Chunk}
@@ -67,7 +67,7 @@ edit_excuse Erase = fault
 
 -- and in place of the answer of the edit with this number
 abbrev pub excuse_at : List Edit → ℕ → CodecError → Bool
-excuse_at [] place = never
+excuse_at [] place = λ _. false
 excuse_at (edit ∷ edits) zero = edit_excuse edit
 excuse_at (edit ∷ edits) (suc place) = excuse_at edits place
 

@@ -1,14 +1,17 @@
 -- The index of a shard that a decoder keeps: what it is of what is stored, and what a read by it rests on.
-use Rattle.std.specs.Prelude.{◌≡◌, ℕ, ◌*◌, Bool, true, false, Option, Some, None, IfSome, List, [], ◌∷◌, length, Result, Ok, is_some, option_map}
+use Rattle.std.specs.Prelude.{◌≡◌, ℕ, ◌*◌, ◌&&◌, Bool, true, false, Option, Some, None, IfSome, List, [], length, slice_get, Result, Ok, is_none, is_some, option_map}
 use Rattle.std.proofs.Props.{props}
 use Rattle.zarrs_chunk.specs.Answer.{◌>>=◌}
 use Rattle.zarrs_chunk.specs.declared.codec_error.CodecError.{CodecError}
 use Rattle.zarrs_codec.specs.BytesToBytesCodec.{BytesCodecs}
 use Rattle.zarrs_chain_meaning.specs.Chain.{taken_form}
 use Rattle.zarrs_chain_meaning.specs.ChunkForm.{ChunkForm}
-use Rattle.zarrs_chain_meaning.specs.PlainChain.{PlainChain, PlainCodec}
+use Rattle.zarrs_chain_meaning.specs.CodecMeaning.{meaning}
+use Rattle.zarrs_chain_meaning.specs.Meaning.{Meaning, through}
+use Rattle.zarrs_chain_meaning.specs.PlainChain.{PlainChain, PlainCodec, sharding_codec}
 use Rattle.zarrs_chain_meaning.specs.sharding.Sharding.{Span, spans_of}
-use Rattle.zarrs_codec_chain.specs.CodecPart.{IndexPart, part_of}
+use Rattle.zarrs_codec_chain.specs.CodecPart.{part_of}
+use Rattle.zarrs_codec_chain.specs.ShardRead.{index_bytes_in, spans_in}
 use Rattle.zarrs_codec_chain.specs.declared.partial_decoder.cache.Cache.{Cache}
 use Rattle.zarrs_codec_chain.specs.declared.partial_decoder.cache.Cache.TheVariants as kept
 use Rattle.zarrs_codec_chain.specs.declared.sharding.shard_index.ShardIndex.{ShardIndex}
@@ -17,8 +20,24 @@ use Rattle.zarrs_codec_chain.specs.declared.sharding.shard_index.ShardIndex.{Sha
 
 -- whether a read asks for an index: it does over `sharding_indexed` where there are no bytes-to-bytes codecs
 abbrev pub asks_index : {B : Type 0} → List B → PlainCodec B → Bool
-asks_index [] codec = is_some (part_of codec).indexed
-asks_index (first ∷ rest) codec = false
+asks_index outer codec = is_none (slice_get outer 0) && is_some (part_of codec).rests_behind
+
+-- Of a codec whose values have an index: where the inner chunks of a value stand, by its index; and the numbers of the index's bytes.
+pub record IndexPart (B : Type 0) : Type 0 where
+  pub spans : BytesCodecs B → List ℕ → List ℕ → Result (List Span) CodecError
+  pub bytes : BytesCodecs B → List ℕ → List ℕ → Result (List ℕ) CodecError
+
+-- of `sharding_indexed`, whose index chain means this
+abbrev pub shard_index_part : {B : Type 0} → Meaning B → List ℕ → Bool → IndexPart B
+shard_index_part index shape at_end = record {
+  spans = λ f. spans_in shape at_end (index.representation f) (index.chunk f);
+  bytes = λ f. index_bytes_in shape at_end (index.representation f);
+}
+
+-- of an array-to-bytes codec, where its values have one
+abbrev pub index_of : {B : Type 0} → PlainCodec B → Option (IndexPart B)
+index_of (sharding_codec sa sx sb ia ix ib shape at_end) = Some (shard_index_part (through ia (meaning ix) ib) shape at_end)
+index_of codec = None
 
 -- where the inner chunks of a value stand, by its index, or the first error; nowhere where values have none
 abbrev pub spans_with : {B : Type 0} → Option (IndexPart B) → BytesCodecs B → List ℕ → List ℕ → Result (List Span) CodecError
@@ -27,7 +46,7 @@ spans_with (Some index) f sizes value = index.spans f sizes value
 
 -- the same of a codec's value
 abbrev pub codec_spans : {B : Type 0} → BytesCodecs B → PlainCodec B → List ℕ → List ℕ → Result (List Span) CodecError
-codec_spans f codec sizes value = spans_with (part_of codec).indexed f sizes value
+codec_spans f codec sizes value = spans_with (index_of codec) f sizes value
 
 -- the numbers of the index's bytes of a value
 abbrev pub bytes_with : {B : Type 0} → Option (IndexPart B) → BytesCodecs B → List ℕ → List ℕ → Result (List ℕ) CodecError
@@ -37,7 +56,7 @@ bytes_with (Some index) f sizes value = index.bytes f sizes value
 -- the same of what is stored
 abbrev pub index_rests_on : {B : Type 0} → BytesCodecs B → PlainCodec B → List ℕ → Option (List ℕ) → Result (List ℕ) CodecError
 index_rests_on f codec sizes None = Ok []
-index_rests_on f codec sizes (Some value) = bytes_with (part_of codec).indexed f sizes value
+index_rests_on f codec sizes (Some value) = bytes_with (index_of codec) f sizes value
 
 -- these numbers are the index of what is stored: they say where the inner chunks stand
 abbrev pub IsIndex : {B : Type 0} → BytesCodecs B → PlainCodec B → List ℕ → Option (List ℕ) → List ℕ → Type 0

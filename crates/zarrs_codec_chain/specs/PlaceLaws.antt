@@ -20,10 +20,6 @@ use Rattle.zarrs_data_type.specs.ElementType.{ElementType}
 abbrev pub Resting : Type 0
 Resting = List ℕ → ElementType → List ℕ → Option (List ℕ) → List ℕ → Result (List ℕ) CodecError
 
--- a read of the whole value rests on all bytes
-abbrev pub whole_rests : Resting
-whole_rests sizes type fill stored places = Ok (value_indices stored)
-
 -- ---- through a chain
 
 -- what a chain reads whose array-to-bytes codec reads so

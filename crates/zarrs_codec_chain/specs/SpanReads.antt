@@ -21,13 +21,13 @@ use Rattle.zarrs_chain_meaning.specs.PlainChain.{PlainChain, PlainCodec}
 use Rattle.zarrs_chain_meaning.specs.sharding.InnerChunks.{grid}
 use Rattle.zarrs_chain_meaning.specs.sharding.Sharding.{Span, is_stored, spans_of}
 use Rattle.zarrs_codec.specs.BytesToBytesCodec.{BytesCodecs}
-use Rattle.zarrs_codec.specs.StorageState.{StorageState, are_sure}
+use Rattle.zarrs_codec.specs.StorageState.{StorageState, are_sure, value_indices}
 use Rattle.zarrs_codec.specs.declared.bytes_representation.BytesRepresentation.{BytesRepresentation}
 use Rattle.zarrs_codec_chain.specs.ChunkRead.{AnswersRuns, are_given_sure, form_taken}
 use Rattle.zarrs_codec_chain.specs.ChunkSource.{bytes_above, source_places}
 use Rattle.zarrs_codec_chain.specs.CodecPart.{codec_read, codec_rests_on, rests_where}
 use Rattle.zarrs_codec_chain.specs.PartRead.{PlaceReader}
-use Rattle.zarrs_codec_chain.specs.PlaceLaws.{Resting, read_through, rests_through, whole_rests}
+use Rattle.zarrs_codec_chain.specs.PlaceLaws.{Resting, read_through, rests_through}
 use Rattle.zarrs_codec_chain.specs.ShardRead.{spans_in, span_read, groups_read, index_bytes_at, span_rests, groups_rest}
 use Rattle.zarrs_codec_chain.specs.declared.sharding.value_span.ValueSpan.{ValueSpan}
 use Rattle.zarrs_data_type.specs.Element.{Chunk}
@@ -140,7 +140,7 @@ moved_read f chain encoded type fill r stored places = source_places f chain enc
 -- what a read rests on below bytes-to-bytes codecs: with any of them all bytes
 abbrev pub outer_rests : {B : Type 0} → List B → Resting → Resting
 outer_rests [] rests = rests
-outer_rests (codec ∷ codecs) rests = whole_rests
+outer_rests (codec ∷ codecs) rests = λ sizes type fill stored places. Ok (value_indices stored)
 
 -- and what that rests on
 abbrev pub moved_rests : {B : Type 0} → BytesCodecs B → PlainChain B → Resting
