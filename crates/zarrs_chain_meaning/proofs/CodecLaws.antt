@@ -10,9 +10,8 @@ use Rattle.zarrs_codec.specs.CoordinateMap.{CoordinateMap, origins, moved_chunk}
 use Rattle.zarrs_codec.specs.declared.bytes_representation.BytesRepresentation.{BytesRepresentation}
 use Rattle.zarrs_bytes.specs.BytesCodec.{IsChunk}
 use Rattle.zarrs_packbits.specs.Laws.{HasBytes}
-use Rattle.zarrs_chain_meaning.specs.PlainChain.{PlainCodec, bytes_codec, packbits_codec, vlen_v2_codec, vlen_codec, optional_codec, sharding_codec, PlainChain}
 use Rattle.zarrs_chain_meaning.specs.Meaning.{through}
-use Rattle.zarrs_chain_meaning.specs.CodecMeaning.{meaning, chain_meaning, HasMappings, codec_normal_element, normal_form, codec_representation, chain_representation, codec_value, chain_value, codec_chunk, chain_chunk, CodecStands, ChainStands, CodecWritten, ChainWritten}
+use Rattle.zarrs_chain_meaning.specs.CodecMeaning.{PlainCodec, bytes_codec, packbits_codec, vlen_v2_codec, vlen_codec, optional_codec, sharding_codec, PlainChain, meaning, chain_meaning, HasMappings, codec_normal_element, normal_form, codec_representation, chain_representation, codec_value, chain_value, codec_chunk, chain_chunk, CodecStands, ChainStands, CodecWritten, ChainWritten}
 use Rattle.zarrs_chain_meaning.specs.Laws.{IsChainOfMappings}
 use Rattle.zarrs_chain_meaning.proofs.ArraySteps.{ok_is}
 use Rattle.zarrs_chain_meaning.proofs.NestedNormal.{KeepsTypes, kept_elements, all_twice, kept_selected, kept_updated}

@@ -31,10 +31,9 @@ use Rattle.zarrs_vlen_v2.specs.declared.vlen_v2_codec.VlenV2Codec.TheVariants.{U
 use Rattle.zarrs_chain_meaning.specs.sharding.ShardingSettings.{is_index_at_end, shard_index_place}
 use Rattle.zarrs_chain_meaning.specs.vlen.VlenSettings.{is_wide, is_at_end, offset_type_of, index_place}
 use Rattle.zarrs_chain_meaning.specs.Laws.{IsChainOfMappings}
-use Rattle.zarrs_chain_meaning.specs.CodecMeaning.{HasMappings, meaning}
+use Rattle.zarrs_chain_meaning.specs.CodecMeaning.{PlainCodec, bytes_codec, packbits_codec, vlen_v2_codec, vlen_codec, optional_codec, sharding_codec, PlainChain, vlen_codec_of, optional_codec_of, sharding_codec_of, meaning, HasMappings}
 use Rattle.zarrs_chain_meaning.specs.MadeAgain.{IsMadeAgain, HasRanges, HasOuter, HasBytesCodecs, ChainsAreMadeAgain}
 use Rattle.zarrs_chain_meaning.specs.MadeChain.{array_made, to_bytes_made, outer_made, vlen_of_parts, optional_of_chains, sharding_of_parts, asked_maker, made_by_name, codec_made, joined, gathered, finished, chain_made}
-use Rattle.zarrs_chain_meaning.specs.PlainChain.{PlainCodec, bytes_codec, packbits_codec, vlen_v2_codec, vlen_codec, optional_codec, sharding_codec, PlainChain, vlen_codec_of, optional_codec_of, sharding_codec_of}
 use Rattle.zarrs_chain_meaning.specs.WrittenMetadata.{codec_configuration, to_bytes_metadata, chain_metadatas}
 use Rattle.zarrs_chain_meaning.specs.MetadataFacts.{mapping_metadata, listed}
 use Rattle.zarrs_chain_meaning.proofs.MadeAlike.{chain_made_at}

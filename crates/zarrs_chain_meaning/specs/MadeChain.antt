@@ -23,7 +23,7 @@ use Rattle.zarrs_vlen_v2.specs.VlenV2Metadata.{vlen_v2_made}
 use Rattle.zarrs_chain_meaning.specs.sharding.ShardingSettings.{is_index_at_end}
 use Rattle.zarrs_chain_meaning.specs.vlen.VlenSettings.{is_wide, is_at_end}
 use Rattle.zarrs_chain_meaning.specs.CodecNames.{is_vlen_name, is_optional_name, is_sharding_name, codec_named}
-use Rattle.zarrs_chain_meaning.specs.PlainChain.{PlainCodec, bytes_codec, packbits_codec, vlen_v2_codec, PlainChain, vlen_codec_of, optional_codec_of, sharding_codec_of}
+use Rattle.zarrs_chain_meaning.specs.CodecMeaning.{PlainCodec, bytes_codec, packbits_codec, vlen_v2_codec, PlainChain, vlen_codec_of, optional_codec_of, sharding_codec_of}
 
 -- A codec that a metadata makes: one of chunks to chunks, one of chunks to bytes, one of bytes to bytes.
 pub data CodecMade (B : Type 0) : Type 0 where
