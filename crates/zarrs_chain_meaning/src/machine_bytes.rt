@@ -1,37 +1,17 @@
-//! What holds of all bytes of a machine, and the laws of chains ask for: they are below 256.
-ghost use Rattle.std.specs.Prelude.{◌≡◌, ◌<◌, All, ℕ, List, slice_index};
+//! That the bytes of elements are below 256, which the laws of chains ask for.
+ghost use Rattle.std.specs.Prelude.{◌≡◌, All, ℕ, List};
 ghost use Rattle.zarrs_data_type.specs.Element.{Chunk};
 ghost use Rattle.zarrs_data_type.specs.ElementType.{ElementType};
 ghost use Rattle.zarrs_array_bytes.specs.Validity.{Holds};
 ghost use Rattle.zarrs_packbits.specs.Laws.{HasBytes};
 ghost use Rattle.zarrs_codec.specs.BytesToBytesCodec.{AreBytes};
-ghost use Rattle.zarrs_array_bytes.specs.Held.{Raw, flen, vlen};
+ghost use Rattle.zarrs_array_bytes.specs.Held.{Raw, vlen};
 ghost use Rattle.zarrs_chain_meaning.specs.MachineBytes.{HeldHasBytes};
 
 use zarrs_array_bytes::ArrayBytes;
+use zarrs_codec::{bytes_are, fixed_are_bytes};
 
-/// Each byte is below 256.
-fn each_is_small(_bytes: &[u8])
-    ensures small { (i : ℕ) → slice_index _bytes.now i < 256 }
-{}
-
-/// Bytes are bytes.
-pub fn bytes_are(bytes: &[u8])
-    ensures bytes { AreBytes bytes.now }
-{
-    each_is_small(bytes);
-}
-
-/// Those of elements of one size.
-fn fixed_are_bytes(elements: &ArrayBytes<'_>)
-    ensures fixed { (raw : Raw) → elements.now ≡ flen raw → AreBytes raw.items }
-{
-    if let Ok(bytes) = elements.as_fixed() {
-        bytes_are(bytes);
-    }
-}
-
-/// Those of elements of any length.
+/// The bytes of elements of any length are bytes.
 fn variable_are_bytes(elements: &ArrayBytes<'_>)
     ensures variable { (raw : Raw) (offsets : List ℕ)
         → elements.now ≡ vlen raw offsets → AreBytes raw.items }

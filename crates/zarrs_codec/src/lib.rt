@@ -22,6 +22,7 @@ mod bytes_representation;
 mod bytes_to_bytes_codec_traits;
 mod capabilities;
 mod codec_traits;
+mod machine_bytes;
 mod memory_handle;
 mod range_reads;
 mod refused;
@@ -43,6 +44,8 @@ pub use bytes_representation::BytesRepresentation;
 pub use bytes_to_bytes_codec_traits::BytesToBytesCodecTraits;
 pub use capabilities::{PartialDecoderCapability, PartialEncoderCapability};
 pub use codec_traits::{ArrayCodecTraits, CodecTraits};
+#[doc(hidden)]
+pub use machine_bytes::{bytes_are, fixed_are_bytes};
 pub use memory_handle::MemoryHandle;
 #[doc(hidden)]
 pub use range_reads::{append_piece, gather, room_for};

@@ -8,10 +8,11 @@ ghost use Rattle.zarrs_json.specs.Refusal.{ReadsJson};
 ghost use Rattle.zarrs_json.specs.DataType.{type_named, number_at, truth_at, components_shown, components_alone, components_among, type_in};
 
 use crate::refusal::Refusal;
-use crate::trees::{Members, member, only_member};
+use crate::trees::{Members, only_member};
 use serde_json::Value;
 use std::alloc::Global;
 use zarrs_data_type::DataType;
+use zarrs_metadata::member;
 
 fn type_by_name(name: &str) -> Option<DataType>
     ensures value { result ≡ type_named name.now }

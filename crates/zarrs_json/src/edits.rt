@@ -8,12 +8,13 @@ ghost use Rattle.zarrs_json.specs.Json.{members_seen, needed_member};
 use crate::element_lists::elements;
 use crate::indexers::indexer;
 use crate::refusal::Refusal;
-use crate::trees::{Members, member, object};
+use crate::trees::{Members, object};
 use serde_json::Value;
 use std::alloc::Global;
 use zarrs_array_bytes::ArrayBytes;
 use zarrs_chunk::Indexer;
 use zarrs_data_type::DataType;
+use zarrs_metadata::member;
 
 /// New elements, and where they go.
 #[derive(Drop)]

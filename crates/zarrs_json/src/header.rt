@@ -10,12 +10,13 @@ use crate::data_types::data_type;
 use crate::known_bytes_codec::KnownBytesCodec;
 use crate::known_maker::KnownMaker;
 use crate::refusal::Refusal;
-use crate::trees::{Members, hex_bytes, member, numbers, object, tree};
+use crate::trees::{Members, hex_bytes, numbers, object, tree};
 use serde_json::Value;
 use std::alloc::Global;
 use zarrs_chain::CodecChain;
 use zarrs_chunk::ChunkShape;
 use zarrs_data_type::{DataType, FillValue};
+use zarrs_metadata::member;
 
 /// A chunk's shape, the type of its elements and its fill value, and the chain of codecs that it goes
 /// through, which takes such chunks where [`read_header`] made this.

@@ -28,4 +28,5 @@ pub use known_bytes_codec::KnownBytesCodec;
 pub use known_maker::KnownMaker;
 pub use refusal::Refusal;
 pub use shown::ok_elements;
-pub use trees::{Members, hex_bytes, member, numbers, object, ok_hex, tree};
+pub use trees::{Members, hex_bytes, numbers, object, ok_hex, tree};
+pub use zarrs_metadata::member;

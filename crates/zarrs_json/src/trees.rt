@@ -1,9 +1,8 @@
 //! JSON texts read and shown.
 ghost use Rattle.std.specs.Prelude.{◌≡◌, ok_or, IfOk, false};
 ghost use Rattle.serde_json.specs.Data.{string};
-ghost use Rattle.serde_json.specs.Written.{has_float, items_have_float, members_have_float};
 ghost use Rattle.serde_json.specs.View.{view, items_view};
-ghost use Rattle.serde_json.specs.Find.{as_object, get_member};
+ghost use Rattle.serde_json.specs.Find.{as_object};
 ghost use Rattle.zarrs_chunk.specs.Answer.{seen};
 ghost use Rattle.zarrs_metadata.specs.Trees.{lent_tree, whole_number};
 ghost use Rattle.zarrs_json.specs.Refusal.{ReadsAs, ReadsItems};
@@ -14,47 +13,10 @@ use hex::FromHexError;
 use json::Writer;
 use serde_json::{Map, Value};
 use std::alloc::{AllocError, Global};
+use zarrs_metadata::{holds_float, member};
 
 /// The members of a JSON object.
 pub type Members = Map<String, Value>;
-
-#[cycle(floats)]
-fn holds_float(value: &Value) -> bool
-    ensures value { result ≡ has_float (view value.now) }
-{
-    match value {
-        Value::Null => false,
-        Value::Bool(_) => false,
-        Value::Number(number) => number.is_f64(),
-        Value::String(_) => false,
-        Value::Array(items) => items_hold_float(items),
-        Value::Object(members) => members_hold_float(members),
-    }
-}
-
-#[cycle(floats)]
-fn items_hold_float(items: &Vec<Value>) -> bool
-    ensures value { result ≡ items_have_float (items_view items.now.items) }
-{
-    for item in items {
-        if holds_float(item) {
-            return true;
-        }
-    }
-    false
-}
-
-#[cycle(floats)]
-fn members_hold_float(members: &Members) -> bool
-    ensures value { result ≡ members_have_float (members_seen members.now) }
-{
-    for (key, member) in members.iter() {
-        if holds_float(member) {
-            return true;
-        }
-    }
-    false
-}
 
 /// The tree of a text. Of values of one key in an object the last one stands, and the others are no
 /// part of the tree. Errors: `Syntax` where the text isn't UTF-8, isn't one JSON value, or its
@@ -88,13 +50,6 @@ pub fn object(tree: &Value) -> Result<&Members, Refusal>
         Value::Object(members) => Ok(members),
         _ => Err(Refusal::Syntax),
     }
-}
-
-/// The value at a key of an object.
-pub fn member<'v>(members: &'v Members, name: &str) -> Option<&'v Value>
-    ensures value { lent_tree result ≡ get_member name.now (members_seen members.now) }
-{
-    members.get(name)
 }
 
 /// The value at a key of an object that has no other key.

@@ -14,7 +14,7 @@ use std::alloc::{AllocError, Global};
 
 /// Whether a number at any depth is a float.
 #[cycle(floats)]
-pub(crate) fn holds_float(tree: &Value) -> bool
+pub fn holds_float(tree: &Value) -> bool
     ensures value { result ≡ has_float (view tree.now) }
 {
     match tree {
@@ -53,7 +53,7 @@ pub(crate) fn members_hold_float(members: &Configuration) -> bool
 }
 
 /// The value at a key of an object.
-pub(crate) fn member<'v>(members: &'v Configuration, key: &str) -> Option<&'v Value>
+pub fn member<'v>(members: &'v Configuration, key: &str) -> Option<&'v Value>
     ensures value { lent_tree result ≡ get_member key.now (configuration_seen members.now) }
 {
     members.get(key)

@@ -29,5 +29,7 @@ pub use configuration::transpose::{TransposeCodecConfiguration, TransposeCodecCo
 pub use configuration::vlen::{
     VlenCodecConfiguration, VlenCodecConfigurationV0, VlenCodecConfigurationV0_1,
 };
+#[doc(hidden)]
+pub use json::{holds_float, member};
 pub use metadata_v3::{Configuration, MetadataV3};
 pub use plugin_create_error::PluginCreateError;

@@ -3,7 +3,7 @@ ghost use Rattle.zarrs_data_type.specs.Form.{form_of};
 ghost use Rattle.zarrs_array_bytes.specs.Held.{items_of};
 ghost use Rattle.zarrs_codec.specs.Grammar.{Encodes, Decodes};
 ghost use Rattle.zarrs_packbits.specs.PackBitsGrammar.{packbits_grammar};
-ghost use Rattle.std.specs.Prelude.{◌≡◌, ℕ, ◌+◌, ◌^◌, ◌<◌, IfOk, None, Ok, Some, true, false, slice_index};
+ghost use Rattle.std.specs.Prelude.{◌≡◌, ℕ, ◌+◌, ◌^◌, ◌<◌, IfOk, None, Ok, Some, true, false};
 ghost use Rattle.zarrs_chunk.specs.Answer.{is_fault};
 ghost use Rattle.zarrs_chunk.specs.ChunkShape.{product};
 ghost use Rattle.zarrs_metadata.specs.CodecMetadata.{packbits_name};
@@ -27,7 +27,7 @@ use zarrs_bytes::BytesCodec;
 use zarrs_chunk::{ChunkShape, CodecError, CodecName};
 use zarrs_codec::{
     ArrayCodecTraits, BytesRepresentation, CodecTraits, PartialDecoderCapability,
-    PartialEncoderCapability,
+    PartialEncoderCapability, bytes_are,
 };
 use zarrs_data_type::{DataType, FillValue, HasComponents};
 use zarrs_metadata::{
@@ -65,11 +65,6 @@ impl Model for PackBitsCodec {
 
     ghost inverse = { λ settings. record { padding_encoding = settings.padding; first_bit = settings.first_bit; last_bit = settings.last_bit } };
 }
-
-/// The bytes are below 256, as all bytes are.
-pub(crate) fn bytes_are(_bytes: &[u8])
-    ensures bytes { (i : ℕ) → slice_index _bytes.now i < 256 }
-{}
 
 impl PackBitsCodec {
     /// The codec that keeps the bits `first_bit` to `last_bit` of each component, by default all of

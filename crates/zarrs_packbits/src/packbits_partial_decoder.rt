@@ -1,8 +1,7 @@
 //! The codec `packbits` over parts of chunks.
 ghost use Rattle.zarrs_data_type.specs.Form.{form_of};
-ghost use Rattle.std.specs.Prelude.{◌≡◌, ℕ, ◌<◌, ◌≤◌, ◌+◌, IfOk, IfErr, Ok, All, is_some, slice_index};
+ghost use Rattle.std.specs.Prelude.{◌≡◌, ℕ, ◌<◌, ◌≤◌, ◌+◌, IfOk, IfErr, Ok, All, is_some};
 ghost use Rattle.zarrs_chunk.specs.Answer.{GivesBy, GivesValue, seen};
-ghost use Rattle.zarrs_array_bytes.specs.Held.{Raw, flen};
 ghost use Rattle.zarrs_array_bytes.specs.Tight.{IsTight};
 ghost use Rattle.zarrs_codec.specs.Calls.{MakesReads, after_reads, ok_count};
 ghost use Rattle.zarrs_codec.specs.StorageState.{after_reading};
@@ -18,14 +17,16 @@ ghost use Rattle.zarrs_packbits.specs.ReadPlan.{IsPlanOfRuns};
 ghost use Rattle.zarrs_chunk.specs.ChunkShape.{product};
 
 use crate::layout::PackedLayout;
-use crate::packbits_codec::{PackBitsCodec, bytes_are};
+use crate::packbits_codec::PackBitsCodec;
 use crate::runs::{read_runs, run_ranges};
 use std::alloc::Global;
 use std::borrow::CowSlice;
 use zarrs_array_bytes::ArrayBytes;
 use zarrs_bytes::BytesCodec;
 use zarrs_chunk::{ChunkShape, CodecError, Indexer};
-use zarrs_codec::{ArrayPartialDecoderTraits, ByteRange, BytesPartialDecoderTraits, Refused};
+use zarrs_codec::{
+    ArrayPartialDecoderTraits, ByteRange, BytesPartialDecoderTraits, Refused, fixed_are_bytes,
+};
 use zarrs_data_type::{DataType, FillValue};
 
 /// Reads a chunk of [`PackBitsCodec`] in part, over a storage handle that it owns. A read looks at
@@ -39,16 +40,6 @@ pub struct PackBitsPartialDecoder<H> {
     data_type: DataType,
     fill_value: FillValue,
     ghost taken: { PackBitsTakes codec (form_of shape data_type fill_value) },
-}
-
-/// The bytes of elements of one size are below 256, as all bytes are.
-fn elements_are_bytes(elements: &ArrayBytes<'_>)
-    ensures bytes { (raw : Raw) → elements.now ≡ flen raw
-        → (i : ℕ) → slice_index raw.items i < 256 }
-{
-    if let Ok(bytes) = elements.as_fixed() {
-        bytes_are(bytes);
-    }
 }
 
 impl PackBitsCodec {
@@ -98,7 +89,7 @@ impl PackBitsCodec {
         ensures same_reference { H.lent handle.new ≡ H.lent handle.old }
     {
         let elements = BytesCodec::little().read_runs(alloc, handle, data_type, fill_value, runs)?;
-        elements_are_bytes(&elements);
+        fixed_are_bytes(&elements);
         Ok(elements)
     }
 

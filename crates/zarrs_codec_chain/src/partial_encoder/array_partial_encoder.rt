@@ -19,11 +19,10 @@ use crate::partial_decoder::array_partial_decoder::ArrayPartialDecoder;
 use std::alloc::Global;
 use zarrs_array_bytes::ArrayBytes;
 use zarrs_chain::CodecChain;
-use zarrs_chain_meaning::machine_bytes::bytes_are;
 use zarrs_chunk::{ChunkShape, CodecError, Indexer};
 use zarrs_codec::{
     ArrayPartialDecoderTraits, ArrayPartialEncoderTraits, ByteRange, BytesPartialEncoderTraits,
-    BytesToBytesCodecTraits, Refused,
+    BytesToBytesCodecTraits, Refused, bytes_are,
 };
 use zarrs_data_type::{DataType, FillValue};
 

@@ -15,5 +15,5 @@ pub returns-clause-exact : goal.returns-clause-exact
 returns-clause-exact c =
     let value = c.in_ok-value.value in
     let is = (rw c.little.ensures.made at c.in_ok-value.ensures.in_place) (little_stays c.args.data_type.now c.args.elements) in
-    let small : (i : ℕ) → get_or (raw_of value).items i 0 < 256 = subst (λ (b : List ℕ). (i : ℕ) → get_or b i 0 < 256) (c.deref.ensures.value ∙ raw_items value) c.bytes_are.ensures.bytes in
+    let small : (i : ℕ) → get_or (raw_of value).items i 0 < 256 = subst (λ (b : List ℕ). (i : ℕ) → get_or b i 0 < 256) (c.deref.ensures.value ∙ raw_items value) c.bytes_are.ensures.small in
     sym (whole_value c.args.self.now c.args.shape.now c.args.data_type.now c.args.fill.now (raw_of value).items c.args.elements c.requires.whole (sym is) small)

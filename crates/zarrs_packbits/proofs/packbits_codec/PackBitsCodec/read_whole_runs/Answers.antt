@@ -27,4 +27,4 @@ returns-clause-answer g c =
     let type = c.args.data_type.now in
     let whole = layout_kept (packed_layout c.args.self.now (form_of c.args.shape.now type c.args.fill_value.now)) c.requires.whole in
     let stored = (g.H.BytesPartialDecoderTraits.state c.args.handle.now).value in
-    whole_read c.args.self.now c.args.shape.now type c.args.fill_value.now (joined_runs c.args.runs.now) stored whole.0 (Ok c.in_ok-elements.elements) whole.1 whole.2 c.elements_are_bytes.ensures.bytes (rw c.little.ensures.made at c.in_ok-elements.ensures.answer)
+    whole_read c.args.self.now c.args.shape.now type c.args.fill_value.now (joined_runs c.args.runs.now) stored whole.0 (Ok c.in_ok-elements.elements) whole.1 whole.2 c.fixed_are_bytes.ensures.small (rw c.little.ensures.made at c.in_ok-elements.ensures.answer)
