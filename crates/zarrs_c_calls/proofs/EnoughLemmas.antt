@@ -21,8 +21,7 @@ use Rattle.zarrs_bytes.specs.PartialRead.{place_bytes, place_size}
 use Rattle.zarrs_bytes.specs.PlannedRanges.{IsPlan}
 use Rattle.zarrs_chain_meaning.specs.Chain.{taken_form}
 use Rattle.zarrs_chain_meaning.specs.Laws.{IsChainOfMappings}
-use Rattle.zarrs_chain_meaning.specs.CodecMeaning.{chain_representation}
-use Rattle.zarrs_chain_meaning.specs.PlainChain.{PlainCodec}
+use Rattle.zarrs_chain_meaning.specs.CodecMeaning.{PlainCodec, chain_representation}
 use Rattle.zarrs_chain_meaning.specs.Meaning.{Meaning}
 use Rattle.zarrs_bytes.proofs.Coding.{bind_ok, ok}
 use Rattle.zarrs_codec_chain.specs.ChunkRead.{IsReadPlan, encoded_places, form_in_place, planned_places, planned_region, reads_places, standing_places}

@@ -20,8 +20,7 @@ use Rattle.zarrs_bytes.proofs.Coding.{ok}
 use Rattle.zarrs_chain_meaning.specs.ArrayStages.{arrays_map, IsMapWhere}
 use Rattle.zarrs_chain_meaning.specs.BytesStages.{outer_bytes}
 use Rattle.zarrs_chain_meaning.specs.Chain.{taken_form}
-use Rattle.zarrs_chain_meaning.specs.CodecMeaning.{codec_chunk, chain_chunk, meaning}
-use Rattle.zarrs_chain_meaning.specs.PlainChain.{PlainChain, bytes_codec}
+use Rattle.zarrs_chain_meaning.specs.CodecMeaning.{bytes_codec, PlainChain, meaning, codec_chunk, chain_chunk}
 use Rattle.zarrs_chain_meaning.proofs.ArraySteps.{at_ok, next_answer}
 use Rattle.zarrs_chain_meaning.proofs.ChainSteps.{is_taken, seen_ok, chunk_through}
 use Rattle.zarrs_chain.specs.ChainView.{plain_codec}

@@ -15,8 +15,7 @@ use Rattle.zarrs_codec.specs.BytesToBytesCodec.{BytesCodecs}
 use Rattle.zarrs_codec.specs.Grammar.{Encodes, Decodes}
 use Rattle.zarrs_bytes.specs.BytesCodec.{IsChunk}
 use Rattle.zarrs_chain_meaning.specs.Chain.{codec_held_value, taken_chunk}
-use Rattle.zarrs_chain_meaning.specs.CodecMeaning.{HasMappings, codec_representation}
-use Rattle.zarrs_chain_meaning.specs.PlainChain.{PlainCodec}
+use Rattle.zarrs_chain_meaning.specs.CodecMeaning.{PlainCodec, HasMappings, codec_representation}
 use Rattle.zarrs_chain.specs.ChainGrammar.{codec_grammar, TakenStands, TakenWritten}
 use Rattle.zarrs_chain_meaning.proofs.Answered.{from_ok}
 use Rattle.zarrs_bytes.proofs.Coding.{bind_ok}

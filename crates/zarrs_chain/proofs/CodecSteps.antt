@@ -20,10 +20,9 @@ use Rattle.zarrs_packbits.specs.PackBitsCodec.{packbits_value, packbits_chunk}
 use Rattle.zarrs_packbits.specs.PackBitsSettings.{PackBitsSettings, packed_layout, packbits_length, has_bits, layout_for}
 use Rattle.zarrs_packbits.specs.PackedLayout.{is_in_reach}
 use Rattle.zarrs_packbits.specs.PaddingByte.{value_len, value_with}
-use Rattle.zarrs_chain_meaning.specs.PlainChain.{bytes_codec, packbits_codec}
 use Rattle.zarrs_chain_meaning.specs.Chain.{codec_held_value}
 use Rattle.zarrs_chain.specs.ChainView.{plain_vlen, plain_vlen_at}
-use Rattle.zarrs_chain_meaning.specs.CodecMeaning.{codec_chunk, codec_representation, meaning}
+use Rattle.zarrs_chain_meaning.specs.CodecMeaning.{bytes_codec, packbits_codec, meaning, codec_representation, codec_chunk}
 use Rattle.zarrs_chain_meaning.specs.vlen.Vlen.{vlen_representation}
 use Rattle.zarrs_chain.specs.declared.vlen.vlen_codec.VlenCodec.{VlenCodec}
 use Rattle.zarrs_array_to_array.proofs.Refusals.{bind_no_fault, demand_no_fault, seen_no_fault}

@@ -16,10 +16,9 @@ use Rattle.zarrs_codec.specs.BytesToBytesCodec.{BytesCodecs, IsLawful}
 use Rattle.zarrs_codec.specs.CodecMembers.{DecodesAgain}
 use Rattle.zarrs_codec.specs.Grammar.{Decodes}
 use Rattle.zarrs_chain_meaning.specs.Chain.{codec_held_value, taken_chunk}
-use Rattle.zarrs_chain_meaning.specs.CodecMeaning.{chain_chunk, codec_chunk, HasMappings, normal_form, codec_representation, ChainWritten, chain_meaning}
+use Rattle.zarrs_chain_meaning.specs.CodecMeaning.{PlainCodec, PlainChain, chain_meaning, HasMappings, normal_form, codec_representation, codec_chunk, chain_chunk, ChainWritten}
 use Rattle.zarrs_chain_meaning.specs.Laws.{IsChainOfMappings}
 use Rattle.zarrs_chain_meaning.specs.MachineBytes.{HeldHasBytes}
-use Rattle.zarrs_chain_meaning.specs.PlainChain.{PlainChain, PlainCodec}
 use Rattle.zarrs_chain_meaning.proofs.Answered.{from_ok}
 use Rattle.zarrs_chain_meaning.proofs.CodecLaws.{chain_stands}
 use Rattle.zarrs_chain_meaning.proofs.HeldBytes.{chain_again, chunk_bytes, codec_again}

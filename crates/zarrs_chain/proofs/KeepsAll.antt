@@ -2,10 +2,9 @@
 use Rattle.std.proofs.Common.{◌≡◌, ℕ, Bool, List, [], ◌∷◌, map, refl, ap, sym, subst}
 use Rattle.zarrs_data_type.specs.Element.{Element, plain, absent, present, Chunk}
 use Rattle.zarrs_data_type.specs.ElementType.{ElementType, fixed, text, bytes, optional}
-use Rattle.zarrs_chain_meaning.specs.CodecMeaning.{meaning, codec_normal_element}
+use Rattle.zarrs_chain_meaning.specs.CodecMeaning.{PlainChain, vlen_codec_of, optional_codec_of, sharding_codec_of, meaning, codec_normal_element}
 use Rattle.zarrs_chain_meaning.specs.Meaning.{Keeping}
 use Rattle.zarrs_chain_meaning.specs.Parts.{byte_type, the_byte}
-use Rattle.zarrs_chain_meaning.specs.PlainChain.{PlainChain, vlen_codec_of, optional_codec_of, sharding_codec_of}
 use Rattle.zarrs_chain_meaning.specs.optional.Optional.{optional_normal}
 use Rattle.zarrs_chain_meaning.specs.vlen.Vlen.{vlen_normal}
 use Rattle.zarrs_chain.specs.ChainView.{plain_chain, plain_codec, plain_optional_at, plain_sharding_at, plain_vlen_at}

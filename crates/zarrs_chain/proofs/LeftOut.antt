@@ -14,10 +14,9 @@ use Rattle.zarrs_array_bytes.specs.Validity.{Holds, sizes_fit, validity}
 use Rattle.zarrs_array_to_array.proofs.MappedChunks.{holds_elements}
 use Rattle.zarrs_bytes.proofs.Coding.{ok}
 use Rattle.zarrs_codec.proofs.Fences.{first_true, second_true}
-use Rattle.zarrs_chain_meaning.specs.CodecMeaning.{codec_normal_element, normal_form}
+use Rattle.zarrs_chain_meaning.specs.CodecMeaning.{PlainCodec, codec_normal_element, normal_form}
 use Rattle.zarrs_array_bytes.specs.SameBytesLaws.{numbers_same}
 use Rattle.zarrs_chain_meaning.specs.Meaning.{Keeping}
-use Rattle.zarrs_chain_meaning.specs.PlainChain.{PlainCodec}
 use Rattle.zarrs_chain_meaning.specs.sharding.Sharding.{is_kept_as_fill, is_left_out, is_same_element}
 use Rattle.zarrs_chain_meaning.proofs.ArraySteps.{ok_is}
 use Rattle.zarrs_chain_meaning.proofs.ShardStands.{same_element}

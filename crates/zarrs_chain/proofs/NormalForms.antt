@@ -40,8 +40,7 @@ use Rattle.zarrs_packbits.specs.NormalForm as packbits
 use Rattle.zarrs_packbits.specs.PackBitsSettings.{PackBitsSettings, has_bits, layout_for, packed_layout}
 use Rattle.zarrs_packbits.specs.PackedLayout.{is_in_reach}
 use Rattle.zarrs_packbits.specs.PaddingByte.{value_len}
-use Rattle.zarrs_chain_meaning.specs.CodecMeaning.{meaning, codec_normal_element, normal_form}
-use Rattle.zarrs_chain_meaning.specs.PlainChain.{PlainChain, PlainCodec, optional_codec_of, sharding_codec_of, vlen_codec_of}
+use Rattle.zarrs_chain_meaning.specs.CodecMeaning.{PlainCodec, PlainChain, vlen_codec_of, optional_codec_of, sharding_codec_of, meaning, codec_normal_element, normal_form}
 use Rattle.zarrs_chain_meaning.proofs.CodecLaws.{kept_is}
 use Rattle.zarrs_chain_meaning.proofs.VlenOffsets.{fixed_held}
 use Rattle.zarrs_chain.specs.ChainView.{plain_chain, plain_codec, plain_optional, plain_optional_at, plain_sharding_at, plain_vlen, plain_vlen_at}

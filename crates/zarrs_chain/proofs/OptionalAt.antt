@@ -16,12 +16,11 @@ use Rattle.zarrs_array_bytes.specs.Present.{present_count, present_chunk}
 use Rattle.zarrs_array_bytes.specs.Validity.{validity, Holds}
 use Rattle.zarrs_codec.specs.BytesToBytesCodec.{BytesCodecs}
 use Rattle.zarrs_codec.specs.declared.bytes_representation.BytesRepresentation.{BytesRepresentation}
-use Rattle.zarrs_chain_meaning.specs.PlainChain.{PlainCodec}
 use Rattle.zarrs_chain_meaning.specs.BytesStages.{in_memory}
 use Rattle.zarrs_chain_meaning.specs.Chain.{held_part, codec_held_value}
 use Rattle.zarrs_chain.specs.ChainView.{plain_chain, plain_optional, plain_optional_at}
 use Rattle.zarrs_chain_meaning.specs.optional.Optional.{optional_parts, optional_layout, optional_value, flag_type, blank_fill, bounded_total}
-use Rattle.zarrs_chain_meaning.specs.CodecMeaning.{chain_chunk, codec_chunk, chain_value, codec_value, chain_representation, codec_representation}
+use Rattle.zarrs_chain_meaning.specs.CodecMeaning.{PlainCodec, codec_representation, chain_representation, codec_value, chain_value, codec_chunk, chain_chunk}
 use Rattle.zarrs_chain_meaning.specs.Parts.{byte_elements}
 use Rattle.zarrs_chain_meaning.specs.optional.OptionalParts.{optional_inner, present_part}
 use Rattle.zarrs_chain.specs.declared.optional.optional_codec.OptionalCodec.{OptionalCodec, out-OptionalCodec}

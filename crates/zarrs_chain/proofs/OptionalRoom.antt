@@ -7,10 +7,9 @@ use Rattle.zarrs_data_type.specs.ElementType.{ElementType}
 use Rattle.zarrs_array_bytes.specs.Validity.{sizes_fit}
 use Rattle.zarrs_codec.specs.BytesToBytesCodec.{BytesCodecs}
 use Rattle.zarrs_codec.specs.declared.bytes_representation.BytesRepresentation.{BytesRepresentation}
-use Rattle.zarrs_chain_meaning.specs.CodecMeaning.{HasMappings, chain_chunk, codec_representation}
+use Rattle.zarrs_chain_meaning.specs.CodecMeaning.{PlainCodec, PlainChain, HasMappings, codec_representation, chain_chunk}
 use Rattle.zarrs_chain_meaning.specs.Parts.{byte_elements}
 use Rattle.zarrs_chain_meaning.specs.optional.Optional.{flag_type}
-use Rattle.zarrs_chain_meaning.specs.PlainChain.{PlainCodec, PlainChain}
 use Rattle.zarrs_chain_meaning.specs.optional.OptionalParts.{optional_inner}
 use Rattle.zarrs_chain_meaning.proofs.NestedRows.{items_long}
 use Rattle.zarrs_chain_meaning.proofs.OptionalSteps.{inner_is, chunk_long}

@@ -13,9 +13,8 @@ use Rattle.zarrs_array_bytes.specs.Validity.{Holds}
 use Rattle.zarrs_codec.specs.BytesToBytesCodec.{BytesCodecs}
 use Rattle.zarrs_codec.specs.Grammar.{Encodes, Decodes}
 use Rattle.zarrs_chain_meaning.specs.Chain.{held_value}
-use Rattle.zarrs_chain_meaning.specs.CodecMeaning.{chain_chunk, chain_value}
+use Rattle.zarrs_chain_meaning.specs.CodecMeaning.{PlainChain, chain_value, chain_chunk}
 use Rattle.zarrs_chain_meaning.specs.Laws.{IsChainOfMappings}
-use Rattle.zarrs_chain_meaning.specs.PlainChain.{PlainChain}
 use Rattle.zarrs_chain_meaning.proofs.ChainRelations.{held_value_is}
 use Rattle.zarrs_chain_meaning.proofs.ChainSteps.{held_chunk}
 use Rattle.zarrs_chain_meaning.proofs.CodecLaws.{chain_read_found}

@@ -13,8 +13,7 @@ use Rattle.zarrs_bytes.proofs.Coding.{ok}
 use Rattle.zarrs_codec.specs.BytesToBytesCodec.{BytesCodecs}
 use Rattle.zarrs_codec.specs.declared.bytes_representation.BytesRepresentation.{BytesRepresentation}
 use Rattle.zarrs_chain_meaning.specs.Chain.{codec_held_value}
-use Rattle.zarrs_chain_meaning.specs.CodecMeaning.{meaning, chain_chunk, chain_representation, chain_value, codec_chunk, codec_representation, codec_value, codec_normal_element}
-use Rattle.zarrs_chain_meaning.specs.PlainChain.{PlainChain, sharding_codec_of}
+use Rattle.zarrs_chain_meaning.specs.CodecMeaning.{PlainChain, sharding_codec_of, meaning, codec_normal_element, codec_representation, chain_representation, codec_value, chain_value, codec_chunk, chain_chunk}
 use Rattle.zarrs_chain_meaning.specs.sharding.InnerChunks.{grid, is_divided}
 use Rattle.zarrs_chain_meaning.specs.sharding.ShardSteps.{divided_grid}
 use Rattle.zarrs_chain_meaning.specs.sharding.Sharding.{is_kept_as_fill, shard_chunk, shard_representation, shard_value}

@@ -12,8 +12,7 @@ use Rattle.zarrs_data_type.specs.FillValue.{fill_fits}
 use Rattle.zarrs_array_bytes.specs.Validity.{sizes_fit}
 use Rattle.zarrs_codec.specs.BytesToBytesCodec.{BytesCodecs}
 use Rattle.zarrs_codec.specs.declared.bytes_representation.BytesRepresentation.{BytesRepresentation}
-use Rattle.zarrs_chain_meaning.specs.CodecMeaning.{chain_representation, codec_normal_element}
-use Rattle.zarrs_chain_meaning.specs.PlainChain.{PlainChain}
+use Rattle.zarrs_chain_meaning.specs.CodecMeaning.{PlainChain, codec_normal_element, chain_representation}
 use Rattle.zarrs_chain_meaning.specs.sharding.InnerChunks.{grid, inner_chunk_count, is_divided}
 use Rattle.zarrs_chain_meaning.specs.sharding.ShardSteps.{divided_grid}
 use Rattle.zarrs_bytes.proofs.Coding.{bind_ok, demand_ok, ok}

@@ -21,9 +21,8 @@ use Rattle.zarrs_bytes.specs.BytesCodec.{IsChunk}
 use Rattle.zarrs_bytes.proofs.Coding.{ok, bind_ok}
 use Rattle.zarrs_codec.specs.BytesToBytesCodec.{BytesCodecs, IsLawful}
 use Rattle.zarrs_chain_meaning.specs.Chain.{held_value}
-use Rattle.zarrs_chain_meaning.specs.CodecMeaning.{chain_chunk, chain_representation, chain_value, codec_normal_element, normal_form}
+use Rattle.zarrs_chain_meaning.specs.CodecMeaning.{PlainCodec, PlainChain, codec_normal_element, normal_form, chain_representation, chain_value, chain_chunk}
 use Rattle.zarrs_chain_meaning.specs.Laws.{IsChainOfMappings}
-use Rattle.zarrs_chain_meaning.specs.PlainChain.{PlainChain, PlainCodec}
 use Rattle.zarrs_chain_meaning.specs.sharding.Sharding.{fixed_size}
 use Rattle.zarrs_chain_meaning.specs.vlen.Vlen.{is_same_bytes, offset_bytes, offset_elements, offset_type, offsets_in_chunk}
 use Rattle.zarrs_chain_meaning.specs.vlen.VlenSteps.{bytes_from, read_offsets}

@@ -16,9 +16,8 @@ use Rattle.zarrs_array_bytes.specs.Validity.{Holds, data_fit, data_mismatch, len
 use Rattle.zarrs_array_bytes.proofs.ValidLemmas.{both_ok, then_ok, length_found, length_due}
 use Rattle.zarrs_bytes.proofs.Coding.{ok}
 use Rattle.zarrs_codec.specs.BytesToBytesCodec.{BytesCodecs}
-use Rattle.zarrs_chain_meaning.specs.CodecMeaning.{chain_chunk, chain_representation}
+use Rattle.zarrs_chain_meaning.specs.CodecMeaning.{PlainChain, chain_representation, chain_chunk}
 use Rattle.zarrs_chain_meaning.specs.Meaning.{Decoder}
-use Rattle.zarrs_chain_meaning.specs.PlainChain.{PlainChain}
 use Rattle.zarrs_chain_meaning.specs.sharding.InnerChunks.{inner_chunk_count, inner_chunk_places, is_divided, joined_inner_chunks}
 use Rattle.zarrs_chain_meaning.specs.sharding.Sharding.{Span, spanned_bytes, index_part_of, index_shape, index_size, inner_chunk_at, inner_chunks_at, shard_chunk, spans_of}
 use Rattle.zarrs_chain_meaning.specs.sharding.ShardSteps.{index_bytes, stored_span}

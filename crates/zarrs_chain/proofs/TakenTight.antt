@@ -12,8 +12,7 @@ use Rattle.zarrs_array_bytes.specs.Validity.{Holds}
 use Rattle.zarrs_array_bytes.proofs.TightLemmas.{simple_tight_results, sized_given_tight}
 use Rattle.zarrs_codec.specs.BytesToBytesCodec.{BytesCodecs}
 use Rattle.zarrs_packbits.specs.PackBitsSettings.{PackBitsSettings}
-use Rattle.zarrs_chain_meaning.specs.PlainChain.{bytes_codec, packbits_codec}
-use Rattle.zarrs_chain_meaning.specs.CodecMeaning.{codec_representation, meaning}
+use Rattle.zarrs_chain_meaning.specs.CodecMeaning.{bytes_codec, packbits_codec, meaning, codec_representation}
 use Rattle.zarrs_chain_meaning.specs.vlen.Vlen.{vlen_representation}
 use Rattle.zarrs_chain.specs.ChainView.{plain_codec, plain_vlen, plain_vlen_at}
 use Rattle.zarrs_chain.specs.declared.array_to_bytes_codec.ArrayToBytesCodec.{ArrayToBytesCodec}

@@ -26,10 +26,9 @@ use Rattle.zarrs_array_bytes.proofs.Pieces.{concat-pieces, elements-pieces}
 use Rattle.zarrs_array_bytes.proofs.ValidLemmas.{both_ok, fixed_fits}
 use Rattle.zarrs_bytes.specs.ByteOrder.{bytes_of}
 use Rattle.zarrs_codec.specs.BytesToBytesCodec.{BytesCodecs}
-use Rattle.zarrs_chain_meaning.specs.PlainChain.{PlainCodec, PlainChain, vlen_codec_of}
 use Rattle.zarrs_chain_meaning.specs.Meaning.{Decoder, in_a_row}
 use Rattle.zarrs_chain_meaning.specs.vlen.Vlen.{offsets_in_chunk, slices, vlen_value_parts, offset_bytes, offset_type, vlen_representation}
-use Rattle.zarrs_chain_meaning.specs.CodecMeaning.{codec_chunk, chain_chunk, codec_representation, meaning}
+use Rattle.zarrs_chain_meaning.specs.CodecMeaning.{PlainCodec, PlainChain, vlen_codec_of, meaning, codec_representation, codec_chunk, chain_chunk}
 use Rattle.zarrs_chain_meaning.specs.Parts.{all_bytes, byte_type}
 use Rattle.zarrs_chain.specs.ChainView.{plain_chain, plain_vlen, plain_vlen_at}
 use Rattle.zarrs_chain_meaning.specs.vlen.VlenSettings.{is_wide, is_at_end}

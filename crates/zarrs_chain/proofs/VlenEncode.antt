@@ -34,14 +34,13 @@ use Rattle.zarrs_bytes.proofs.Spelled.{Holds-pieces}
 use Rattle.zarrs_packbits.specs.PackBitsSettings.{PackBitsSettings, packed_layout, packbits_length, has_bits, layout_for}
 use Rattle.zarrs_packbits.specs.PackedLayout.{is_in_reach}
 use Rattle.zarrs_packbits.specs.PaddingByte.{value_len}
-use Rattle.zarrs_chain_meaning.specs.PlainChain.{PlainCodec, packbits_codec, PlainChain, vlen_codec_of}
 use Rattle.zarrs_chain_meaning.specs.ArrayStages.{arrays_map}
 use Rattle.zarrs_chain_meaning.specs.BytesStages.{in_memory}
 use Rattle.zarrs_chain_meaning.specs.Chain.{codec_held_value, held_part}
 use Rattle.zarrs_chain_meaning.specs.vlen.Vlen.{slices, chunk_offsets, offset_bytes, offset_fits, offset_elements, is_same_bytes, vlen_value, offset_type, vlen_representation, arranged}
 use Rattle.zarrs_chain_meaning.specs.Meaning.{Encoder, around_representation, Keeping, in_a_row}
 use Rattle.zarrs_chain_meaning.specs.Parts.{byte_elements, all_bytes, byte_type, part_length_bytes}
-use Rattle.zarrs_chain_meaning.specs.CodecMeaning.{codec_value, chain_value, codec_normal_element, codec_representation, chain_representation, meaning}
+use Rattle.zarrs_chain_meaning.specs.CodecMeaning.{PlainCodec, packbits_codec, PlainChain, vlen_codec_of, meaning, codec_normal_element, codec_representation, chain_representation, codec_value, chain_value}
 use Rattle.zarrs_chain_meaning.specs.Laws.{IsChainOfMappings}
 use Rattle.zarrs_chain.specs.ChainView.{plain_vlen, plain_vlen_at}
 use Rattle.zarrs_chain.specs.declared.vlen.vlen_codec.VlenCodec.{VlenCodec}

@@ -23,9 +23,8 @@ use Rattle.zarrs_packbits.specs.PackBitsCodec.{PackBitsStands, PackBitsWritten}
 use Rattle.zarrs_packbits.specs.PackBitsSettings.{PackBitsSettings, packed_layout}
 use Rattle.zarrs_packbits.proofs.CodecLaws.{written_stands}
 use Rattle.zarrs_chain_meaning.specs.vlen.Vlen.{is_same_bytes, offset_bytes, offset_elements, offset_type}
-use Rattle.zarrs_chain_meaning.specs.CodecMeaning.{meaning, codec_normal_element, normal_form}
+use Rattle.zarrs_chain_meaning.specs.CodecMeaning.{PlainCodec, packbits_codec, meaning, codec_normal_element, normal_form}
 use Rattle.zarrs_chain.specs.ChainView.{plain_codec}
-use Rattle.zarrs_chain_meaning.specs.PlainChain.{PlainCodec, packbits_codec}
 use Rattle.zarrs_chain_meaning.specs.vlen.VlenSteps.{lent_bytes, written_offsets, keeps_offsets, TakesOffsets}
 use Rattle.zarrs_chain.specs.declared.array_to_bytes_codec.ArrayToBytesCodec.{ArrayToBytesCodec}
 use Rattle.zarrs_chain.specs.declared.array_to_bytes_codec.ArrayToBytesCodec.TheVariants.{PackBits}

@@ -18,8 +18,7 @@ use Rattle.zarrs_vlen_v2.specs.declared.vlen_v2_codec.VlenV2Codec.{VlenV2Codec}
 use Rattle.zarrs_vlen_v2.proofs.CodecLaws.{accepted}
 use Rattle.zarrs_vlen_v2.proofs.Counted.{variable_simple}
 use Rattle.zarrs_chain_meaning.specs.Chain.{codec_held_value}
-use Rattle.zarrs_chain_meaning.specs.CodecMeaning.{codec_chunk, codec_representation, meaning}
-use Rattle.zarrs_chain_meaning.specs.PlainChain.{vlen_v2_codec}
+use Rattle.zarrs_chain_meaning.specs.CodecMeaning.{vlen_v2_codec, meaning, codec_representation, codec_chunk}
 use Rattle.zarrs_chain.specs.ChainView.{plain_codec}
 use Rattle.zarrs_chain.specs.declared.array_to_bytes_codec.ArrayToBytesCodec.{ArrayToBytesCodec}
 use Rattle.zarrs_chain.specs.declared.array_to_bytes_codec.ArrayToBytesCodec.TheVariants.{VlenV2}

@@ -6,8 +6,7 @@ use Rattle.zarrs_data_type.specs.Form.{Form}
 use Rattle.zarrs_codec.specs.BytesToBytesCodec.{BytesCodecs}
 use Rattle.zarrs_codec.specs.Grammar.{Grammar}
 use Rattle.zarrs_chain_meaning.specs.Chain.{codec_held_value, held_value, taken_chunk}
-use Rattle.zarrs_chain_meaning.specs.CodecMeaning.{codec_representation, CodecStands, CodecWritten, chain_meaning}
-use Rattle.zarrs_chain_meaning.specs.PlainChain.{PlainChain, PlainCodec}
+use Rattle.zarrs_chain_meaning.specs.CodecMeaning.{PlainCodec, PlainChain, chain_meaning, codec_representation, CodecStands, CodecWritten}
 
 -- what a chain states of chunks: for which a value stands, which value is written, what calls answer
 abbrev pub chain_grammar : {B : Type 0} → BytesCodecs B → PlainChain B → Grammar

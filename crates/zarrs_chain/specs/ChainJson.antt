@@ -8,7 +8,7 @@ use Rattle.zarrs_metadata.specs.Metadata.{Metadata, read_metadata}
 use Rattle.zarrs_metadata.specs.PluginCreateError.{plugin_memory}
 use Rattle.zarrs_metadata.specs.declared.plugin_create_error.PluginCreateError.{PluginCreateError}
 use Rattle.zarrs_chain_meaning.specs.MadeChain.{chain_made}
-use Rattle.zarrs_chain_meaning.specs.PlainChain.{PlainChain}
+use Rattle.zarrs_chain_meaning.specs.CodecMeaning.{PlainChain}
 use Rattle.zarrs_chain.specs.declared.metadata.chain_json_error.ChainJsonError.{ChainJsonError}
 use Rattle.zarrs_chain.specs.declared.metadata.chain_json_error.ChainJsonError.TheVariants.{NotJson, NotAList, Create}
 

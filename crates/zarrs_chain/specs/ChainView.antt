@@ -10,7 +10,7 @@ use Rattle.zarrs_metadata.specs.declared.codec.vlen.VlenIndexLocation.{VlenIndex
 use Rattle.zarrs_array_to_array.specs.Mapping.{mapping_of}
 use Rattle.zarrs_chain_meaning.specs.sharding.ShardingSettings.{is_index_at_end}
 use Rattle.zarrs_chain_meaning.specs.vlen.VlenSettings.{is_wide, is_at_end}
-use Rattle.zarrs_chain_meaning.specs.PlainChain.{PlainCodec, bytes_codec, packbits_codec, vlen_v2_codec, vlen_codec, optional_codec, sharding_codec, PlainChain, vlen_codec_of, optional_codec_of, sharding_codec_of}
+use Rattle.zarrs_chain_meaning.specs.CodecMeaning.{PlainCodec, bytes_codec, packbits_codec, vlen_v2_codec, vlen_codec, optional_codec, sharding_codec, PlainChain, vlen_codec_of, optional_codec_of, sharding_codec_of}
 use Rattle.zarrs_chain.specs.declared.array_to_bytes_codec.ArrayToBytesCodec.{ArrayToBytesCodec}
 use Rattle.zarrs_chain.specs.declared.array_to_bytes_codec.ArrayToBytesCodec.TheVariants.{Bytes, PackBits, VlenV2, Vlen, Optional, Sharding}
 use Rattle.zarrs_chain.specs.declared.codec_chain.CodecChain.{CodecChain}

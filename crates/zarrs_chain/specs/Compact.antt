@@ -4,10 +4,9 @@ use Rattle.zarrs_chunk.specs.Answer.{◌>>=◌, seen}
 use Rattle.zarrs_chunk.specs.declared.codec_error.CodecError.{CodecError}
 use Rattle.zarrs_data_type.specs.ElementType.{ElementType}
 use Rattle.zarrs_codec.specs.BytesToBytesCodec.{BytesCodecs}
-use Rattle.zarrs_chain_meaning.specs.PlainChain.{PlainCodec, PlainChain}
 use Rattle.zarrs_chain_meaning.specs.BytesStages.{outer_bytes}
 use Rattle.zarrs_chain_meaning.specs.Chain.{taken_form}
-use Rattle.zarrs_chain_meaning.specs.CodecMeaning.{codec_representation}
+use Rattle.zarrs_chain_meaning.specs.CodecMeaning.{PlainCodec, PlainChain, codec_representation}
 
 -- that an array-to-bytes codec takes such chunks, or the first error
 abbrev pub codec_opened : {B : Type 0} → BytesCodecs B → PlainCodec B → List ℕ → ElementType → List ℕ → Result (Unit {0}) CodecError

@@ -9,8 +9,7 @@ use Rattle.zarrs_data_type.specs.Form.{Form}
 use Rattle.zarrs_array_bytes.specs.Elements.{elements}
 use Rattle.zarrs_array_bytes.specs.Held.{Held, items_of}
 use Rattle.zarrs_codec.specs.BytesToBytesCodec.{BytesCodecs}
-use Rattle.zarrs_chain_meaning.specs.CodecMeaning.{normal_form, chain_meaning}
-use Rattle.zarrs_chain_meaning.specs.PlainChain.{PlainChain}
+use Rattle.zarrs_chain_meaning.specs.CodecMeaning.{PlainChain, chain_meaning, normal_form}
 
 -- A value that is answered stands for the normal form of the chunk that the container holds.
 abbrev pub EncodedStands : {B : Type 0} → BytesCodecs B → PlainChain B → Form → Held → Result (CowSlice ℕ Global) CodecError → Type 0

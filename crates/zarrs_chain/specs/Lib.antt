@@ -24,7 +24,6 @@ pub use Rattle.zarrs_array_bytes.specs.Validity
 pub use Rattle.zarrs_codec.specs.BytesRepresentation
 pub use Rattle.zarrs_codec.specs.BytesToBytesCodec
 pub use Rattle.zarrs_array_to_array.specs.Mapping
-pub use Rattle.zarrs_chain_meaning.specs.PlainChain
 pub use Rattle.zarrs_chain_meaning.specs.BytesStages
 pub use Rattle.zarrs_chain_meaning.specs.Meaning
 pub use Rattle.zarrs_chain_meaning.specs.CodecMeaning

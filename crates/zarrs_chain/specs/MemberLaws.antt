@@ -11,8 +11,7 @@ use Rattle.zarrs_array_to_array.proofs.CoordinateMaps.{length-moved}
 use Rattle.zarrs_chain_meaning.specs.ArrayStages.{arrays_map}
 use Rattle.zarrs_chain_meaning.specs.BytesStages.{outer_bytes, outer_representation}
 use Rattle.zarrs_chain_meaning.specs.Chain.{taken_chunk}
-use Rattle.zarrs_chain_meaning.specs.CodecMeaning.{chain_chunk, codec_chunk, chain_representation, codec_representation}
-use Rattle.zarrs_chain_meaning.specs.PlainChain.{PlainChain, PlainCodec}
+use Rattle.zarrs_chain_meaning.specs.CodecMeaning.{PlainCodec, PlainChain, codec_representation, chain_representation, codec_chunk, chain_chunk}
 use Rattle.zarrs_bytes.proofs.Coding.{bind_ok}
 use Rattle.zarrs_chain_meaning.proofs.ArraySteps.{ok_is, next_answer}
 use Rattle.zarrs_chain_meaning.proofs.CodecLaws.{chunk_count}

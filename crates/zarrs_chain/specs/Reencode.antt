@@ -7,8 +7,7 @@ use Rattle.zarrs_data_type.specs.Element.{Chunk}
 use Rattle.zarrs_data_type.specs.Form.{Form}
 use Rattle.zarrs_codec.specs.BytesToBytesCodec.{BytesCodecs}
 use Rattle.zarrs_codec.specs.Grammar.{Grammar}
-use Rattle.zarrs_chain_meaning.specs.CodecMeaning.{chain_chunk, chain_value}
-use Rattle.zarrs_chain_meaning.specs.PlainChain.{PlainChain}
+use Rattle.zarrs_chain_meaning.specs.CodecMeaning.{PlainChain, chain_value, chain_chunk}
 use Rattle.zarrs_chain.specs.ChainGrammar.{chain_grammar}
 
 -- The first value stands for a chunk, and the second one is written for that chunk.

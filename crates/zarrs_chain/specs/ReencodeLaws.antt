@@ -5,8 +5,7 @@ use Rattle.zarrs_data_type.specs.Form.{Form}
 use Rattle.zarrs_codec.specs.BytesToBytesCodec.{BytesCodecs, IsLawful}
 use Rattle.zarrs_packbits.specs.Laws.{HasBytes}
 use Rattle.zarrs_chain_meaning.specs.Laws.{IsChainOfMappings}
-use Rattle.zarrs_chain_meaning.specs.CodecMeaning.{normal_form}
-use Rattle.zarrs_chain_meaning.specs.PlainChain.{PlainChain}
+use Rattle.zarrs_chain_meaning.specs.CodecMeaning.{PlainChain, normal_form}
 use Rattle.zarrs_chain.specs.ChainGrammar.{chain_grammar}
 use Rattle.zarrs_chain.specs.Reencode.{Reencoded, IsCanonical}
 

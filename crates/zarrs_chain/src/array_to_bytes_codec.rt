@@ -1,3 +1,4 @@
+//! The codecs of chunks to bytes: what goes by which one it is.
 ghost use Rattle.zarrs_array_bytes.specs.Held.{items_of};
 ghost use Rattle.zarrs_array_bytes.specs.Tight.{IsTight};
 ghost use Rattle.zarrs_data_type.specs.Form.{form_of};
@@ -10,30 +11,46 @@ ghost use Rattle.zarrs_chain.specs.ChainView.{plain_codec};
 ghost use Rattle.zarrs_chain_meaning.specs.CodecMeaning.{HasMappings};
 ghost use Rattle.zarrs_chain_meaning.specs.MadeAgain.{HasRanges};
 ghost use Rattle.zarrs_chain.specs.FormView.{lent_form};
+ghost use Rattle.zarrs_metadata.specs.BytesConfiguration.{write_bytes};
+ghost use Rattle.zarrs_metadata.specs.MetadataV3.{metadata_seen, Writes};
+ghost use Rattle.zarrs_metadata.specs.PluginCreateError.{Makes};
+ghost use Rattle.zarrs_packbits.specs.SettingsMetadata.{write_settings};
+ghost use Rattle.zarrs_vlen_v2.specs.VlenV2Metadata.{write_vlen_v2};
+ghost use Rattle.zarrs_chain_meaning.specs.WrittenMetadata.{codec_name as codec_name_of, codec_configuration as codec_configuration_of};
+ghost use Rattle.zarrs_chain_meaning.specs.MadeChain.{codec_by};
+ghost use Rattle.zarrs_chain.specs.ChainParts.{made_seen};
 
 use crate::form::Form;
+use crate::metadata::chain_parts::MadeCodec;
+use crate::metadata::make_chain::{asked, optional_create, sharding_create, vlen_create};
 use crate::optional::optional_codec::{
     OptionalCodec, optional_decode, optional_encode, optional_has_ranges, optional_is_sound,
-    optional_representation,
+    optional_representation, optional_written,
 };
 use crate::sharding::shard_decode::sharding_decode;
 use crate::sharding::shard_encode::sharding_encode;
 use crate::sharding::sharding_codec::{
     ShardingCodec, sharding_has_ranges, sharding_is_sound, sharding_representation,
+    sharding_written,
 };
 use crate::vlen::plain_form::vlen_reads;
-use crate::vlen::vlen_codec::{VlenCodec, vlen_has_ranges, vlen_is_sound, vlen_representation};
+use crate::vlen::vlen_codec::{
+    VlenCodec, vlen_has_ranges, vlen_is_sound, vlen_representation, vlen_written,
+};
 use crate::vlen::vlen_decode::vlen_decode;
 use crate::vlen::vlen_encode::vlen_encode;
 use std::alloc::Global;
 use zarrs_array_bytes::{ArrayBytes, ArrayBytesRaw};
+use zarrs_array_to_array::ArrayToArrayCodec;
 use zarrs_bytes::BytesCodec;
+use zarrs_chain_meaning::codec_name::{KnownCodec, codec_named};
 use zarrs_chunk::{ChunkShape, CodecError};
 use zarrs_codec::{
-    BytesRepresentation, BytesToBytesCodecTraits, CodecTraits, PartialDecoderCapability,
-    PartialEncoderCapability,
+    BytesCodecMaker, BytesRepresentation, BytesToBytesCodecTraits, CodecTraits,
+    PartialDecoderCapability, PartialEncoderCapability,
 };
 use zarrs_data_type::{DataType, FillValue};
+use zarrs_metadata::{Configuration, MetadataV3, PluginCreateError};
 use zarrs_packbits::PackBitsCodec;
 use zarrs_vlen_v2::VlenV2Codec;
 
@@ -251,5 +268,117 @@ pub(crate) fn codec_writes<B>(codec: &ArrayToBytesCodec<B>) -> PartialEncoderCap
         | ArrayToBytesCodec::Sharding(_) => PartialEncoderCapability {
             partial_encode: false,
         },
+    }
+}
+
+/// The name of an array-to-bytes codec in metadata.
+#[tactic(auto, unfolding(crate::specs::ChainView::plain_codec), using(crate::specs::ChainView::plain_vlen_at, crate::specs::ChainView::plain_optional_at, crate::specs::ChainView::plain_sharding_at))]
+pub(crate) fn codec_name<B>(codec: &ArrayToBytesCodec<B>) -> &'static str
+    ensures value { result.now ≡ codec_name_of (plain_codec codec.now) }
+{
+    match codec {
+        ArrayToBytesCodec::Bytes(_) => "bytes",
+        ArrayToBytesCodec::PackBits(_) => "packbits",
+        ArrayToBytesCodec::VlenV2(VlenV2Codec::Utf8) => "vlen-utf8",
+        ArrayToBytesCodec::VlenV2(VlenV2Codec::Bytes) => "vlen-bytes",
+        ArrayToBytesCodec::Vlen(_) => "zarrs.vlen",
+        ArrayToBytesCodec::Optional(_) => "zarrs.optional",
+        ArrayToBytesCodec::Sharding(_) => "sharding_indexed",
+    }
+}
+
+/// The configuration of `bytes`. Errors: `OutOfMemory`.
+fn bytes_written(alloc: Global, codec: &BytesCodec) -> Result<Configuration, PluginCreateError>
+    ensures answer { Writes result (write_bytes codec.now) }
+{
+    match codec.configuration(alloc)? {
+        None => Ok(Configuration::new(alloc)),
+        Some(configuration) => Ok(configuration),
+    }
+}
+
+/// The configuration of `packbits`. Errors: `OutOfMemory`.
+fn packbits_written(
+    alloc: Global,
+    codec: &PackBitsCodec,
+) -> Result<Configuration, PluginCreateError>
+    ensures answer { Writes result (write_settings codec.now) }
+{
+    match codec.configuration(alloc)? {
+        None => Ok(Configuration::new(alloc)),
+        Some(configuration) => Ok(configuration),
+    }
+}
+
+/// The configuration of `vlen-utf8` and of `vlen-bytes`. Errors: `OutOfMemory`.
+fn vlen_v2_written(alloc: Global, codec: &VlenV2Codec) -> Result<Configuration, PluginCreateError>
+    ensures answer { Writes result write_vlen_v2 }
+{
+    match codec.configuration(alloc)? {
+        None => Ok(Configuration::new(alloc)),
+        Some(configuration) => Ok(configuration),
+    }
+}
+
+/// The configuration of an array-to-bytes codec. Errors: `OutOfMemory`.
+#[cycle(written)]
+#[tactic(auto, unfolding(crate::specs::ChainView::plain_codec))]
+pub(crate) fn codec_written<B: BytesToBytesCodecTraits>(
+    alloc: Global,
+    codec: &ArrayToBytesCodec<B>,
+) -> Result<Configuration, PluginCreateError>
+    ensures answer { Writes result (codec_configuration_of B.described (plain_codec codec.now)) }
+{
+    match codec {
+        ArrayToBytesCodec::Bytes(codec) => bytes_written(alloc, codec),
+        ArrayToBytesCodec::PackBits(codec) => packbits_written(alloc, codec),
+        ArrayToBytesCodec::VlenV2(codec) => vlen_v2_written(alloc, codec),
+        ArrayToBytesCodec::Vlen(codec) => vlen_written(alloc, codec),
+        ArrayToBytesCodec::Optional(codec) => optional_written(alloc, codec),
+        ArrayToBytesCodec::Sharding(codec) => sharding_written(alloc, codec),
+    }
+}
+
+/// The codec of a metadata. Errors, the first that holds, `OutOfMemory` aside: `UnknownName` where
+/// neither the table of names nor the maker knows its name; those of the codec's construction.
+#[cycle(make)]
+#[tactic(auto, unfolding(crate::specs::ChainView::plain_codec))]
+pub(crate) fn codec_from<B: Drop, M: BytesCodecMaker<B>>(
+    alloc: Global,
+    metadata: &MetadataV3,
+    maker: &M,
+) -> Result<MadeCodec<B>, PluginCreateError>
+    ensures answer { Makes made_seen result
+        (codec_by (M.makes maker.now) (metadata_seen metadata.now)) }
+{
+    match codec_named(metadata.name()) {
+        Some(KnownCodec::Transpose | KnownCodec::Reshape | KnownCodec::Squeeze) => {
+            Ok(MadeCodec::Array(ArrayToArrayCodec::create(alloc, metadata)?))
+        }
+        Some(KnownCodec::Bytes) => {
+            let codec = BytesCodec::create(metadata)?;
+            Ok(MadeCodec::ToBytes(ArrayToBytesCodec::Bytes(codec)))
+        }
+        Some(KnownCodec::PackBits) => {
+            let codec = PackBitsCodec::create(metadata)?;
+            Ok(MadeCodec::ToBytes(ArrayToBytesCodec::PackBits(codec)))
+        }
+        Some(KnownCodec::VlenV2) => {
+            let codec = VlenV2Codec::create(metadata)?;
+            Ok(MadeCodec::ToBytes(ArrayToBytesCodec::VlenV2(codec)))
+        }
+        Some(KnownCodec::Vlen) => {
+            let codec = vlen_create(alloc, metadata, maker)?;
+            Ok(MadeCodec::ToBytes(ArrayToBytesCodec::Vlen(codec)))
+        }
+        Some(KnownCodec::Optional) => {
+            let codec = optional_create(alloc, metadata, maker)?;
+            Ok(MadeCodec::ToBytes(ArrayToBytesCodec::Optional(codec)))
+        }
+        Some(KnownCodec::Sharding) => {
+            let codec = sharding_create(alloc, metadata, maker)?;
+            Ok(MadeCodec::ToBytes(ArrayToBytesCodec::Sharding(codec)))
+        }
+        None => asked(alloc, metadata, maker),
     }
 }

@@ -13,11 +13,10 @@ use Rattle.zarrs_codec.specs.BytesToBytesCodec.{BytesCodecs}
 use Rattle.zarrs_codec.specs.CoordinateMap.{CoordinateMap, IsCoordinateMap, moved_chunk, inverse_map}
 use Rattle.zarrs_codec.specs.MappedChunk.{decoded_chunk}
 use Rattle.zarrs_codec.specs.declared.bytes_representation.BytesRepresentation.{BytesRepresentation}
-use Rattle.zarrs_chain_meaning.specs.PlainChain.{PlainCodec, PlainChain}
 use Rattle.zarrs_chain_meaning.specs.ArrayStages.{arrays_map, IsMapWhere}
 use Rattle.zarrs_chain_meaning.specs.BytesStages.{outer_bytes}
 use Rattle.zarrs_chain_meaning.specs.Chain.{taken_form}
-use Rattle.zarrs_chain_meaning.specs.CodecMeaning.{codec_chunk, chain_chunk, codec_representation}
+use Rattle.zarrs_chain_meaning.specs.CodecMeaning.{PlainCodec, PlainChain, codec_representation, codec_chunk, chain_chunk}
 use Rattle.zarrs_bytes.proofs.Coding.{ok}
 use Rattle.zarrs_chain_meaning.proofs.ArraySteps.{at_ok}
 use Rattle.zarrs_chain_meaning.proofs.ChainSteps.{IsTaken, seen_ok, is_taken, two_ok, chunk_through, held_chunk}

@@ -11,9 +11,8 @@ use Rattle.zarrs_array_bytes.specs.Validity.{validity, Holds}
 use Rattle.zarrs_array_bytes.proofs.ElementLaw.{AreElements-held}
 use Rattle.zarrs_codec.specs.BytesToBytesCodec.{BytesCodecs}
 use Rattle.zarrs_bytes.specs.BytesCodec.{IsChunk}
-use Rattle.zarrs_chain_meaning.specs.PlainChain.{PlainChain}
 use Rattle.zarrs_chain_meaning.specs.Chain.{held_value}
-use Rattle.zarrs_chain_meaning.specs.CodecMeaning.{chain_chunk, chain_value, chain_representation, ChainStands, ChainWritten}
+use Rattle.zarrs_chain_meaning.specs.CodecMeaning.{PlainChain, chain_representation, chain_value, chain_chunk, ChainStands, ChainWritten}
 use Rattle.zarrs_chain_meaning.specs.Laws.{IsChainOfMappings}
 use Rattle.zarrs_bytes.proofs.Coding.{bind_ok}
 use Rattle.zarrs_array_bytes.proofs.UpdatedLemmas.{length-elements}

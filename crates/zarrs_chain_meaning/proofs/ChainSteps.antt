@@ -23,13 +23,12 @@ use Rattle.zarrs_bytes.specs.BytesCodec.{bytes_length}
 use Rattle.zarrs_packbits.specs.PackBitsSettings.{PackBitsSettings, packed_layout, packbits_length, has_bits}
 use Rattle.zarrs_packbits.specs.PaddingByte.{value_len}
 use Rattle.zarrs_array_to_array.proofs.CoordinateMaps.{length-moved}
-use Rattle.zarrs_chain_meaning.specs.PlainChain.{PlainChain}
 use Rattle.zarrs_chain_meaning.specs.ArrayStages.{arrays_map, IsMapWhere}
 use Rattle.zarrs_chain_meaning.specs.BytesStages.{outer_value, outer_bytes, outer_representation}
 use Rattle.zarrs_chain_meaning.specs.Chain.{taken_form, codec_held_value, held_value}
 use Rattle.zarrs_chain_meaning.specs.vlen.Vlen.{slices, vlen_value_parts, vlen_offsets, vlen_chunk}
 use Rattle.zarrs_chain_meaning.specs.Parts.{all_bytes, byte_type, for_each}
-use Rattle.zarrs_chain_meaning.specs.CodecMeaning.{codec_value, codec_chunk, chain_chunk, chain_value, codec_representation, chain_representation}
+use Rattle.zarrs_chain_meaning.specs.CodecMeaning.{PlainChain, codec_representation, chain_representation, codec_value, chain_value, codec_chunk, chain_chunk}
 use Rattle.zarrs_chain_meaning.specs.Meaning.{Decoder, around_chunk, Measure, in_a_row}
 use Rattle.zarrs_chain_meaning.specs.optional.Optional.{optional_parts, flag_in, under_flags, optional_chunk, flag_type, blank_fill}
 use Rattle.zarrs_chain_meaning.proofs.NestedParts.{length_under}

@@ -1,5 +1,6 @@
--- Every array-to-bytes codec keeps the laws, and every chain: the one induction, and each law by its name.
-use Rattle.std.proofs.Common.{◌≡◌, ◌↔◌, ℕ, ◌<◌, List, Ok, sym, subst, ◌∙◌, length}
+-- Every array-to-bytes codec keeps the laws and is made again of its metadata, and so every chain: by one induction each, and each law by its name.
+use Rattle.std.proofs.Common.{◌≡◌, ◌↔◌, ℕ, ◌<◌, Bool, List, [], Option, Ok, Err, ap, sym, subst, ◌∙◌, length}
+use Rattle.std.specs.Prelude.{Result, IfOk}
 use Rattle.std.specs.List.{All}
 use Rattle.zarrs_chunk.specs.ChunkShape.{product}
 use Rattle.zarrs_data_type.specs.ElementType.{ElementType}
@@ -10,10 +11,15 @@ use Rattle.zarrs_codec.specs.CoordinateMap.{CoordinateMap, origins, moved_chunk}
 use Rattle.zarrs_codec.specs.declared.bytes_representation.BytesRepresentation.{BytesRepresentation}
 use Rattle.zarrs_bytes.specs.BytesCodec.{IsChunk}
 use Rattle.zarrs_packbits.specs.Laws.{HasBytes}
-use Rattle.zarrs_chain_meaning.specs.PlainChain.{PlainCodec, bytes_codec, packbits_codec, vlen_v2_codec, vlen_codec, optional_codec, sharding_codec, PlainChain}
 use Rattle.zarrs_chain_meaning.specs.Meaning.{through}
-use Rattle.zarrs_chain_meaning.specs.CodecMeaning.{meaning, chain_meaning, HasMappings, codec_normal_element, normal_form, codec_representation, chain_representation, codec_value, chain_value, codec_chunk, chain_chunk, CodecStands, ChainStands, CodecWritten, ChainWritten}
+use Rattle.zarrs_chain_meaning.specs.CodecMeaning.{PlainCodec, bytes_codec, packbits_codec, vlen_v2_codec, vlen_codec, optional_codec, sharding_codec, PlainChain, meaning, chain_meaning, HasMappings, codec_normal_element, normal_form, codec_representation, chain_representation, codec_value, chain_value, codec_chunk, chain_chunk, CodecStands, ChainStands, CodecWritten, ChainWritten}
 use Rattle.zarrs_chain_meaning.specs.Laws.{IsChainOfMappings}
+use Rattle.zarrs_chain_meaning.specs.MadeAgain.{IsMadeAgain, HasRanges, HasOuter, HasBytesCodecs, ChainsAreMadeAgain}
+use Rattle.zarrs_chain_meaning.specs.MadeChain.{to_bytes_made, chain_made}
+use Rattle.zarrs_chain_meaning.specs.WrittenMetadata.{chain_metadatas}
+use Rattle.zarrs_metadata.specs.Metadata.{Metadata}
+use Rattle.zarrs_metadata.specs.declared.plugin_create_error.PluginCreateError.{PluginCreateError}
+use Rattle.zarrs_metadata.proofs.ReadBack.{bytes-reads_back}
 use Rattle.zarrs_chain_meaning.proofs.ArraySteps.{ok_is}
 use Rattle.zarrs_chain_meaning.proofs.NestedNormal.{KeepsTypes, kept_elements, all_twice, kept_selected, kept_updated}
 use Rattle.zarrs_chain_meaning.proofs.NestedStands.{StandsOnce}
@@ -25,12 +31,13 @@ use Rattle.zarrs_chain_meaning.proofs.NestedFound.{Founds, FoundsTaken}
 use Rattle.zarrs_chain_meaning.proofs.NestedDecode.{Decodes}
 use Rattle.zarrs_chain_meaning.proofs.NestedRead.{ReadsTaken}
 use Rattle.zarrs_chain_meaning.proofs.LawfulCodec.{IsLawfulCodec, IsLawfulChain, through_laws}
+use Rattle.zarrs_chain_meaning.proofs.MadeAgain.{clean-order, IsAgain, chain-again, packbits-again, vlen-again, optional-again, sharding-again}
 use Rattle.zarrs_chain_meaning.proofs.PlainLaws.{bytes_laws, packbits_laws}
-use Rattle.zarrs_chain_meaning.proofs.VlenV2Laws.{vlen_v2_laws}
+use Rattle.zarrs_chain_meaning.proofs.VlenV2Laws.{vlen_v2_laws, vlen_v2-again}
 use Rattle.zarrs_chain_meaning.proofs.VlenLaws.{vlen_laws}
 use Rattle.zarrs_chain_meaning.proofs.OptionalLaws.{optional_laws}
 use Rattle.zarrs_chain_meaning.proofs.ShardingLaws.{shard_laws}
-use Rattle.zarrs_chunk.specs.Answer.{checked_u64}
+use Rattle.zarrs_chunk.specs.Answer.{checked_u64, seen, Answers}
 use Rattle.zarrs_chain_meaning.proofs.NestedRoom.{HasFill, HasRoom}
 
 -- every array-to-bytes codec keeps the laws
@@ -46,6 +53,26 @@ codec_laws (sharding_codec sa sx sb ia ix ib shape at_end) = shard_laws shape at
 -- and every chain
 pub chain_laws : {B : Type 0} (chain : PlainChain B) → IsLawfulChain (chain_meaning chain)
 chain_laws chain = through_laws chain.array_to_array (meaning chain.array_to_bytes) chain.bytes_to_bytes (codec_laws chain.array_to_bytes)
+
+-- every array-to-bytes codec is made again of its metadata
+codec-again : {B : Type 0} (described : B → Metadata) (makes : Metadata → Result (Option B) PluginCreateError) (codec : PlainCodec B) → HasMappings codec → HasRanges codec → HasOuter (IsMadeAgain described makes) codec → IsAgain described makes codec
+unfolding meaning
+codec-again described makes (bytes_codec order) m r o =
+    record { clean = clean-order order; made = ap (λ r. seen (λ o. to_bytes_made (bytes_codec o)) r) (bytes-reads_back order) }
+codec-again described makes (packbits_codec settings) m r o = packbits-again described makes settings r
+codec-again described makes (vlen_v2_codec codec) m r o = vlen_v2-again described makes codec
+codec-again described makes (vlen_codec ia ix ib da dx db wide at_end) m r o =
+    vlen-again described makes ia ix ib da dx db wide at_end
+    (chain-again described makes ia ix ib m.0.0 (codec-again described makes ix m.0.1 r.0 o.0.0) o.0.1)
+    (chain-again described makes da dx db m.1.0 (codec-again described makes dx m.1.1 r.1 o.1.0) o.1.1)
+codec-again described makes (optional_codec ma mx mb da dx db) m r o =
+    optional-again described makes ma mx mb da dx db
+    (chain-again described makes ma mx mb m.0.0 (codec-again described makes mx m.0.1 r.0 o.0.0) o.0.1)
+    (chain-again described makes da dx db m.1.0 (codec-again described makes dx m.1.1 r.1 o.1.0) o.1.1)
+codec-again described makes (sharding_codec sa sx sb ia ix ib shape at_end) m r o =
+    sharding-again described makes sa sx sb ia ix ib shape at_end m.0
+    (chain-again described makes sa sx sb m.1.0 (codec-again described makes sx m.1.1 r.0 o.0.0) o.0.1)
+    (chain-again described makes ia ix ib m.2.0 (codec-again described makes ix m.2.1 r.1 o.1.0) o.1.1)
 
 -- ---- each law by its name
 
@@ -145,3 +172,25 @@ chunk_read f codec has = (codec_laws codec).reads f has
 pub chain_read_found : {B : Type 0} (f : BytesCodecs B) (chain : PlainChain B) → IsChainOfMappings chain → (sizes : List ℕ) (type : ElementType) (fill value : List ℕ) (chunk : Chunk)
     → All (λ size. 0 < size) sizes → chain_chunk f chain sizes type fill value ≡ Ok chunk → ChainStands f chain sizes type fill value chunk
 chain_read_found f chain is sizes type fill value chunk positive e = ((chain_laws chain).reads f (is.mappings, is.inner_mappings) sizes type fill value chunk positive e).0
+
+-- ---- what is written of a chain makes an equal one
+
+pub chains_made_again : {B : Type 0} → ChainsAreMadeAgain B
+chains_made_again described makes chain h =
+    let again = codec-again described makes chain.array_to_bytes h.array_to_bytes.0 h.array_to_bytes.1 h.array_to_bytes.2 in
+    (chain-again described makes chain.array_to_array chain.array_to_bytes chain.bytes_to_bytes h.array_to_array again h.bytes_to_bytes).made
+
+-- what is in the list, where there is one
+metadatas_in : {A : Type 0} (view : A → List Metadata) (result : Result A PluginCreateError) → List Metadata
+metadatas_in view (Ok list) = view list
+metadatas_in view (Err e) = []
+
+-- the list that a call answers as what is written of a chain makes the chain again
+pub list_makes_again : {A B : Type 0} (excuse : PluginCreateError → Bool) (view : A → List Metadata) (result : Result A PluginCreateError) (described : B → Metadata) (chain : PlainChain B)
+    → Answers excuse view result (Ok (chain_metadatas described chain)) → IsChainOfMappings chain → HasRanges chain.array_to_bytes
+    → IfOk result (λ list. (makes : Metadata → Result (Option B) PluginCreateError) → HasBytesCodecs (IsMadeAgain described makes) chain → chain_made makes (view list) ≡ Ok chain)
+unfolding metadatas_in
+list_makes_again excuse view (Ok list) described chain answer m r = λ makes o.
+    ap (λ x. chain_made makes (metadatas_in (λ l. l) x)) (sym answer)
+    ∙ chains_made_again described makes chain (record { array_to_array = m.mappings; array_to_bytes = (m.inner_mappings, r, o.inside); bytes_to_bytes = o.bytes_to_bytes })
+list_makes_again excuse view (Err e) described chain answer m r = tt

@@ -14,10 +14,9 @@ use Rattle.zarrs_codec.specs.BytesToBytesCodec.{BytesCodecs, IsLawful}
 use Rattle.zarrs_codec.specs.declared.bytes_representation.BytesRepresentation.{BytesRepresentation}
 use Rattle.zarrs_bytes.specs.BytesCodec.{IsChunk}
 use Rattle.zarrs_packbits.specs.Laws.{HasBytes}
-use Rattle.zarrs_chain_meaning.specs.CodecMeaning.{chain_chunk, codec_chunk, HasMappings, normal_form, codec_representation, ChainWritten, CodecWritten}
+use Rattle.zarrs_chain_meaning.specs.CodecMeaning.{PlainCodec, PlainChain, HasMappings, normal_form, codec_representation, codec_chunk, chain_chunk, CodecWritten, ChainWritten}
 use Rattle.zarrs_chain_meaning.specs.Laws.{IsChainOfMappings}
 use Rattle.zarrs_chain_meaning.specs.MachineBytes.{HeldHasBytes}
-use Rattle.zarrs_chain_meaning.specs.PlainChain.{PlainCodec, PlainChain}
 use Rattle.zarrs_chain_meaning.proofs.ChainSteps.{validity_fits}
 use Rattle.zarrs_chain_meaning.proofs.CodecLaws.{chunk_only, chain_chunk_only, codec_stands, chain_stands}
 

@@ -1,11 +1,11 @@
--- What is written of a chain makes an equal one.
+-- What is written of one codec makes an equal one, by those of its chains where it has chains inside.
 use Rattle.std.proofs.Common.{◌≡◌, ◌∙◌, ◌<◌, ℕ, List, [], ◌∷◌, ◌++◌, Ok, Err, Bool, true, false, Option, Some, None, map, refl, ap, sym, append_assoc, append-nil}
-use Rattle.std.specs.Prelude.{Result, not, All, IfOk}
+use Rattle.std.specs.Prelude.{Result, not, All}
 use Rattle.std.proofs.lemmas.Bool.{false≢true}
 use Rattle.std.proofs.lemmas.List.Elements.{All-head, All-tail}
 use Rattle.serde_json.specs.Data.{Members}
 use Rattle.serde_json.specs.Written.{members_have_float}
-use Rattle.zarrs_chunk.specs.Answer.{◌>>=◌, seen, Answers}
+use Rattle.zarrs_chunk.specs.Answer.{◌>>=◌, seen}
 use Rattle.zarrs_data_type.specs.declared.endianness.Endianness.{Endianness}
 use Rattle.zarrs_data_type.specs.declared.endianness.Endianness.TheVariants.{Little, Big}
 use Rattle.zarrs_metadata.specs.BytesConfiguration.{write_bytes}
@@ -18,7 +18,7 @@ use Rattle.zarrs_metadata.specs.TransposeConfiguration.{read_transpose, write_tr
 use Rattle.zarrs_metadata.specs.VlenConfiguration.{VlenParts, read_vlen, write_vlen}
 use Rattle.zarrs_metadata.specs.declared.plugin_create_error.PluginCreateError.{PluginCreateError}
 use Rattle.zarrs_metadata.specs.declared.plugin_create_error.PluginCreateError.TheVariants.{InvalidConfiguration}
-use Rattle.zarrs_metadata.proofs.ReadBack.{transpose-reads_back, reshape-reads_back, bytes-reads_back, optional-reads_back, vlen-reads_back, sharding-reads_back}
+use Rattle.zarrs_metadata.proofs.ReadBack.{transpose-reads_back, reshape-reads_back, optional-reads_back, vlen-reads_back, sharding-reads_back}
 use Rattle.zarrs_array_to_array.specs.ArrayToArrayCodec.{ArrayMapping, transpose, reshape, squeeze, IsMapping}
 use Rattle.zarrs_array_to_array.specs.MappingMetadata.{mapping_configuration}
 use Rattle.zarrs_array_to_array.proofs.MadeAgain.{mappings_made_again}
@@ -26,16 +26,12 @@ use Rattle.zarrs_array_to_array.proofs.Transposition.{shape_of-positive}
 use Rattle.zarrs_packbits.specs.PackBitsSettings.{PackBitsSettings, is_reversed}
 use Rattle.zarrs_packbits.specs.SettingsMetadata.{read_settings, write_settings}
 use Rattle.zarrs_packbits.proofs.MadeAgain.{made_again}
-use Rattle.zarrs_vlen_v2.specs.declared.vlen_v2_codec.VlenV2Codec.{VlenV2Codec}
-use Rattle.zarrs_vlen_v2.specs.declared.vlen_v2_codec.VlenV2Codec.TheVariants.{Utf8, Bytes}
 use Rattle.zarrs_chain_meaning.specs.sharding.ShardingSettings.{is_index_at_end, shard_index_place}
 use Rattle.zarrs_chain_meaning.specs.vlen.VlenSettings.{is_wide, is_at_end, offset_type_of, index_place}
-use Rattle.zarrs_chain_meaning.specs.Laws.{IsChainOfMappings}
-use Rattle.zarrs_chain_meaning.specs.CodecMeaning.{HasMappings, meaning}
-use Rattle.zarrs_chain_meaning.specs.MadeAgain.{IsMadeAgain, HasRanges, HasOuter, HasBytesCodecs, ChainsAreMadeAgain}
+use Rattle.zarrs_chain_meaning.specs.CodecMeaning.{PlainCodec, packbits_codec, vlen_codec, optional_codec, sharding_codec, PlainChain, vlen_codec_of, optional_codec_of, sharding_codec_of}
+use Rattle.zarrs_chain_meaning.specs.MadeAgain.{IsMadeAgain}
 use Rattle.zarrs_chain_meaning.specs.MadeChain.{array_made, to_bytes_made, outer_made, vlen_of_parts, optional_of_chains, sharding_of_parts, asked_maker, made_by_name, codec_made, joined, gathered, finished, chain_made}
-use Rattle.zarrs_chain_meaning.specs.PlainChain.{PlainCodec, bytes_codec, packbits_codec, vlen_v2_codec, vlen_codec, optional_codec, sharding_codec, PlainChain, vlen_codec_of, optional_codec_of, sharding_codec_of}
-use Rattle.zarrs_chain_meaning.specs.WrittenMetadata.{codec_configuration, to_bytes_metadata, chain_metadatas}
+use Rattle.zarrs_chain_meaning.specs.WrittenMetadata.{codec_configuration, to_bytes_metadata}
 use Rattle.zarrs_chain_meaning.specs.MetadataFacts.{mapping_metadata, listed}
 use Rattle.zarrs_chain_meaning.proofs.MadeAlike.{chain_made_at}
 
@@ -74,7 +70,7 @@ clean-mapping (transpose order) h = clean (members_have_float (write_transpose o
 clean-mapping (reshape dims) h = clean (members_have_float (write_reshape dims)) (read_reshape (write_reshape dims)) dims (float-reshape (write_reshape dims)) (reshape-reads_back dims h)
 clean-mapping squeeze h = refl
 
-clean-order : (order : Option Endianness) → has_no_float (Some (write_bytes order)) ≡ true
+pub clean-order : (order : Option Endianness) → has_no_float (Some (write_bytes order)) ≡ true
 clean-order None = refl
 clean-order (Some Little) = refl
 clean-order (Some Big) = refl
@@ -143,33 +139,29 @@ index_place-again false = refl
 index_place-again true = refl
 
 -- what is written of a codec has no float, and makes the codec again
-record IsAgain {B : Type 0} (described : B → Metadata) (makes : Metadata → Result (Option B) PluginCreateError) (codec : PlainCodec B) : Type 0 where
+pub record IsAgain {B : Type 0} (described : B → Metadata) (makes : Metadata → Result (Option B) PluginCreateError) (codec : PlainCodec B) : Type 0 where
   pub clean : has_no_float (Some (codec_configuration described codec)) ≡ true
   pub made : codec_made (chain_made makes) makes (to_bytes_metadata described codec) ≡ Ok (to_bytes_made codec)
 
 -- and so of a chain
-record IsChainAgain {B : Type 0} (described : B → Metadata) (makes : Metadata → Result (Option B) PluginCreateError) (arrays : List ArrayMapping) (codec : PlainCodec B) (outer : List B) : Type 0 where
+pub record IsChainAgain {B : Type 0} (described : B → Metadata) (makes : Metadata → Result (Option B) PluginCreateError) (arrays : List ArrayMapping) (codec : PlainCodec B) (outer : List B) : Type 0 where
   pub clean : have_no_float (listed described arrays (to_bytes_metadata described codec) outer) ≡ true
   pub made : chain_made makes (listed described arrays (to_bytes_metadata described codec) outer) ≡ Ok (record { array_to_array = arrays; array_to_bytes = codec; bytes_to_bytes = outer })
 
-chain-again : {B : Type 0} (described : B → Metadata) (makes : Metadata → Result (Option B) PluginCreateError) (arrays : List ArrayMapping) (codec : PlainCodec B) (outer : List B) → All IsMapping arrays → IsAgain described makes codec → All (IsMadeAgain described makes) outer
+pub chain-again : {B : Type 0} (described : B → Metadata) (makes : Metadata → Result (Option B) PluginCreateError) (arrays : List ArrayMapping) (codec : PlainCodec B) (outer : List B) → All IsMapping arrays → IsAgain described makes codec → All (IsMadeAgain described makes) outer
     → IsChainAgain described makes arrays codec outer
 chain-again described makes arrays codec outer h again l = record {
   clean = clean-list described makes arrays (to_bytes_metadata described codec) outer h again.clean l;
   made = list-again described makes arrays codec outer h again.made l;
 }
 
-packbits-again : {B : Type 0} (described : B → Metadata) (makes : Metadata → Result (Option B) PluginCreateError) (settings : PackBitsSettings) → is_reversed settings.first_bit settings.last_bit ≡ false → IsAgain described makes (packbits_codec settings)
+pub packbits-again : {B : Type 0} (described : B → Metadata) (makes : Metadata → Result (Option B) PluginCreateError) (settings : PackBitsSettings) → is_reversed settings.first_bit settings.last_bit ≡ false → IsAgain described makes (packbits_codec settings)
 packbits-again described makes settings range = record {
   clean = clean (members_have_float (write_settings settings)) (read_settings (write_settings settings)) settings (float-settings (write_settings settings)) (made_again settings range);
   made = ap (λ r. seen (λ s. to_bytes_made (packbits_codec s)) r) (made_again settings range);
 }
 
-vlen_v2-again : {B : Type 0} (described : B → Metadata) (makes : Metadata → Result (Option B) PluginCreateError) (codec : VlenV2Codec) → IsAgain described makes (vlen_v2_codec codec)
-vlen_v2-again described makes Utf8 = record { clean = refl; made = refl }
-vlen_v2-again described makes Bytes = record { clean = refl; made = refl }
-
-vlen-again : {B : Type 0} (described : B → Metadata) (makes : Metadata → Result (Option B) PluginCreateError) (ia : List ArrayMapping) (ix : PlainCodec B) (ib : List B) (da : List ArrayMapping) (dx : PlainCodec B) (db : List B) (wide at_end : Bool)
+pub vlen-again : {B : Type 0} (described : B → Metadata) (makes : Metadata → Result (Option B) PluginCreateError) (ia : List ArrayMapping) (ix : PlainCodec B) (ib : List B) (da : List ArrayMapping) (dx : PlainCodec B) (db : List B) (wide at_end : Bool)
     → IsChainAgain described makes ia ix ib → IsChainAgain described makes da dx db → IsAgain described makes (vlen_codec ia ix ib da dx db wide at_end)
 vlen-again described makes ia ix ib da dx db wide at_end index content =
     let parts : VlenParts = record { index_codecs = listed described ia (to_bytes_metadata described ix) ib; data_codecs = listed described da (to_bytes_metadata described dx) db; index_data_type = offset_type_of wide; index_location = Some (index_place at_end) } in
@@ -182,7 +174,7 @@ vlen-again described makes ia ix ib da dx db wide at_end index content =
           ∙ ap (λ e. Ok (to_bytes_made (vlen_codec ia ix ib da dx db wide e))) (at_end-again at_end);
     }
 
-optional-again : {B : Type 0} (described : B → Metadata) (makes : Metadata → Result (Option B) PluginCreateError) (ma : List ArrayMapping) (mx : PlainCodec B) (mb : List B) (da : List ArrayMapping) (dx : PlainCodec B) (db : List B)
+pub optional-again : {B : Type 0} (described : B → Metadata) (makes : Metadata → Result (Option B) PluginCreateError) (ma : List ArrayMapping) (mx : PlainCodec B) (mb : List B) (da : List ArrayMapping) (dx : PlainCodec B) (db : List B)
     → IsChainAgain described makes ma mx mb → IsChainAgain described makes da dx db → IsAgain described makes (optional_codec ma mx mb da dx db)
 optional-again described makes ma mx mb da dx db mask content =
     let chains : OptionalChains = record { mask_codecs = listed described ma (to_bytes_metadata described mx) mb; data_codecs = listed described da (to_bytes_metadata described dx) db } in
@@ -193,7 +185,7 @@ optional-again described makes ma mx mb da dx db mask content =
           ∙ ap (λ r. seen to_bytes_made (r >>= (λ c. Ok (optional_codec_of (record { array_to_array = ma; array_to_bytes = mx; bytes_to_bytes = mb }) c)))) content.made;
     }
 
-sharding-again : {B : Type 0} (described : B → Metadata) (makes : Metadata → Result (Option B) PluginCreateError) (sa : List ArrayMapping) (sx : PlainCodec B) (sb : List B) (ia : List ArrayMapping) (ix : PlainCodec B) (ib : List B) (shape : List ℕ) (at_end : Bool)
+pub sharding-again : {B : Type 0} (described : B → Metadata) (makes : Metadata → Result (Option B) PluginCreateError) (sa : List ArrayMapping) (sx : PlainCodec B) (sb : List B) (ia : List ArrayMapping) (ix : PlainCodec B) (ib : List B) (shape : List ℕ) (at_end : Bool)
     → All (λ size. 0 < size) shape → IsChainAgain described makes sa sx sb → IsChainAgain described makes ia ix ib → IsAgain described makes (sharding_codec sa sx sb ia ix ib shape at_end)
 sharding-again described makes sa sx sb ia ix ib shape at_end positive inner index =
     let parts : ShardingParts = record { chunk_shape = shape; codecs = listed described sa (to_bytes_metadata described sx) sb; index_codecs = listed described ia (to_bytes_metadata described ix) ib; index_location = shard_index_place at_end } in
@@ -204,44 +196,3 @@ sharding-again described makes sa sx sb ia ix ib shape at_end positive inner ind
           ∙ ap (λ r. seen to_bytes_made (r >>= (λ i. Ok (sharding_codec_of (record { array_to_array = sa; array_to_bytes = sx; bytes_to_bytes = sb }) i shape (is_index_at_end (shard_index_place at_end)))))) index.made
           ∙ ap (λ e. Ok (to_bytes_made (sharding_codec sa sx sb ia ix ib shape e))) (index_place-again at_end);
     }
-
-codec-again : {B : Type 0} (described : B → Metadata) (makes : Metadata → Result (Option B) PluginCreateError) (codec : PlainCodec B) → HasMappings codec → HasRanges codec → HasOuter (IsMadeAgain described makes) codec → IsAgain described makes codec
-unfolding meaning
-codec-again described makes (bytes_codec order) m r o =
-    record { clean = clean-order order; made = ap (λ r. seen (λ o. to_bytes_made (bytes_codec o)) r) (bytes-reads_back order) }
-codec-again described makes (packbits_codec settings) m r o = packbits-again described makes settings r
-codec-again described makes (vlen_v2_codec codec) m r o = vlen_v2-again described makes codec
-codec-again described makes (vlen_codec ia ix ib da dx db wide at_end) m r o =
-    vlen-again described makes ia ix ib da dx db wide at_end
-    (chain-again described makes ia ix ib m.0.0 (codec-again described makes ix m.0.1 r.0 o.0.0) o.0.1)
-    (chain-again described makes da dx db m.1.0 (codec-again described makes dx m.1.1 r.1 o.1.0) o.1.1)
-codec-again described makes (optional_codec ma mx mb da dx db) m r o =
-    optional-again described makes ma mx mb da dx db
-    (chain-again described makes ma mx mb m.0.0 (codec-again described makes mx m.0.1 r.0 o.0.0) o.0.1)
-    (chain-again described makes da dx db m.1.0 (codec-again described makes dx m.1.1 r.1 o.1.0) o.1.1)
-codec-again described makes (sharding_codec sa sx sb ia ix ib shape at_end) m r o =
-    sharding-again described makes sa sx sb ia ix ib shape at_end m.0
-    (chain-again described makes sa sx sb m.1.0 (codec-again described makes sx m.1.1 r.0 o.0.0) o.0.1)
-    (chain-again described makes ia ix ib m.2.0 (codec-again described makes ix m.2.1 r.1 o.1.0) o.1.1)
-
-pub chains_made_again : {B : Type 0} → ChainsAreMadeAgain B
-chains_made_again described makes chain h =
-    let again = codec-again described makes chain.array_to_bytes h.array_to_bytes.0 h.array_to_bytes.1 h.array_to_bytes.2 in
-    (chain-again described makes chain.array_to_array chain.array_to_bytes chain.bytes_to_bytes h.array_to_array again h.bytes_to_bytes).made
-
--- ---- the list that is written of a chain
-
--- what is in the list, where there is one
-metadatas_in : {A : Type 0} (view : A → List Metadata) (result : Result A PluginCreateError) → List Metadata
-metadatas_in view (Ok list) = view list
-metadatas_in view (Err e) = []
-
--- the list that a call answers as what is written of a chain makes the chain again
-pub list_makes_again : {A B : Type 0} (excuse : PluginCreateError → Bool) (view : A → List Metadata) (result : Result A PluginCreateError) (described : B → Metadata) (chain : PlainChain B)
-    → Answers excuse view result (Ok (chain_metadatas described chain)) → IsChainOfMappings chain → HasRanges chain.array_to_bytes
-    → IfOk result (λ list. (makes : Metadata → Result (Option B) PluginCreateError) → HasBytesCodecs (IsMadeAgain described makes) chain → chain_made makes (view list) ≡ Ok chain)
-unfolding metadatas_in
-list_makes_again excuse view (Ok list) described chain answer m r = λ makes o.
-    ap (λ x. chain_made makes (metadatas_in (λ l. l) x)) (sym answer)
-    ∙ chains_made_again described makes chain (record { array_to_array = m.mappings; array_to_bytes = (m.inner_mappings, r, o.inside); bytes_to_bytes = o.bytes_to_bytes })
-list_makes_again excuse view (Err e) described chain answer m r = tt

@@ -12,9 +12,9 @@ use Rattle.zarrs_metadata.specs.VlenConfiguration.{VlenParts, read_vlen}
 use Rattle.zarrs_metadata.specs.declared.plugin_create_error.PluginCreateError.{PluginCreateError}
 use Rattle.zarrs_chain_meaning.specs.sharding.ShardingSettings.{is_index_at_end}
 use Rattle.zarrs_chain_meaning.specs.vlen.VlenSettings.{is_wide, is_at_end}
-use Rattle.zarrs_chain_meaning.specs.CodecNames.{codec_named, is_vlen_name, is_optional_name, is_sharding_name}
-use Rattle.zarrs_chain_meaning.specs.MadeChain.{to_bytes_made, Gathered, location_or_start, vlen_of_parts, optional_of_chains, sharding_of_parts, made_by_name, codec_made, joined, gathered, finished, nothing_gathered, depth_of, depth_all, chain_in, chain_made, chain_made_by}
-use Rattle.zarrs_chain_meaning.specs.PlainChain.{PlainChain, vlen_codec_of, optional_codec_of, sharding_codec_of}
+use Rattle.zarrs_chain_meaning.specs.CodecNames.{is_vlen_name, is_optional_name, is_sharding_name}
+use Rattle.zarrs_chain_meaning.specs.MadeChain.{to_bytes_made, Gathered, location_or_start, vlen_of_parts, optional_of_chains, sharding_of_parts, codec_named, made_by_name, codec_made, joined, gathered, finished, nothing_gathered, chain_made_by, depth_of, depth_all, chain_in, chain_made}
+use Rattle.zarrs_chain_meaning.specs.CodecMeaning.{PlainChain, vlen_codec_of, optional_codec_of, sharding_codec_of}
 use Rattle.zarrs_chain_meaning.proofs.MetadataDepth.{VlenWithin, vlen_within, OptionalWithin, optional_within, ShardingWithin, sharding_within}
 
 -- steps that go on alike

@@ -22,13 +22,12 @@ use Rattle.zarrs_codec.specs.CoordinateMap.{moved_chunk, inverse_map}
 use Rattle.zarrs_codec.specs.declared.bytes_representation.BytesRepresentation.{BytesRepresentation}
 use Rattle.zarrs_array_to_array.proofs.CoordinateMaps.{length-moved}
 use Rattle.zarrs_bytes.proofs.Coding.{demand_ok, checked_ok, ok, bind_ok}
-use Rattle.zarrs_chain_meaning.specs.PlainChain.{PlainChain, optional_codec_of}
 use Rattle.zarrs_chain_meaning.specs.ArrayStages.{arrays_map}
 use Rattle.zarrs_chain_meaning.specs.BytesStages.{in_memory, outer_bytes}
 use Rattle.zarrs_chain_meaning.specs.Chain.{held_value, held_part}
 use Rattle.zarrs_chain_meaning.specs.Meaning.{Decoder, Encoder, in_a_row}
 use Rattle.zarrs_chain_meaning.specs.optional.Optional.{optional_parts, under_flags, flag_of, present_of, optional_layout, optional_value, flag_type, blank_fill, bounded_total}
-use Rattle.zarrs_chain_meaning.specs.CodecMeaning.{chain_chunk, codec_chunk, chain_value, codec_value, chain_representation, codec_representation, meaning}
+use Rattle.zarrs_chain_meaning.specs.CodecMeaning.{PlainChain, optional_codec_of, meaning, codec_representation, chain_representation, codec_value, chain_value, codec_chunk, chain_chunk}
 use Rattle.zarrs_chain_meaning.specs.Parts.{byte_elements}
 use Rattle.zarrs_chain_meaning.specs.optional.OptionalParts.{optional_inner, elements_under, present_part}
 use Rattle.zarrs_array_to_array.proofs.MappedChunks.{holds_elements}

@@ -2,7 +2,7 @@
 use Rattle.std.proofs.Common.{◌≡◌, Bool, Option, Some, None, List, [], ◌∷◌, refl, ap}
 use Rattle.zarrs_data_type.specs.declared.endianness.Endianness.{Endianness}
 use Rattle.zarrs_array_to_array.specs.ArrayToArrayCodec.{ArrayMapping}
-use Rattle.zarrs_chain_meaning.specs.PlainChain.{PlainCodec, bytes_codec, vlen_codec}
+use Rattle.zarrs_chain_meaning.specs.CodecMeaning.{PlainCodec, bytes_codec, vlen_codec}
 use Rattle.zarrs_chain_meaning.specs.CodecFacts.{facts, if_alone}
 use Rattle.zarrs_chain_meaning.specs.vlen.PlainVlen.{plain_codec_of, plain_form_of}
 use Rattle.zarrs_chain_meaning.specs.vlen.PlainForm.{PlainForm, form_of_chains}

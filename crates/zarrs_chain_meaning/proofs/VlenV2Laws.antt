@@ -1,6 +1,7 @@
--- `vlen-utf8` and `vlen-bytes` keep the laws of array-to-bytes codecs.
+-- `vlen-utf8` and `vlen-bytes` keep the laws of array-to-bytes codecs, and are made again of their metadata.
 use Rattle.std.proofs.Common.{◌≡◌, ◌+◌, ◌<◌, ◌^◌, true, ℕ, List, [], ◌∷◌, length, Ok, refl, sym, subst, ◌∙◌}
 use Rattle.std.specs.List.{All, flat_map}
+use Rattle.std.specs.Prelude.{Option, Result}
 use Rattle.std.proofs.lemmas.List.{map-id}
 use Rattle.std.proofs.lemmas.List.Elements.{All-nil, All-head, All-tail, All-append}
 use Rattle.zarrs_chunk.specs.ChunkShape.{product}
@@ -16,9 +17,14 @@ use Rattle.zarrs_bytes.specs.ByteOrder.{bytes_of}
 use Rattle.zarrs_packbits.specs.Laws.{HasBytes}
 use Rattle.zarrs_vlen_v2.specs.VlenV2Codec.{u32_bytes, prefixed_element, VlenV2Stands, VlenV2Written}
 use Rattle.zarrs_vlen_v2.specs.declared.vlen_v2_codec.VlenV2Codec.{VlenV2Codec}
+use Rattle.zarrs_vlen_v2.specs.declared.vlen_v2_codec.VlenV2Codec.TheVariants.{Utf8, Bytes}
 use Rattle.zarrs_vlen_v2.proofs.CodecLaws.{accepted, stands_for_one, written_stands, decoded, decoded_only, encoded_only, encoded_found}
+use Rattle.zarrs_metadata.specs.Metadata.{Metadata}
+use Rattle.zarrs_metadata.specs.declared.plugin_create_error.PluginCreateError.{PluginCreateError}
+use Rattle.zarrs_chain_meaning.specs.CodecMeaning.{vlen_v2_codec}
 use Rattle.zarrs_chain_meaning.specs.vlen_v2.VlenV2.{vlen_v2_meaning}
 use Rattle.zarrs_chain_meaning.proofs.LawfulCodec.{IsLawfulCodec}
+use Rattle.zarrs_chain_meaning.proofs.MadeAgain.{IsAgain}
 use Rattle.zarrs_chain_meaning.proofs.NestedGrowth.{unbounded_most}
 use Rattle.zarrs_chain_meaning.proofs.NestedKept as keeping
 use Rattle.zarrs_chain_meaning.proofs.NestedRoom.{row_room, variable_fits}
@@ -79,3 +85,8 @@ vlen_v2_laws codec = record {
   room = λ f has sizes type fill r positive small e. room_of sizes type (accepted codec (form_of sizes type fill) r e).variable small;
   fits = λ f sizes type fill r e. variable_fits type fill (accepted codec (form_of sizes type fill) r e).variable;
 }
+
+-- what is written of them makes them again
+pub vlen_v2-again : {B : Type 0} (described : B → Metadata) (makes : Metadata → Result (Option B) PluginCreateError) (codec : VlenV2Codec) → IsAgain described makes (vlen_v2_codec codec)
+vlen_v2-again described makes Utf8 = record { clean = refl; made = refl }
+vlen_v2-again described makes Bytes = record { clean = refl; made = refl }

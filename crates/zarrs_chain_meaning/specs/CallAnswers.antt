@@ -11,8 +11,7 @@ use Rattle.zarrs_array_bytes.specs.Validity.{Holds}
 use Rattle.zarrs_codec.specs.BytesToBytesCodec.{BytesCodecs}
 use Rattle.zarrs_codec.specs.declared.bytes_representation.BytesRepresentation.{BytesRepresentation}
 use Rattle.zarrs_chain_meaning.specs.Chain.{codec_held_value, taken_chunk, held_part}
-use Rattle.zarrs_chain_meaning.specs.CodecMeaning.{codec_chunk, chain_representation, codec_representation}
-use Rattle.zarrs_chain_meaning.specs.PlainChain.{PlainCodec, PlainChain}
+use Rattle.zarrs_chain_meaning.specs.CodecMeaning.{PlainCodec, PlainChain, codec_representation, chain_representation, codec_chunk}
 use Rattle.zarrs_data_type.specs.ElementType.{ElementType}
 
 -- an array-to-bytes codec takes such chunks: it says how many bytes their value has

@@ -14,10 +14,9 @@ use Rattle.zarrs_codec.specs.declared.bytes_representation.BytesRepresentation.{
 use Rattle.zarrs_codec.specs.declared.capabilities.PartialDecoderCapability.{PartialDecoderCapability}
 use Rattle.zarrs_codec.specs.declared.capabilities.PartialEncoderCapability.{PartialEncoderCapability}
 use Rattle.zarrs_chain_meaning.specs.CodecFacts.{facts}
-use Rattle.zarrs_chain_meaning.specs.PlainChain.{PlainCodec, PlainChain}
 use Rattle.zarrs_chain_meaning.specs.ArrayStages.{arrays_map}
 use Rattle.zarrs_chain_meaning.specs.Meaning.{Decoder}
-use Rattle.zarrs_chain_meaning.specs.CodecMeaning.{meaning, chain_meaning, codec_chunk, codec_value, codec_representation}
+use Rattle.zarrs_chain_meaning.specs.CodecMeaning.{PlainCodec, PlainChain, meaning, chain_meaning, codec_representation, codec_value, codec_chunk}
 
 -- the sizes of the chunk that a chain's array-to-bytes codec gets, and how many bytes it makes of it; or the first error
 abbrev pub taken_form : {B : Type 0} → BytesCodecs B → PlainChain B → List ℕ → ElementType → List ℕ → Result (List ℕ × BytesRepresentation) CodecError

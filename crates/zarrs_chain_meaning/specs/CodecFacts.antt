@@ -4,7 +4,7 @@ use Rattle.zarrs_data_type.specs.Form.{Form}
 use Rattle.zarrs_data_type.specs.declared.endianness.Endianness.{Endianness}
 use Rattle.zarrs_array_to_array.specs.ArrayToArrayCodec.{ArrayMapping}
 use Rattle.zarrs_packbits.specs.PackBitsSettings.{packed_layout}
-use Rattle.zarrs_chain_meaning.specs.PlainChain.{PlainCodec, bytes_codec, packbits_codec, vlen_codec, sharding_codec}
+use Rattle.zarrs_chain_meaning.specs.CodecMeaning.{PlainCodec, bytes_codec, packbits_codec, vlen_codec, sharding_codec}
 use Rattle.zarrs_chain_meaning.specs.vlen.PlainForm.{PlainForm, form_of_chains}
 
 -- Whether a codec is read in part; of `bytes` its byte order, of a plain `vlen` its form. Of `packbits`: it takes chunks of a form.

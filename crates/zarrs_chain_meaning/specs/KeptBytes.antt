@@ -10,7 +10,7 @@ use Rattle.zarrs_array_to_array.specs.Mapping.{mapping_of}
 use Rattle.zarrs_array_to_array.specs.declared.array_to_array_codec.ArrayToArrayCodec.{ArrayToArrayCodec}
 use Rattle.zarrs_bytes.specs.BytesCodec.{turn_size}
 use Rattle.zarrs_chain_meaning.specs.CodecFacts.{facts}
-use Rattle.zarrs_chain_meaning.specs.PlainChain.{PlainCodec, PlainChain}
+use Rattle.zarrs_chain_meaning.specs.CodecMeaning.{PlainCodec, PlainChain}
 
 -- what is answered is the given container, owned or lent as it was, where these codecs hand it on
 abbrev pub HandsOn : List ArrayToArrayCodec → Held → Result Held CodecError → Type 0

@@ -9,8 +9,7 @@ use Rattle.zarrs_codec.specs.declared.bytes_representation.BytesRepresentation.{
 use Rattle.zarrs_array_to_array.specs.ArrayToArrayCodec.{IsMapping}
 use Rattle.zarrs_bytes.specs.BytesCodec.{IsChunk}
 use Rattle.zarrs_packbits.specs.Laws.{HasBytes}
-use Rattle.zarrs_chain_meaning.specs.PlainChain.{PlainCodec, PlainChain}
-use Rattle.zarrs_chain_meaning.specs.CodecMeaning.{meaning, normal_form, chain_representation, chain_meaning}
+use Rattle.zarrs_chain_meaning.specs.CodecMeaning.{PlainCodec, PlainChain, meaning, chain_meaning, normal_form, chain_representation}
 
 -- a chain whose array-to-array codecs, and those of all chains inside, are what their types hold to
 pub record IsChainOfMappings {B : Type 0} (chain : PlainChain B) : Type 0 where

@@ -3,7 +3,6 @@ pub mod optional
 pub mod vlen
 pub mod vlen_v2
 pub mod sharding
-pub mod PlainChain
 pub mod CodecNames
 pub mod CodecFacts
 pub mod MetadataFacts

@@ -3,11 +3,8 @@ use Rattle.std.specs.Prelude.{◌≡◌, true, List, Option, Some, None, Result,
 use Rattle.zarrs_metadata.specs.Metadata.{Metadata, has_no_float}
 use Rattle.zarrs_metadata.specs.declared.plugin_create_error.PluginCreateError.{PluginCreateError}
 use Rattle.zarrs_array_to_array.specs.ArrayToArrayCodec.{IsMapping}
-use Rattle.zarrs_chain_meaning.specs.MetadataFacts.{metadata_facts}
-use Rattle.zarrs_chain_meaning.specs.CodecMeaning.{HasMappings}
-use Rattle.zarrs_chain_meaning.specs.CodecNames.{codec_named}
-use Rattle.zarrs_chain_meaning.specs.MadeChain.{chain_made}
-use Rattle.zarrs_chain_meaning.specs.PlainChain.{PlainCodec, PlainChain}
+use Rattle.zarrs_chain_meaning.specs.CodecMeaning.{PlainCodec, PlainChain, metadata_facts, HasMappings}
+use Rattle.zarrs_chain_meaning.specs.MadeChain.{codec_named, chain_made}
 use Rattle.zarrs_chain_meaning.specs.WrittenMetadata.{chain_metadatas}
 
 -- A bytes-to-bytes codec whose metadata has no name of the table and no float, and which the maker makes of it again.

@@ -1,10 +1,10 @@
 -- What is made of metadata: codecs, and chains of them.
 -- Source: the Zarr v3 core specification, `codecs`; codec.zarrs.dev.
-use Rattle.std.specs.Prelude.{ℕ, ◌<◌, zero, suc, max, Bool, true, false, not, List, [], ◌∷◌, ◌++◌, Option, Some, None, is_some, ok_or, Result, Ok, Err}
+use Rattle.std.specs.Prelude.{ℕ, ◌<◌, zero, suc, max, Bool, true, false, not, List, [], ◌∷◌, ◌++◌, Option, Some, None, is_some, ok_or, Result, Ok, Err, if◌then◌else◌}
 use Rattle.zarrs_chunk.specs.Answer.{◌>>=◌, demand, seen}
 use Rattle.zarrs_chain_meaning.specs.declared.codec_name.KnownCodec.{KnownCodec}
 use Rattle.zarrs_chain_meaning.specs.declared.codec_name.KnownCodec.TheVariants.{Transpose, Reshape, Squeeze, Bytes, PackBits, VlenV2, Vlen, Optional, Sharding}
-use Rattle.zarrs_metadata.specs.CodecMetadata.{made_of, members_of, bytes_made}
+use Rattle.zarrs_metadata.specs.CodecMetadata.{made_of, members_of, is_transpose_name, is_reshape_name, is_squeeze_name, is_bytes_name, is_packbits_name, bytes_made}
 use Rattle.zarrs_metadata.specs.Data.{members_depth}
 use Rattle.zarrs_metadata.specs.Metadata.{Metadata}
 use Rattle.zarrs_metadata.specs.MetadataV3.{metadata_seen}
@@ -19,11 +19,11 @@ use Rattle.zarrs_metadata.specs.declared.plugin_create_error.PluginCreateError.T
 use Rattle.zarrs_array_to_array.specs.ArrayToArrayCodec.{ArrayMapping}
 use Rattle.zarrs_array_to_array.specs.MappingMetadata.{mapping_made}
 use Rattle.zarrs_packbits.specs.SettingsMetadata.{settings_made}
-use Rattle.zarrs_vlen_v2.specs.VlenV2Metadata.{vlen_v2_made}
+use Rattle.zarrs_vlen_v2.specs.VlenV2Metadata.{is_vlen_v2_name, vlen_v2_made}
 use Rattle.zarrs_chain_meaning.specs.sharding.ShardingSettings.{is_index_at_end}
 use Rattle.zarrs_chain_meaning.specs.vlen.VlenSettings.{is_wide, is_at_end}
-use Rattle.zarrs_chain_meaning.specs.CodecNames.{is_vlen_name, is_optional_name, is_sharding_name, codec_named}
-use Rattle.zarrs_chain_meaning.specs.PlainChain.{PlainCodec, bytes_codec, packbits_codec, vlen_v2_codec, PlainChain, vlen_codec_of, optional_codec_of, sharding_codec_of}
+use Rattle.zarrs_chain_meaning.specs.CodecNames.{is_vlen_name, is_optional_name, is_sharding_name}
+use Rattle.zarrs_chain_meaning.specs.CodecMeaning.{PlainCodec, bytes_codec, packbits_codec, vlen_v2_codec, PlainChain, vlen_codec_of, optional_codec_of, sharding_codec_of}
 
 -- A codec that a metadata makes: one of chunks to chunks, one of chunks to bytes, one of bytes to bytes.
 pub data CodecMade (B : Type 0) : Type 0 where
@@ -96,6 +96,20 @@ sharding_made_by inside metadata = do
   sharding_of_parts inside parts
 
 -- ---- one codec
+
+-- the codec that is known by a name
+abbrev pub codec_named : List ℕ → Option KnownCodec
+codec_named name =
+    if is_transpose_name name then Some Transpose
+    else if is_reshape_name name then Some Reshape
+    else if is_squeeze_name name then Some Squeeze
+    else if is_bytes_name name then Some Bytes
+    else if is_packbits_name name then Some PackBits
+    else if is_vlen_v2_name name then Some VlenV2
+    else if is_vlen_name name then Some Vlen
+    else if is_optional_name name then Some Optional
+    else if is_sharding_name name then Some Sharding
+    else None
 
 -- the maker's codec; where it makes none, no codec has the name
 abbrev pub asked_maker : {B : Type 0} → Result (Option B) PluginCreateError → Result (CodecMade B) PluginCreateError

@@ -1,4 +1,4 @@
--- How an array-to-bytes codec is written as metadata, and when it is made again of that, as one record and by one recursion.
+-- How an array-to-bytes codec is written as metadata, and when it is made again of that, as one record.
 use Rattle.std.specs.Prelude.{◌≡◌, ℕ, Bool, false, List, ◌∷◌, ◌++◌, map, Option, Some, All}
 use Rattle.zarrs_metadata.specs.BytesConfiguration.{write_bytes}
 use Rattle.zarrs_metadata.specs.CodecMetadata.{codec_metadata, bytes_name, packbits_name}
@@ -12,10 +12,7 @@ use Rattle.zarrs_array_to_array.specs.ArrayToArrayCodec.{ArrayMapping}
 use Rattle.zarrs_array_to_array.specs.MappingMetadata.{mapping_name, mapping_configuration}
 use Rattle.zarrs_packbits.specs.PackBitsSettings.{PackBitsSettings, is_reversed}
 use Rattle.zarrs_packbits.specs.SettingsMetadata.{write_settings}
-use Rattle.zarrs_vlen_v2.specs.VlenV2Metadata.{vlen_v2_name, write_vlen_v2}
-use Rattle.zarrs_vlen_v2.specs.declared.vlen_v2_codec.VlenV2Codec.{VlenV2Codec}
 use Rattle.zarrs_chain_meaning.specs.CodecNames.{vlen_name, optional_name, sharding_name}
-use Rattle.zarrs_chain_meaning.specs.PlainChain.{PlainCodec, bytes_codec, packbits_codec, vlen_v2_codec, vlen_codec, optional_codec, sharding_codec}
 use Rattle.zarrs_chain_meaning.specs.sharding.ShardingSettings.{shard_index_place}
 use Rattle.zarrs_chain_meaning.specs.vlen.VlenSettings.{offset_type_of, index_place}
 
@@ -70,15 +67,6 @@ packbits_metadata_facts settings = record {
   Outer = λ P. Unit {0};
 }
 
--- those of `vlen-utf8` or `vlen-bytes`
-abbrev pub vlen_v2_metadata_facts : {B : Type 0} → VlenV2Codec → MetadataFacts B
-vlen_v2_metadata_facts codec = record {
-  name = vlen_v2_name codec;
-  configuration = λ described. write_vlen_v2;
-  Ranges = Unit {0};
-  Outer = λ P. Unit {0};
-}
-
 -- those of `vlen`: its configuration has the place of the index
 abbrev pub vlen_metadata_facts : {B : Type 0} → Bool → Bool → ChainFacts B → ChainFacts B → MetadataFacts B
 vlen_metadata_facts wide at_end index content = record {
@@ -118,12 +106,3 @@ sharding_metadata_facts shape at_end inner index = record {
   Ranges = inner.Ranges × index.Ranges;
   Outer = λ P. inner.Outer P × index.Outer P;
 }
-
--- those of an array-to-bytes codec: the one definition that goes by all of them
-abbrev pub metadata_facts : {B : Type 0} → PlainCodec B → MetadataFacts B
-metadata_facts (bytes_codec order) = bytes_metadata_facts order
-metadata_facts (packbits_codec settings) = packbits_metadata_facts settings
-metadata_facts (vlen_v2_codec codec) = vlen_v2_metadata_facts codec
-metadata_facts (vlen_codec ia ix ib da dx db wide at_end) = vlen_metadata_facts wide at_end (facts_through ia (metadata_facts ix) ib) (facts_through da (metadata_facts dx) db)
-metadata_facts (optional_codec ma mx mb da dx db) = optional_metadata_facts (facts_through ma (metadata_facts mx) mb) (facts_through da (metadata_facts dx) db)
-metadata_facts (sharding_codec sa sx sb ia ix ib shape at_end) = sharding_metadata_facts shape at_end (facts_through sa (metadata_facts sx) sb) (facts_through ia (metadata_facts ix) ib)

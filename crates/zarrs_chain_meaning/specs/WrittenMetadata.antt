@@ -8,8 +8,8 @@ use Rattle.zarrs_metadata.specs.ShardingConfiguration.{write_sharding}
 use Rattle.zarrs_metadata.specs.declared.codec.sharding.ShardingIndexLocation.{ShardingIndexLocation}
 use Rattle.zarrs_metadata.specs.MetadataV3.{metadata_seen}
 use Rattle.zarrs_metadata.specs.declared.metadata_v3.MetadataV3.{MetadataV3}
-use Rattle.zarrs_chain_meaning.specs.MetadataFacts.{metadata_facts, listed}
-use Rattle.zarrs_chain_meaning.specs.PlainChain.{PlainCodec, PlainChain}
+use Rattle.zarrs_chain_meaning.specs.MetadataFacts.{listed}
+use Rattle.zarrs_chain_meaning.specs.CodecMeaning.{PlainCodec, PlainChain, metadata_facts}
 
 -- the name that is written of an array-to-bytes codec
 abbrev pub codec_name : {B : Type 0} → PlainCodec B → List ℕ

@@ -1,7 +1,8 @@
 //! The names of the codecs: in metadata, and those of `vlen` and `optional` in errors.
 ghost use Rattle.std.specs.Prelude.{◌≡◌};
 ghost use Rattle.zarrs_metadata.specs.CodecMetadata.{is_bytes_name, is_squeeze_name};
-ghost use Rattle.zarrs_chain_meaning.specs.CodecNames.{is_vlen_name, is_optional_name, is_sharding_name, codec_named as codec_named_of};
+ghost use Rattle.zarrs_chain_meaning.specs.CodecNames.{is_vlen_name, is_optional_name, is_sharding_name};
+ghost use Rattle.zarrs_chain_meaning.specs.MadeChain.{codec_named as codec_named_of};
 
 use zarrs_chunk::CodecName;
 use zarrs_vlen_v2::VlenV2Codec;

@@ -13,7 +13,7 @@ use Rattle.zarrs_chain_meaning.specs.Chain.{codec_reads, reads_all_if}
 use Rattle.zarrs_codec_chain.specs.ChunkRead.{asks_in_part}
 use Rattle.zarrs_codec_chain.specs.CacheTight.{CacheIsTight}
 use Rattle.zarrs_codec_chain.specs.ChunkSource.{IsSizeOf, undecoded_codecs, bytes_stage, cache_fits, cache_stage, held_by, is_cache, source_of, stage_at, stage_by, stage_fits}
-use Rattle.zarrs_chain_meaning.specs.PlainChain.{PlainCodec, PlainChain}
+use Rattle.zarrs_chain_meaning.specs.CodecMeaning.{PlainCodec, PlainChain}
 use Rattle.zarrs_codec_chain.specs.declared.partial_decoder.cache.Cache.{Cache}
 use Rattle.zarrs_codec_chain.specs.declared.partial_decoder.cache.Cache.TheVariants as kept
 use Rattle.zarrs_codec_chain.specs.declared.partial_decoder.cache.CacheStage.{CacheStage}

@@ -15,7 +15,7 @@ use Rattle.zarrs_codec_chain.specs.ChunkCalls.{ReplacesPlaces}
 use Rattle.zarrs_codec_chain.specs.ChunkRead.{asks_in_part, form_in_place, planned_order, planned_region}
 use Rattle.zarrs_chain_meaning.specs.ChunkForm.{ChunkForm}
 use Rattle.zarrs_codec_chain.specs.CodecPart.{order_in_place, Part}
-use Rattle.zarrs_chain_meaning.specs.PlainChain.{PlainCodec}
+use Rattle.zarrs_chain_meaning.specs.CodecMeaning.{PlainCodec}
 use Rattle.zarrs_codec.specs.Calls.{Calls, MakesWrite, after_reads, after_replacing, after_write}
 use Rattle.zarrs_codec.specs.StorageState.{StorageState, value_indices}
 use Rattle.zarrs_codec_chain.proofs.LawfulPart.{part_laws}

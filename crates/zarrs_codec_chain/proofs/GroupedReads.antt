@@ -12,9 +12,8 @@ use Rattle.zarrs_chain_meaning.proofs.ArraySteps.{ok_is}
 use Rattle.zarrs_chain_meaning.proofs.ChainSteps.{around_long}
 use Rattle.zarrs_chain_meaning.proofs.ShardNormal.{product_two}
 use Rattle.zarrs_chain_meaning.proofs.ShardReads.{spans_long}
-use Rattle.zarrs_chain_meaning.specs.CodecMeaning.{meaning}
+use Rattle.zarrs_chain_meaning.specs.CodecMeaning.{PlainCodec, meaning}
 use Rattle.zarrs_chain_meaning.specs.Meaning.{Measure, Decoder, through}
-use Rattle.zarrs_chain_meaning.specs.PlainChain.{PlainCodec}
 use Rattle.zarrs_chain_meaning.specs.sharding.InnerChunks.{grid, inner_chunk_count, inner_chunk_of, place_inside, IsCut}
 use Rattle.zarrs_chain_meaning.specs.sharding.Sharding.{index_shape, index_size, Span, is_stored, spans_of, index_part_of, spanned_bytes}
 use Rattle.zarrs_chain_meaning.specs.vlen.Vlen.{offset_type, offset_bytes, offsets_in_chunk}

@@ -10,7 +10,7 @@ use Rattle.zarrs_chain_meaning.proofs.CodecLaws.{chain_chunk_only}
 use Rattle.zarrs_chain_meaning.specs.Chain.{taken_form}
 use Rattle.zarrs_chain_meaning.specs.ChunkForm.{ChunkForm}
 use Rattle.zarrs_chain_meaning.specs.Laws.{IsChainOfMappings}
-use Rattle.zarrs_chain_meaning.specs.PlainChain.{PlainChain, PlainCodec}
+use Rattle.zarrs_chain_meaning.specs.CodecMeaning.{PlainChain, PlainCodec}
 use Rattle.zarrs_chain_meaning.specs.sharding.Sharding.{Span}
 use Rattle.zarrs_chunk.specs.Answer.{◌>>=◌, Answers, AnswersBy, is_fault, memory, memory_or_fault}
 use Rattle.zarrs_chunk.specs.ChunkShape.{product}

@@ -28,9 +28,8 @@ use Rattle.zarrs_packbits.specs.PartialRead.{packed_places_bytes, read_packed_pl
 use Rattle.zarrs_packbits.specs.ReadPlan.{IsPackBitsPlan, SameNumbers}
 use Rattle.zarrs_chain_meaning.proofs.ArraySteps.{ok_is}
 use Rattle.zarrs_chain_meaning.specs.CodecFacts.{facts, Facts, whole_facts}
-use Rattle.zarrs_chain_meaning.specs.CodecMeaning.{codec_chunk, codec_representation, HasMappings, meaning, bytes_meaning, packbits_meaning}
+use Rattle.zarrs_chain_meaning.specs.CodecMeaning.{PlainCodec, bytes_codec, packbits_codec, vlen_codec, sharding_codec, bytes_meaning, packbits_meaning, meaning, HasMappings, codec_representation, codec_chunk}
 use Rattle.zarrs_chain_meaning.specs.Meaning.{Meaning, through}
-use Rattle.zarrs_chain_meaning.specs.PlainChain.{PlainCodec, bytes_codec, packbits_codec, vlen_codec, sharding_codec}
 use Rattle.zarrs_chain_meaning.specs.sharding.Sharding.{shard_meaning}
 use Rattle.zarrs_chain_meaning.specs.vlen.PlainForm.{PlainForm}
 use Rattle.zarrs_plain_vlen.specs.PlainRead.{plain_read}

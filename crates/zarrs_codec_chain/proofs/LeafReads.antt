@@ -5,8 +5,7 @@ use Rattle.zarrs_array_bytes.specs.Elements.{select}
 use Rattle.zarrs_array_bytes.specs.Held.{Held}
 use Rattle.zarrs_array_bytes.specs.Validity.{Holds}
 use Rattle.zarrs_chain_meaning.specs.Chain.{codec_reads}
-use Rattle.zarrs_chain_meaning.specs.CodecMeaning.{codec_chunk}
-use Rattle.zarrs_chain_meaning.specs.PlainChain.{PlainChain, PlainCodec}
+use Rattle.zarrs_chain_meaning.specs.CodecMeaning.{PlainCodec, PlainChain, codec_chunk}
 use Rattle.zarrs_chunk.specs.Answer.{AnswersBy, memory, memory_or_fault, seen}
 use Rattle.zarrs_codec.specs.BytesToBytesCodec.{BytesCodecs}
 use Rattle.zarrs_codec.specs.StorageState.{StorageState}

@@ -10,7 +10,7 @@ use Rattle.zarrs_array_regions.specs.Windows.{window_of}
 use Rattle.zarrs_bytes.proofs.Coding.{ok}
 use Rattle.zarrs_chain.specs.ChainView.{plain_chain}
 use Rattle.zarrs_chain.specs.declared.codec_chain.CodecChain.{CodecChain}
-use Rattle.zarrs_chain_meaning.specs.PlainChain.{PlainCodec}
+use Rattle.zarrs_chain_meaning.specs.CodecMeaning.{PlainCodec}
 use Rattle.zarrs_chain_meaning.specs.sharding.InnerChunks.{is_divided}
 use Rattle.zarrs_chain_meaning.specs.sharding.Sharding.{Span, is_stored, spans_of}
 use Rattle.zarrs_chunk.specs.Answer.{◌>>=◌}

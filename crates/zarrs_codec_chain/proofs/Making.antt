@@ -10,8 +10,7 @@ use Rattle.zarrs_codec.specs.declared.bytes_representation.BytesRepresentation.{
 use Rattle.zarrs_chain_meaning.specs.ArrayStages.{arrays_map}
 use Rattle.zarrs_chain_meaning.specs.BytesStages.{outer_representation}
 use Rattle.zarrs_chain_meaning.specs.Chain.{taken_form}
-use Rattle.zarrs_chain_meaning.specs.PlainChain.{PlainChain}
-use Rattle.zarrs_chain_meaning.specs.CodecMeaning.{chain_representation, codec_representation}
+use Rattle.zarrs_chain_meaning.specs.CodecMeaning.{PlainChain, codec_representation, chain_representation}
 use Rattle.zarrs_bytes.proofs.Coding.{ok}
 
 same_cause : {A : Type 0} (x e : CodecError) → ◌≡◌ {A = Result A CodecError} (Err x) (Err e) → ◌≡◌ {A = Result (Unit {0}) CodecError} (Err x) (Err e)

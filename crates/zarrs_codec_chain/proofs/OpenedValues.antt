@@ -13,8 +13,7 @@ use Rattle.zarrs_chain_meaning.proofs.CodecLaws.{chain_chunk_only}
 use Rattle.zarrs_chain_meaning.specs.ArrayStages.{arrays_map}
 use Rattle.zarrs_chain_meaning.specs.BytesStages.{outer_bytes}
 use Rattle.zarrs_chain_meaning.specs.ChunkForm.{ChunkForm}
-use Rattle.zarrs_chain_meaning.specs.CodecMeaning.{chain_chunk, codec_chunk, codec_representation}
-use Rattle.zarrs_chain_meaning.specs.PlainChain.{PlainChain}
+use Rattle.zarrs_chain_meaning.specs.CodecMeaning.{PlainChain, codec_representation, codec_chunk, chain_chunk}
 use Rattle.zarrs_codec_chain.specs.ChunkSource.{cache_stage, source_at, source_made, upper_bytes}
 use Rattle.zarrs_codec_chain.specs.ReadLaws.{StandingIsOpened}
 use Rattle.zarrs_codec_chain.specs.declared.partial_decoder.cache.CacheStage.{CacheStage}

@@ -37,8 +37,7 @@ use Rattle.zarrs_chain_meaning.specs.Chain.{taken_form}
 use Rattle.zarrs_chain.specs.ChainView.{plain_codec}
 use Rattle.zarrs_codec_chain.specs.ChunkRead.{encoded_places}
 use Rattle.zarrs_codec_chain.specs.CodecPart.{IsCodecPlan}
-use Rattle.zarrs_chain_meaning.specs.CodecMeaning.{codec_chunk, codec_representation, meaning}
-use Rattle.zarrs_chain_meaning.specs.PlainChain.{PlainCodec, bytes_codec, packbits_codec, PlainChain}
+use Rattle.zarrs_chain_meaning.specs.CodecMeaning.{PlainCodec, bytes_codec, packbits_codec, PlainChain, meaning, codec_representation, codec_chunk}
 use Rattle.zarrs_chain.specs.declared.array_to_bytes_codec.ArrayToBytesCodec.{ArrayToBytesCodec}
 use Rattle.zarrs_chain.specs.declared.array_to_bytes_codec.ArrayToBytesCodec.TheVariants.{Bytes, PackBits}
 use Rattle.zarrs_chain_meaning.proofs.Answered.{from_ok}

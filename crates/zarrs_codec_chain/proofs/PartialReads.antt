@@ -25,9 +25,8 @@ use Rattle.zarrs_codec_chain.specs.ChunkRead.{encoded_places, outer_stored, stor
 use Rattle.zarrs_chain_meaning.specs.ChunkForm.{ChunkForm}
 use Rattle.zarrs_codec_chain.specs.CodecPart.{codec_read}
 use Rattle.zarrs_codec_chain.specs.ChunkSource.{Source, is_source_stored, opened_chunk, source_at, source_made_at, source_places, source_read}
-use Rattle.zarrs_chain_meaning.specs.CodecMeaning.{codec_chunk, chain_chunk, codec_representation, HasMappings}
+use Rattle.zarrs_chain_meaning.specs.CodecMeaning.{PlainChain, HasMappings, codec_representation, codec_chunk, chain_chunk}
 use Rattle.zarrs_chain_meaning.specs.Laws.{IsChainOfMappings}
-use Rattle.zarrs_chain_meaning.specs.PlainChain.{PlainChain}
 use Rattle.zarrs_codec_chain.specs.declared.partial_decoder.cache.CacheStage.{CacheStage}
 use Rattle.zarrs_codec_chain.specs.declared.partial_decoder.cache.CacheStage.TheVariants as stage
 use Rattle.zarrs_bytes.proofs.Coding.{ok, bind_ok}

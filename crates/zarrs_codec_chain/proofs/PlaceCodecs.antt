@@ -13,9 +13,8 @@ use Rattle.zarrs_bytes.specs.PartialRead.{place_bytes, place_size, has_place, re
 use Rattle.zarrs_chain_meaning.proofs.ArraySteps.{ok_is}
 use Rattle.zarrs_chain_meaning.proofs.ChainSteps.{seen_ok, is_ok_of}
 use Rattle.zarrs_chain_meaning.proofs.PlainForms.{plain_is_plain}
-use Rattle.zarrs_chain_meaning.specs.CodecMeaning.{codec_chunk, meaning, bytes_meaning, packbits_meaning}
+use Rattle.zarrs_chain_meaning.specs.CodecMeaning.{PlainCodec, bytes_meaning, packbits_meaning, meaning, codec_chunk}
 use Rattle.zarrs_chain_meaning.specs.Meaning.{Decoder, Meaning}
-use Rattle.zarrs_chain_meaning.specs.PlainChain.{PlainCodec}
 use Rattle.zarrs_chain_meaning.specs.vlen.PlainForm.{PlainForm}
 use Rattle.zarrs_chain_meaning.specs.vlen.PlainVlen.{plain_form_of}
 use Rattle.zarrs_chain_meaning.specs.vlen.Vlen.{vlen_value_parts}

@@ -37,9 +37,8 @@ use Rattle.zarrs_chain_meaning.specs.ChunkForm.{ChunkForm}
 use Rattle.zarrs_codec_chain.specs.CodecPart.{order_in_place, part_of}
 use Rattle.zarrs_codec_chain.specs.ChunkWrite.{EditStarts, selection_left, stored_written, IsStoredFor, value_left, written_places}
 use Rattle.zarrs_chain_meaning.specs.Laws.{IsChainOfMappings}
-use Rattle.zarrs_chain_meaning.specs.CodecMeaning.{bytes_meaning, codec_representation, CodecStands, ChainStands, CodecWritten, ChainWritten, meaning, chain_meaning}
+use Rattle.zarrs_chain_meaning.specs.CodecMeaning.{PlainCodec, bytes_meaning, meaning, chain_meaning, codec_representation, CodecStands, ChainStands, CodecWritten, ChainWritten}
 use Rattle.zarrs_chain_meaning.specs.Meaning.{Meaning}
-use Rattle.zarrs_chain_meaning.specs.PlainChain.{PlainCodec}
 use Rattle.zarrs_bytes.proofs.Coding.{ok, bind_ok}
 use Rattle.zarrs_chain_meaning.proofs.ArraySteps.{ok_is}
 use Rattle.zarrs_chain_meaning.proofs.ChainSteps.{seen_ok, is_ok_of}

@@ -8,7 +8,7 @@ use Rattle.zarrs_codec.specs.ByteRanges.{SameByte}
 use Rattle.zarrs_codec.specs.BytesToBytesCodec.{BytesCodecs}
 use Rattle.zarrs_codec.specs.declared.bytes_representation.BytesRepresentation.{BytesRepresentation}
 use Rattle.zarrs_chain_meaning.specs.Chain.{taken_form}
-use Rattle.zarrs_chain_meaning.specs.PlainChain.{PlainCodec}
+use Rattle.zarrs_chain_meaning.specs.CodecMeaning.{PlainCodec}
 use Rattle.zarrs_bytes.proofs.Coding.{ok, bind_ok}
 use Rattle.zarrs_codec_chain.specs.ChunkRead.{asks_in_part, encoded_places, reads_places}
 use Rattle.zarrs_chain_meaning.specs.ChunkForm.{ChunkForm}

@@ -10,8 +10,7 @@ use Rattle.zarrs_codec.specs.declared.bytes_representation.BytesRepresentation.{
 use Rattle.zarrs_chain_meaning.specs.ArrayStages.{arrays_map}
 use Rattle.zarrs_chain_meaning.specs.BytesStages.{outer_bytes}
 use Rattle.zarrs_chain_meaning.specs.Chain.{taken_form}
-use Rattle.zarrs_chain_meaning.specs.CodecMeaning.{chain_chunk, codec_representation}
-use Rattle.zarrs_chain_meaning.specs.PlainChain.{PlainCodec}
+use Rattle.zarrs_chain_meaning.specs.CodecMeaning.{PlainCodec, codec_representation, chain_chunk}
 use Rattle.zarrs_codec_chain.specs.ChunkRead.{asks_in_part, encoded_places, outer_stored}
 use Rattle.zarrs_chain_meaning.specs.ChunkForm.{ChunkForm}
 use Rattle.zarrs_codec_chain.specs.CodecPart.{codec_read, codec_rests_on}

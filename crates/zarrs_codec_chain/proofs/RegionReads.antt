@@ -30,7 +30,7 @@ use Rattle.zarrs_array_regions.proofs.KeptWindows.{bounds_from, places_are}
 use Rattle.zarrs_array_regions.proofs.PlaceReads.{mapped_read, then_read, region_read, region_decoded, region_sure}
 use Rattle.zarrs_chain_meaning.specs.ArrayStages.{codec_map, arrays_map}
 use Rattle.zarrs_chain_meaning.specs.Chain.{taken_form}
-use Rattle.zarrs_chain_meaning.specs.PlainChain.{PlainChain}
+use Rattle.zarrs_chain_meaning.specs.CodecMeaning.{PlainChain}
 use Rattle.zarrs_bytes.proofs.Coding.{ok, bind_ok}
 use Rattle.zarrs_chain_meaning.proofs.ArraySteps.{ok_is, ok_no_err}
 use Rattle.zarrs_chain_meaning.proofs.NestedStages.{chained_of}

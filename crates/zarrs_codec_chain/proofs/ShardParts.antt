@@ -12,8 +12,7 @@ use Rattle.zarrs_chain_meaning.proofs.ChainSteps.{refused_representation}
 use Rattle.zarrs_chain_meaning.specs.ArrayStages.{arrays_map}
 use Rattle.zarrs_chain_meaning.specs.BytesStages.{outer_bytes}
 use Rattle.zarrs_chain_meaning.specs.Chain.{taken_form}
-use Rattle.zarrs_chain_meaning.specs.CodecMeaning.{codec_representation}
-use Rattle.zarrs_chain_meaning.specs.PlainChain.{PlainChain, PlainCodec, sharding_codec_of}
+use Rattle.zarrs_chain_meaning.specs.CodecMeaning.{PlainCodec, PlainChain, sharding_codec_of, codec_representation}
 use Rattle.zarrs_chain_meaning.specs.sharding.InnerChunks.{grid, is_divided}
 use Rattle.zarrs_chain_meaning.specs.sharding.ShardSteps.{divided_grid}
 use Rattle.zarrs_chain_meaning.specs.sharding.Sharding.{Span, is_stored}

@@ -12,8 +12,7 @@ use Rattle.zarrs_chain.specs.declared.codec_chain.CodecChain.{CodecChain}
 use Rattle.zarrs_chain.specs.sharding.ShardingCalls.{index_size_of, shard_represented}
 use Rattle.zarrs_chain_meaning.proofs.Answered.{from_ok}
 use Rattle.zarrs_chain_meaning.proofs.ShardNormal.{shard_taken}
-use Rattle.zarrs_chain_meaning.specs.CodecMeaning.{meaning, chain_chunk, chain_representation, codec_normal_element, codec_representation}
-use Rattle.zarrs_chain_meaning.specs.PlainChain.{PlainChain, PlainCodec, sharding_codec_of}
+use Rattle.zarrs_chain_meaning.specs.CodecMeaning.{PlainCodec, PlainChain, sharding_codec_of, meaning, codec_normal_element, codec_representation, chain_representation, chain_chunk}
 use Rattle.zarrs_chain_meaning.specs.sharding.InnerChunks.{grid}
 use Rattle.zarrs_chain_meaning.specs.sharding.Sharding.{Span, is_stored, spanned_bytes, spans_of}
 use Rattle.zarrs_chunk.specs.Answer.{◌>>=◌, demand}

@@ -20,9 +20,8 @@ use Rattle.zarrs_chain.specs.ChainView.{plain_vlen, plain_vlen_at}
 use Rattle.zarrs_codec_chain.specs.CodecPart.{codec_read, codec_rests_on}
 use Rattle.zarrs_codec_chain.specs.PartRead.{whole_read}
 use Rattle.zarrs_chain_meaning.specs.Chain.{codec_reads}
-use Rattle.zarrs_chain_meaning.specs.CodecMeaning.{codec_chunk, HasMappings, codec_representation, CodecStands}
+use Rattle.zarrs_chain_meaning.specs.CodecMeaning.{PlainCodec, HasMappings, codec_representation, codec_chunk, CodecStands}
 use Rattle.zarrs_chain_meaning.specs.vlen.Vlen.{vlen_representation}
-use Rattle.zarrs_chain_meaning.specs.PlainChain.{PlainCodec}
 use Rattle.zarrs_chain_meaning.specs.vlen.PlainVlen.{plain_form_of}
 use Rattle.zarrs_chain_meaning.specs.vlen.PlainForm.{PlainForm}
 use Rattle.zarrs_chunk.proofs.PlaceLaws.{places_below}

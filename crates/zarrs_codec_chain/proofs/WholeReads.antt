@@ -18,8 +18,7 @@ use Rattle.zarrs_codec_chain.specs.ChunkRead.{outer_stored}
 use Rattle.zarrs_chain_meaning.specs.ChunkForm.{ChunkForm}
 use Rattle.zarrs_codec_chain.specs.CodecPart.{codec_read}
 use Rattle.zarrs_codec_chain.specs.ChunkSource.{Source, bytes_above, is_cache, kept_stage, opened_chunk, source_at, source_made_at, source_of, source_places}
-use Rattle.zarrs_chain_meaning.specs.CodecMeaning.{codec_chunk}
-use Rattle.zarrs_chain_meaning.specs.PlainChain.{PlainCodec, PlainChain}
+use Rattle.zarrs_chain_meaning.specs.CodecMeaning.{PlainCodec, PlainChain, codec_chunk}
 use Rattle.zarrs_codec_chain.specs.declared.partial_decoder.cache.Cache.{Cache}
 use Rattle.zarrs_codec_chain.specs.declared.partial_decoder.cache.Cache.TheVariants as kept
 use Rattle.zarrs_codec_chain.specs.declared.partial_decoder.cache.CacheStage.{CacheStage}

@@ -5,7 +5,7 @@ use Rattle.zarrs_data_type.specs.ElementType.{ElementType}
 use Rattle.zarrs_codec.specs.Calls.{Calls, MakesReads, MakesWrite}
 use Rattle.zarrs_codec.specs.StorageState.{StorageState, value_indices}
 use Rattle.zarrs_bytes.specs.PartialRead.{place_bytes, place_size}
-use Rattle.zarrs_chain_meaning.specs.PlainChain.{PlainChain}
+use Rattle.zarrs_chain_meaning.specs.CodecMeaning.{PlainChain}
 use Rattle.zarrs_codec_chain.specs.ChunkRead.{asks_in_part, form_in_place, planned_order}
 use Rattle.zarrs_chain_meaning.specs.ChunkForm.{ChunkForm}
 use Rattle.std.specs.Option.{option_map_or}

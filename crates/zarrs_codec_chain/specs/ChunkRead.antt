@@ -1,6 +1,6 @@
 -- What a read in part answers through a chain.
 -- Source: zarrs, `ArrayPartialDecoderTraits`.
-use Rattle.zarrs_chain_meaning.specs.CodecMeaning.{codec_chunk, codec_representation, chain_meaning}
+use Rattle.zarrs_chain_meaning.specs.CodecMeaning.{PlainCodec, PlainChain, chain_meaning, codec_representation, codec_chunk}
 use Rattle.zarrs_array_bytes.specs.Validity.{Holds}
 use Rattle.zarrs_array_bytes.specs.Held.{Held}
 use Rattle.zarrs_data_type.specs.Form.{form_of, Form}
@@ -24,7 +24,6 @@ use Rattle.zarrs_chain_meaning.specs.ArrayStages.{arrays_map}
 use Rattle.zarrs_chain_meaning.specs.BytesStages.{outer_bytes}
 use Rattle.zarrs_chain_meaning.specs.Chain.{taken_form, chain_reads}
 use Rattle.zarrs_chain_meaning.specs.CodecFacts.{facts, if_alone}
-use Rattle.zarrs_chain_meaning.specs.PlainChain.{PlainCodec, PlainChain}
 use Rattle.std.proofs.Common.{Global}
 use Rattle.zarrs_chunk.specs.Runs.{joined_runs}
 use Rattle.zarrs_codec.specs.declared.capabilities.PartialDecoderCapability.{PartialDecoderCapability}

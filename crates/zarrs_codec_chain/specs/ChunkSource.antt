@@ -20,8 +20,7 @@ use Rattle.zarrs_chain_meaning.specs.Chain.{taken_form, codec_reads}
 use Rattle.zarrs_codec_chain.specs.ChunkRead.{encoded_places, outer_stored}
 use Rattle.zarrs_chain_meaning.specs.ChunkForm.{ChunkForm}
 use Rattle.zarrs_codec_chain.specs.CodecPart.{codec_read}
-use Rattle.zarrs_chain_meaning.specs.CodecMeaning.{codec_chunk}
-use Rattle.zarrs_chain_meaning.specs.PlainChain.{PlainChain}
+use Rattle.zarrs_chain_meaning.specs.CodecMeaning.{PlainChain, codec_chunk}
 use Rattle.zarrs_codec_chain.specs.declared.partial_decoder.cache.Cache.{Cache}
 use Rattle.zarrs_codec_chain.specs.declared.partial_decoder.cache.Cache.TheVariants as kept
 use Rattle.zarrs_codec_chain.specs.declared.partial_decoder.cache.CacheStage.{CacheStage}

@@ -2,9 +2,8 @@
 use Rattle.std.specs.Prelude.{ℕ, suc, if◌then◌else◌, Bool, true, false, Option, Some, None, unwrap_or, IsOkAnd, List, [], Result, Ok}
 use Rattle.zarrs_bytes.specs.PartialRead.{place_bytes, place_size, read_places}
 use Rattle.zarrs_bytes.specs.PlannedRanges.{IsPlan as IsElementPlan}
-use Rattle.zarrs_chain_meaning.specs.CodecMeaning.{meaning}
+use Rattle.zarrs_chain_meaning.specs.CodecMeaning.{PlainCodec, bytes_codec, packbits_codec, vlen_codec, sharding_codec, meaning}
 use Rattle.zarrs_chain_meaning.specs.Meaning.{Meaning, through}
-use Rattle.zarrs_chain_meaning.specs.PlainChain.{PlainCodec, bytes_codec, packbits_codec, vlen_codec, sharding_codec}
 use Rattle.zarrs_chain_meaning.specs.CodecFacts.{facts, if_alone}
 use Rattle.zarrs_chain_meaning.specs.vlen.PlainForm.{PlainForm}
 use Rattle.zarrs_chunk.specs.ChunkShape.{product}

@@ -14,9 +14,8 @@ use Rattle.zarrs_chain_meaning.specs.ChunkForm.{ChunkForm}
 use Rattle.zarrs_bytes.specs.CountLaws.{read_count}
 use Rattle.zarrs_packbits.specs.CountLaws.{read_count_of}
 use Rattle.zarrs_chain_meaning.specs.CodecFacts.{facts}
-use Rattle.zarrs_chain_meaning.specs.CodecMeaning.{meaning}
+use Rattle.zarrs_chain_meaning.specs.CodecMeaning.{PlainCodec, bytes_codec, packbits_codec, vlen_codec, sharding_codec, meaning}
 use Rattle.zarrs_chain_meaning.specs.Meaning.{Meaning, through}
-use Rattle.zarrs_chain_meaning.specs.PlainChain.{PlainCodec, bytes_codec, packbits_codec, vlen_codec, sharding_codec}
 use Rattle.zarrs_chain_meaning.specs.vlen.PlainForm.{PlainForm}
 use Rattle.zarrs_chunk.specs.ChunkShape.{product}
 use Rattle.zarrs_data_type.specs.Form.{form_of}

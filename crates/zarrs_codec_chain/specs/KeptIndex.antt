@@ -6,9 +6,8 @@ use Rattle.zarrs_chunk.specs.declared.codec_error.CodecError.{CodecError}
 use Rattle.zarrs_codec.specs.BytesToBytesCodec.{BytesCodecs}
 use Rattle.zarrs_chain_meaning.specs.Chain.{taken_form}
 use Rattle.zarrs_chain_meaning.specs.ChunkForm.{ChunkForm}
-use Rattle.zarrs_chain_meaning.specs.CodecMeaning.{meaning}
+use Rattle.zarrs_chain_meaning.specs.CodecMeaning.{meaning, PlainChain, PlainCodec, sharding_codec}
 use Rattle.zarrs_chain_meaning.specs.Meaning.{Meaning, through}
-use Rattle.zarrs_chain_meaning.specs.PlainChain.{PlainChain, PlainCodec, sharding_codec}
 use Rattle.zarrs_chain_meaning.specs.sharding.Sharding.{Span, spans_of}
 use Rattle.zarrs_codec_chain.specs.CodecPart.{part_of}
 use Rattle.zarrs_codec_chain.specs.ShardRead.{index_bytes_in, spans_in}

@@ -71,7 +71,6 @@ pub use Rattle.zarrs_codec.specs.declared.bytes_representation.BytesRepresentati
 pub use Rattle.zarrs_codec.specs.declared.capabilities.PartialDecoderCapability
 pub use Rattle.zarrs_chain_meaning.specs.CodecMeaning
 pub use Rattle.zarrs_chain_meaning.specs.Laws
-pub use Rattle.zarrs_chain_meaning.specs.PlainChain
 pub use Rattle.zarrs_chain.specs.ChainGrammar
 pub use Rattle.zarrs_chain.specs.EncodedAgain
 pub use Rattle.zarrs_lent_handles.specs.LentHandle

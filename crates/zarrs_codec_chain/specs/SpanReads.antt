@@ -16,8 +16,7 @@ use Rattle.zarrs_array_regions.specs.WindowLaws.{region_places}
 use Rattle.zarrs_chain.specs.ChainView.{plain_chain}
 use Rattle.zarrs_chain.specs.declared.codec_chain.CodecChain.{CodecChain}
 use Rattle.zarrs_chain.specs.sharding.ShardingCalls.{index_size_of}
-use Rattle.zarrs_chain_meaning.specs.CodecMeaning.{meaning, chain_chunk, chain_representation, codec_representation}
-use Rattle.zarrs_chain_meaning.specs.PlainChain.{PlainChain, PlainCodec}
+use Rattle.zarrs_chain_meaning.specs.CodecMeaning.{PlainCodec, PlainChain, meaning, codec_representation, chain_representation, chain_chunk}
 use Rattle.zarrs_chain_meaning.specs.sharding.InnerChunks.{grid}
 use Rattle.zarrs_chain_meaning.specs.sharding.Sharding.{Span, is_stored, spans_of}
 use Rattle.zarrs_codec.specs.BytesToBytesCodec.{BytesCodecs}

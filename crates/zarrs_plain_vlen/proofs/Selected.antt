@@ -9,7 +9,7 @@ use Rattle.zarrs_chunk.specs.AnswerLaws.{demand_ok}
 use Rattle.zarrs_chunk.specs.ChunkShape.{product}
 use Rattle.zarrs_chunk.specs.Selection.{Selection, places_of}
 use Rattle.zarrs_chunk.proofs.PlaceLaws.{known_below}
-use Rattle.zarrs_chain_meaning.specs.CodecMeaning.{CodecStands, codec_chunk, codec_representation, meaning}
+use Rattle.zarrs_chain_meaning.specs.CodecMeaning.{bytes_codec, meaning, codec_representation, codec_chunk, CodecStands}
 use Rattle.zarrs_chain_meaning.specs.Meaning.{Decoder, around_chunk, in_a_row}
 use Rattle.zarrs_chain_meaning.specs.vlen.Vlen.{vlen_chunk, vlen_value_parts, slices}
 use Rattle.zarrs_chain_meaning.specs.Parts.{all_bytes, byte_type}
@@ -33,7 +33,6 @@ use Rattle.zarrs_array_to_array.proofs.CoordinateMaps.{kept_places}
 use Rattle.zarrs_bytes.proofs.ReversedPieces.{reversed_pieces-single}
 use Rattle.zarrs_bytes.specs.ByteOrder.{bytes_of, has_order}
 use Rattle.zarrs_bytes.specs.BytesCodec.{bytes_chunk, bytes_length, bytes_element}
-use Rattle.zarrs_chain_meaning.specs.PlainChain.{bytes_codec}
 use Rattle.zarrs_bytes.proofs.Coding.{ok, bind_ok}
 use Rattle.zarrs_chain_meaning.proofs.ArraySteps.{err, ok_is, next_answer}
 use Rattle.zarrs_chain_meaning.proofs.CodecLaws.{chunk_only}

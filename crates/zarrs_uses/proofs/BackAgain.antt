@@ -8,7 +8,7 @@ use Rattle.zarrs_codec_chain.specs.Chain.{held_value}
 use Rattle.zarrs_codec_chain.specs.ChainGrammar.{chain_grammar}
 use Rattle.zarrs_codec_chain.specs.ChunkShape.{product}
 use Rattle.zarrs_codec_chain.specs.CodecError.{CodecError}
-use Rattle.zarrs_codec_chain.specs.CodecMeaning.{meaning, normal_form, chain_meaning}
+use Rattle.zarrs_codec_chain.specs.CodecMeaning.{bytes_codec, PlainChain, meaning, chain_meaning, normal_form}
 use Rattle.zarrs_codec_chain.specs.Element.{Chunk}
 use Rattle.zarrs_codec_chain.specs.ElementType.{ElementType}
 use Rattle.zarrs_codec_chain.specs.Elements.{elements}
@@ -17,7 +17,6 @@ use Rattle.zarrs_codec_chain.specs.Endianness.{Endianness}
 use Rattle.zarrs_codec_chain.specs.Form.{Form}
 use Rattle.zarrs_codec_chain.specs.Grammar.{Decodes, Encodes}
 use Rattle.zarrs_codec_chain.specs.Held.{Held, items_of}
-use Rattle.zarrs_codec_chain.specs.PlainChain.{PlainChain, bytes_codec}
 use Rattle.zarrs_codec_chain.specs.Validity.{Holds}
 use Rattle.zarrs_uses.specs.ComesBack.{ComesBack}
 

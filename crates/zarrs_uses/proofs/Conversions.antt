@@ -2,13 +2,12 @@
 use Rattle.std.proofs.Common.{◌≡◌, ℕ, true, List, Ok, Vec, Global, subst}
 use Rattle.zarrs_codec_chain.specs.BytesToBytesCodec.{BytesCodecs}
 use Rattle.zarrs_codec_chain.specs.ChainGrammar.{chain_grammar}
-use Rattle.zarrs_codec_chain.specs.CodecMeaning.{ChainStands, normal_form}
+use Rattle.zarrs_codec_chain.specs.CodecMeaning.{PlainChain, normal_form, ChainStands}
 use Rattle.zarrs_codec_chain.specs.Element.{Chunk}
 use Rattle.zarrs_codec_chain.specs.EncodedAgain.{ReencodedStands}
 use Rattle.zarrs_codec_chain.specs.Form.{Form}
 use Rattle.zarrs_codec_chain.specs.Grammar.{Decodes}
 use Rattle.zarrs_codec_chain.specs.Held.{Held}
-use Rattle.zarrs_codec_chain.specs.PlainChain.{PlainChain}
 use Rattle.zarrs_codec_chain.specs.SameBytes.{is_same_held}
 use Rattle.zarrs_codec_chain.specs.Tight.{IsTight}
 use Rattle.zarrs_codec_chain.specs.Validity.{Holds}

@@ -4,11 +4,10 @@ use Rattle.zarrs_codec_chain.specs.Answer.{GivesBy}
 use Rattle.zarrs_codec_chain.specs.BytesToBytesCodec.{BytesCodecs}
 use Rattle.zarrs_codec_chain.specs.Chain.{held_value}
 use Rattle.zarrs_codec_chain.specs.CodecError.{CodecError}
-use Rattle.zarrs_codec_chain.specs.CodecMeaning.{normal_form}
+use Rattle.zarrs_codec_chain.specs.CodecMeaning.{PlainChain, normal_form}
 use Rattle.zarrs_codec_chain.specs.Element.{Chunk}
 use Rattle.zarrs_codec_chain.specs.Form.{Form}
 use Rattle.zarrs_codec_chain.specs.Held.{Held}
-use Rattle.zarrs_codec_chain.specs.PlainChain.{PlainChain}
 use Rattle.zarrs_codec_chain.specs.Validity.{Holds}
 
 -- Where the chain writes a value of what was given, a container is returned of what the chain keeps of the chunk, its normal form; else the error of encoding. Only lack of memory may come in its place.

@@ -4,7 +4,7 @@ ghost use Rattle.zarrs_codec_chain.specs.Answer.{GivesItems};
 ghost use Rattle.zarrs_codec_chain.specs.Element.{Chunk};
 ghost use Rattle.zarrs_codec_chain.specs.Form.{form_of};
 ghost use Rattle.zarrs_codec_chain.specs.Validity.{Holds};
-ghost use Rattle.zarrs_codec_chain.specs.PlainChain.{bytes_codec};
+ghost use Rattle.zarrs_codec_chain.specs.CodecMeaning.{bytes_codec};
 ghost use Rattle.zarrs_codec_chain.specs.ChainView.{plain_chain};
 ghost use Rattle.zarrs_uses.specs.ComesBack.{ComesBack};
 ghost use Rattle.zarrs_uses.specs.ByteDelta.{deltas, sums};

@@ -22,9 +22,8 @@ use Rattle.zarrs_codec.specs.declared.bytes_representation.BytesRepresentation.{
 use Rattle.zarrs_packbits.specs.NormalForm.{normal_chunk}
 use Rattle.zarrs_packbits.specs.PackBitsSettings.{PackBitsSettings}
 use Rattle.zarrs_chain_meaning.specs.CallAnswers.{GivesRepresentation}
-use Rattle.zarrs_chain_meaning.specs.CodecMeaning.{chain_chunk, chain_representation, chain_value, codec_normal_element, normal_form}
+use Rattle.zarrs_chain_meaning.specs.CodecMeaning.{PlainCodec, codec_normal_element, normal_form, chain_representation, chain_value, chain_chunk}
 use Rattle.zarrs_chain_meaning.specs.Meaning.{Measure}
-use Rattle.zarrs_chain_meaning.specs.PlainChain.{PlainCodec}
 use Rattle.zarrs_chain_meaning.specs.sharding.InnerChunks.{is_divided}
 use Rattle.zarrs_chain_meaning.specs.sharding.ShardingSettings.{is_index_at_end}
 use Rattle.zarrs_chain_meaning.specs.sharding.Sharding.{fixed_size, is_kept_as_fill, is_left_out, shard_representation, shard_value, shard_chunk}

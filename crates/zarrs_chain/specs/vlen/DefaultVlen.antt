@@ -2,7 +2,7 @@
 -- Source: zarrs, `VlenCodec`.
 use Rattle.std.specs.Prelude.{Option, []}
 use Rattle.zarrs_data_type.specs.declared.endianness.Endianness.{Endianness}
-use Rattle.zarrs_chain_meaning.specs.PlainChain.{bytes_codec, PlainChain}
+use Rattle.zarrs_chain_meaning.specs.CodecMeaning.{bytes_codec, PlainChain}
 
 -- the codec `bytes` in this byte order, alone
 abbrev pub bytes_chain : {B : Type 0} → Option Endianness → PlainChain B

@@ -6,9 +6,11 @@ ghost use Rattle.zarrs_chain_meaning.specs.MadeAgain.{MakesChain};
 ghost use Rattle.zarrs_chain_meaning.specs.WrittenMetadata.{chain_metadatas};
 ghost use Rattle.zarrs_chain.specs.Making.{WritesList};
 
-use crate::array_to_bytes_codec::{ArrayToBytesCodec, codec_reads, codec_writes};
+use crate::array_to_bytes_codec::{
+    ArrayToBytesCodec, codec_name, codec_reads, codec_writes, codec_written,
+};
 use crate::codec_chain::{CodecChain, chain_has_ranges, chain_is_sound};
-use crate::metadata::write_chain::{chain_written, codec_name, codec_written};
+use crate::metadata::write_chain::chain_written;
 use std::alloc::Global;
 use zarrs_codec::{
     ArrayCodecTraits, BytesToBytesCodecTraits, CodecTraits, PartialDecoderCapability,

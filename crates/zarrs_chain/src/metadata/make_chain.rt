@@ -5,20 +5,17 @@ ghost use Rattle.std.specs.Prelude.{◌≡◌, ◌||◌, if◌then◌else◌, Ok
 ghost use Rattle.zarrs_metadata.specs.MetadataV3.{metadata_seen};
 ghost use Rattle.zarrs_metadata.specs.PluginCreateError.{plugin_memory, Makes};
 ghost use Rattle.zarrs_chain.specs.ChainView.{plain_vlen, plain_optional, plain_sharding, vlen_of, optional_of, sharding_of};
-ghost use Rattle.zarrs_chain_meaning.specs.MadeChain.{asked_maker, codec_by, joined_by};
+ghost use Rattle.zarrs_chain_meaning.specs.MadeChain.{asked_maker, joined_by};
 ghost use Rattle.zarrs_chain.specs.ChainParts.{made_seen, parts_seen};
 ghost use Rattle.zarrs_chain.specs.Making.{MakesChainOf, MakesVlen, MakesOptional, MakesSharding, CreatesVlen, CreatesOptional, CreatesSharding};
 
-use crate::array_to_bytes_codec::ArrayToBytesCodec;
+use crate::array_to_bytes_codec::codec_from;
 use crate::codec_chain::CodecChain;
 use crate::metadata::chain_parts::{ChainParts, MadeCodec};
 use crate::optional::optional_codec::OptionalCodec;
 use crate::sharding::sharding_codec::ShardingCodec;
 use crate::vlen::vlen_codec::VlenCodec;
 use std::alloc::Global;
-use zarrs_array_to_array::ArrayToArrayCodec;
-use zarrs_bytes::BytesCodec;
-use zarrs_chain_meaning::codec_name::{KnownCodec, codec_named};
 use zarrs_chain_meaning::optional::configuration::{
     mask_codecs, optional_configuration, present_codecs,
 };
@@ -34,8 +31,6 @@ use zarrs_metadata::{
     MetadataV3, OptionalCodecConfiguration, PluginCreateError, ShardingCodecConfiguration,
     ShardingIndexLocation, VlenCodecConfiguration, VlenIndexDataType, VlenIndexLocation,
 };
-use zarrs_packbits::PackBitsCodec;
-use zarrs_vlen_v2::VlenV2Codec;
 
 /// The codec `vlen` with these chains in boxes. Errors: `OutOfMemory`.
 fn boxed_vlen<B: Drop>(
@@ -174,7 +169,7 @@ pub(crate) fn sharding_create<B: Drop, M: BytesCodecMaker<B>>(
 }
 
 /// What the maker makes of a metadata. Errors: `UnknownName` where it makes nothing; its own.
-fn asked<B: Drop, M: BytesCodecMaker<B>>(
+pub(crate) fn asked<B: Drop, M: BytesCodecMaker<B>>(
     alloc: Global,
     metadata: &MetadataV3,
     maker: &M,
@@ -186,50 +181,6 @@ fn asked<B: Drop, M: BytesCodecMaker<B>>(
         Ok(Some(codec)) => Ok(MadeCodec::Outer(codec)),
         Ok(None) => Err(PluginCreateError::UnknownName),
         Err(refusal) => Err(refusal),
-    }
-}
-
-/// The codec of a metadata. Errors, the first that holds, `OutOfMemory` aside: `UnknownName` where
-/// neither the table of names nor the maker knows its name; those of the codec's construction.
-#[cycle(make)]
-#[tactic(auto, unfolding(crate::specs::ChainView::plain_codec))]
-fn codec_from<B: Drop, M: BytesCodecMaker<B>>(
-    alloc: Global,
-    metadata: &MetadataV3,
-    maker: &M,
-) -> Result<MadeCodec<B>, PluginCreateError>
-    ensures answer { Makes made_seen result
-        (codec_by (M.makes maker.now) (metadata_seen metadata.now)) }
-{
-    match codec_named(metadata.name()) {
-        Some(KnownCodec::Transpose | KnownCodec::Reshape | KnownCodec::Squeeze) => {
-            Ok(MadeCodec::Array(ArrayToArrayCodec::create(alloc, metadata)?))
-        }
-        Some(KnownCodec::Bytes) => {
-            let codec = BytesCodec::create(metadata)?;
-            Ok(MadeCodec::ToBytes(ArrayToBytesCodec::Bytes(codec)))
-        }
-        Some(KnownCodec::PackBits) => {
-            let codec = PackBitsCodec::create(metadata)?;
-            Ok(MadeCodec::ToBytes(ArrayToBytesCodec::PackBits(codec)))
-        }
-        Some(KnownCodec::VlenV2) => {
-            let codec = VlenV2Codec::create(metadata)?;
-            Ok(MadeCodec::ToBytes(ArrayToBytesCodec::VlenV2(codec)))
-        }
-        Some(KnownCodec::Vlen) => {
-            let codec = vlen_create(alloc, metadata, maker)?;
-            Ok(MadeCodec::ToBytes(ArrayToBytesCodec::Vlen(codec)))
-        }
-        Some(KnownCodec::Optional) => {
-            let codec = optional_create(alloc, metadata, maker)?;
-            Ok(MadeCodec::ToBytes(ArrayToBytesCodec::Optional(codec)))
-        }
-        Some(KnownCodec::Sharding) => {
-            let codec = sharding_create(alloc, metadata, maker)?;
-            Ok(MadeCodec::ToBytes(ArrayToBytesCodec::Sharding(codec)))
-        }
-        None => asked(alloc, metadata, maker),
     }
 }
 

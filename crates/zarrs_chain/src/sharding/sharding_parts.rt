@@ -1,6 +1,6 @@
 //! What a `sharding_indexed` is made of, for who reads a part of its value.
 ghost use Rattle.std.specs.Prelude.{◌≡◌};
-ghost use Rattle.zarrs_chain_meaning.specs.PlainChain.{sharding_codec_of};
+ghost use Rattle.zarrs_chain_meaning.specs.CodecMeaning.{sharding_codec_of};
 ghost use Rattle.zarrs_chain.specs.ChainView.{plain_chain, plain_sharding};
 
 use crate::codec_chain::CodecChain;

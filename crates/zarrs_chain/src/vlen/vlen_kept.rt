@@ -6,7 +6,7 @@ ghost use Rattle.std.specs.Cmp.Lexicographic.{pointwise};
 ghost use Rattle.std.specs.Prelude.{◌≡◌, ℕ, Ok, false, length, true};
 ghost use Rattle.zarrs_array_bytes.specs.Offsets.{is_offsets};
 ghost use Rattle.zarrs_array_bytes.specs.Parts.{fixed_part};
-ghost use Rattle.zarrs_chain_meaning.specs.PlainChain.{packbits_codec};
+ghost use Rattle.zarrs_chain_meaning.specs.CodecMeaning.{packbits_codec};
 ghost use Rattle.zarrs_chain.specs.ChainView.{plain_codec};
 ghost use Rattle.zarrs_chain_meaning.specs.vlen.VlenSettings.{is_wide};
 ghost use Rattle.zarrs_chain_meaning.specs.vlen.VlenSteps.{offsets_fit, keeps_offsets, TakesOffsets, IsPackable, offsets_form, TellsKept};

@@ -10,13 +10,12 @@ use Rattle.zarrs_array_bytes.specs.Held.{Held, masked, owned_bytes}
 use Rattle.zarrs_array_bytes.specs.Present.{present_elements}
 use Rattle.zarrs_chain_meaning.specs.Meaning.{Decoder, in_a_row}
 use Rattle.zarrs_chain_meaning.specs.optional.Optional.{under_flags, blank_fill, flag_in}
-use Rattle.zarrs_chain_meaning.specs.CodecMeaning.{chain_chunk, codec_value}
+use Rattle.zarrs_chain_meaning.specs.CodecMeaning.{PlainCodec, PlainChain, codec_value, chain_chunk}
 use Rattle.zarrs_chain_meaning.specs.Parts.{byte_elements, for_each}
 use Rattle.std.proofs.Common.{Bor}
 use Rattle.zarrs_chunk.specs.ChunkShape.{product}
 use Rattle.zarrs_array_bytes.specs.Validity.{Holds}
 use Rattle.zarrs_codec.specs.BytesToBytesCodec.{BytesCodecs}
-use Rattle.zarrs_chain_meaning.specs.PlainChain.{PlainCodec, PlainChain}
 use Rattle.zarrs_chain_meaning.specs.declared.codec_name.TheConstants.{OPTIONAL}
 
 -- the type inside, or the error of a type that isn't optional

@@ -14,9 +14,8 @@ use Rattle.zarrs_array_bytes.specs.Tight.{from_first}
 use Rattle.zarrs_codec.specs.BytesToBytesCodec.{BytesCodecs}
 use Rattle.zarrs_packbits.specs.PackBitsSettings.{packed_layout, PackBitsSettings}
 use Rattle.zarrs_chain_meaning.specs.CodecFacts.{facts}
-use Rattle.zarrs_chain_meaning.specs.PlainChain.{PlainCodec, PlainChain}
 use Rattle.zarrs_chain_meaning.specs.vlen.Vlen.{offset_of, offsets_in_chunk, offset_bytes, offset_fits, offset_elements, is_same_bytes, offset_type}
-use Rattle.zarrs_chain_meaning.specs.CodecMeaning.{chain_chunk, chain_value, codec_normal_element}
+use Rattle.zarrs_chain_meaning.specs.CodecMeaning.{PlainCodec, PlainChain, codec_normal_element, chain_value, chain_chunk}
 use Rattle.zarrs_chunk.specs.ChunkShape.{product}
 use Rattle.zarrs_data_type.specs.ElementType.{ElementType}
 use Rattle.zarrs_array_bytes.specs.Validity.{Holds}

@@ -12,12 +12,11 @@ use Rattle.zarrs_chain_meaning.specs.Chain.{codec_reads}
 use Rattle.zarrs_chain.specs.ChainView.{plain_vlen}
 use Rattle.zarrs_codec_chain.specs.ChunkRead.{are_given_sure}
 use Rattle.zarrs_codec_chain.specs.CodecPart.{codec_read, codec_rests_on}
-use Rattle.zarrs_chain_meaning.specs.PlainChain.{PlainCodec}
 use Rattle.zarrs_codec_chain.specs.declared.vlen.vlen_partial_decoder.VlenPartialDecoder.{VlenPartialDecoder}
 use Rattle.zarrs_array_bytes.specs.Elements.{select}
 use Rattle.zarrs_array_bytes.specs.Held.{Held}
 use Rattle.zarrs_array_bytes.specs.Validity.{Holds}
-use Rattle.zarrs_chain_meaning.specs.CodecMeaning.{CodecStands}
+use Rattle.zarrs_chain_meaning.specs.CodecMeaning.{PlainCodec, CodecStands}
 use Rattle.zarrs_codec.specs.CodersOverHandles.{OnlyReads}
 
 -- the chunk that is read: through which array-to-bytes codec, its sizes, its type and its fill value

@@ -164,11 +164,7 @@ pub(crate) fn read_box<H: BytesPartialDecoderTraits, B: BytesToBytesCodecTraits>
         ArrayToBytesCodec::Sharding(codec) => {
             box_by_index(alloc, codec, handle, index, form, region)
         }
-        ArrayToBytesCodec::Bytes(_)
-        | ArrayToBytesCodec::PackBits(_)
-        | ArrayToBytesCodec::VlenV2(_)
-        | ArrayToBytesCodec::Vlen(_)
-        | ArrayToBytesCodec::Optional(_) => unreachable!(),
+        _ => unreachable!(),
     }
 }
 

@@ -3,7 +3,7 @@ ghost use Rattle.std.specs.Prelude.{◌≡◌};
 ghost use Rattle.zarrs_chain.specs.ChainView.{plain_chain, plain_sharding};
 ghost use Rattle.zarrs_chain.specs.FormView.{lent_form};
 ghost use Rattle.zarrs_chain.specs.sharding.ShardingCalls.{IsShardForm};
-ghost use Rattle.zarrs_chain_meaning.specs.PlainChain.{sharding_codec_of};
+ghost use Rattle.zarrs_chain_meaning.specs.CodecMeaning.{sharding_codec_of};
 ghost use Rattle.zarrs_codec_chain.specs.ChunkRead.{TakenBy};
 
 use zarrs_chain::ShardingCodec;

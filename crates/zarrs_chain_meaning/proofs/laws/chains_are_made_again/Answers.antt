@@ -1,4 +1,4 @@
-use Rattle.zarrs_chain_meaning.proofs.MadeAgain.{chains_made_again}
+use Rattle.zarrs_chain_meaning.proofs.CodecLaws.{chains_made_again}
 use Rattle.zarrs_chain_meaning.proofs.laws.chains_are_made_again.Goals as goal
 
 pub returns : goal.returns

@@ -2,7 +2,7 @@ use Rattle.std.specs.Prelude.{map}
 use Rattle.zarrs_metadata.specs.MetadataV3.{metadata_seen}
 use Rattle.zarrs_metadata.specs.PluginCreateError.{plugin_memory}
 use Rattle.zarrs_chain.specs.ChainView.{plain_chain}
-use Rattle.zarrs_chain_meaning.proofs.MadeAgain.{list_makes_again}
+use Rattle.zarrs_chain_meaning.proofs.CodecLaws.{list_makes_again}
 use Rattle.zarrs_chain.proofs.codec_chain.CodecChain.create_metadatas.Goals as goal
 
 pub returns-clause-made_again : goal.returns-clause-made_again

@@ -2,7 +2,7 @@ use Rattle.std.proofs.Common.{◌≡◌, ◌<◌, ◌^◌, Bool, true, false, Li
 use Rattle.std.proofs.lemmas.Bool.{true≢false}
 use Rattle.zarrs_array_bytes.specs.Validity.{Holds}
 use Rattle.zarrs_array_regions.specs.WindowLaws.{region_places}
-use Rattle.zarrs_chain_meaning.specs.PlainChain.{PlainCodec}
+use Rattle.zarrs_chain_meaning.specs.CodecMeaning.{PlainCodec}
 use Rattle.zarrs_chunk.specs.Answer.{AnswersBy, is_fault, memory_or_fault}
 use Rattle.zarrs_chunk.specs.Selection.{subset}
 use Rattle.zarrs_chunk.specs.declared.codec_error.CodecError.{CodecError}

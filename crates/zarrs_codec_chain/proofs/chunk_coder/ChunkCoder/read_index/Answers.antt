@@ -1,6 +1,6 @@
 use Rattle.std.proofs.Common.{◌≡◌, true, false, option_map, sym, subst}
 use Rattle.std.proofs.lemmas.Result.{err_from_is_err_and}
-use Rattle.zarrs_chain_meaning.specs.PlainChain.{PlainCodec}
+use Rattle.zarrs_chain_meaning.specs.CodecMeaning.{PlainCodec}
 use Rattle.zarrs_chunk.specs.Answer.{Answers, is_fault, memory_or_fault}
 use Rattle.zarrs_chunk.specs.Indexer.{selection_of}
 use Rattle.zarrs_codec_chain.specs.ChunkCoder.{coder_form}
