@@ -12,7 +12,7 @@ use Rattle.zarrs_codec.specs.StorageState.{are_sure}
 use Rattle.zarrs_codec_chain.proofs.ShardPlaces.{shard_behind_each, through_rests_each}
 use Rattle.zarrs_codec_chain.specs.ChunkRead.{are_given_sure}
 use Rattle.zarrs_codec_chain.specs.CodecPart.{Part, shard_part}
-use Rattle.zarrs_codec_chain.specs.KeptIndex.{IndexPart, shard_index_part}
+use Rattle.zarrs_codec_chain.specs.KeptIndex.{IndexPart, shard_index_of}
 use Rattle.zarrs_codec_chain.specs.PartRead.{PlaceReader}
 use Rattle.zarrs_codec_chain.specs.PlaceLaws.{IsLawfulReader, Resting, RestsEach, rests_through}
 use Rattle.zarrs_codec_chain.specs.ShardRead.{index_bytes_at, shard_rests_behind, spans_by, spans_in, spans_rest}
@@ -70,8 +70,8 @@ module _ {B : Type 0} (f : BytesCodecs B) (arrays : List ArrayMapping) (m : Mean
   shard_behind_sure sizes type fill (Some value) places sure e = behind_size inner_rests_on shape sizes type fill value places at_end (index.chunk f) sure (index_size (index.representation f) shape sizes) e
 
   -- the index of a shard keeps them
-  pub shard_index : IsLawfulReader f m (p.read f) (p.rests_on f) → IndexLaws f (shard.read f) (shard.rests_on f) (Some (shard_index_part index shape at_end)) shard.rests_behind
-  shard_index laws = record {
+  pub shard_index : (inner : Option (IndexPart B)) → IsLawfulReader f m (p.read f) (p.rests_on f) → IndexLaws f (shard.read f) (shard.rests_on f) (Some (shard_index_of inner index shape at_end)) shard.rests_behind
+  shard_index inner laws = record {
     refused = λ sizes type fill value places error e. spans_refused (spans_in shape at_end (index.representation f) (index.chunk f) sizes value) _ error e;
     bytes_sure = λ sizes type fill value places sure e. index_at_size inner_rests_on shape sizes type fill value places at_end (index.chunk f) sure (index_size (index.representation f) shape sizes) e;
     behind_sure = shard_behind_sure;

@@ -38,7 +38,7 @@ use Rattle.zarrs_codec_chain.proofs.IndexLaws.{IndexLaws, shard_index}
 use Rattle.zarrs_codec_chain.proofs.PlaceCodecs.{bytes_places, packbits_places, vlen_places, whole_places}
 use Rattle.zarrs_codec_chain.proofs.ShardPlaces.{shard_places, through_places}
 use Rattle.zarrs_codec_chain.specs.CodecPart.{part_of, codec_read, Part, bytes_part, packbits_part, shard_part, vlen_part, whole_part}
-use Rattle.zarrs_codec_chain.specs.KeptIndex.{IndexPart, index_of, shard_index_part}
+use Rattle.zarrs_codec_chain.specs.KeptIndex.{IndexPart, index_of, shard_index_of}
 use Rattle.zarrs_codec_chain.specs.PartRead.{whole_read}
 use Rattle.zarrs_codec_chain.specs.PlaceLaws.{SameMembers, ReadsEach, IsLawfulReader}
 
@@ -179,9 +179,9 @@ vlen_part_laws codec (Some form) p reads orderless = record {
 -- ---- shards
 
 -- where the array-to-bytes codec of the inner chain keeps them
-shard_part_laws : {B : Type 0} (arrays : List _) (m : Meaning B) (p : Part B) (outer : List B) (index : Meaning B) (shape : List ℕ) (at_end : Bool) → ((f : BytesCodecs B) → IsLawfulReader f m (p.read f) (p.rests_on f))
-    → IsLawfulPart (shard_meaning shape at_end (through arrays m outer) index) (record whole_facts { reads = true }) (Some (shard_index_part index shape at_end)) (shard_part arrays m p outer index shape at_end)
-shard_part_laws arrays m p outer index shape at_end laws = record {
+shard_part_laws : {B : Type 0} (arrays : List _) (m : Meaning B) (p : Part B) (inner : Option (IndexPart B)) (outer : List B) (index : Meaning B) (shape : List ℕ) (at_end : Bool) → ((f : BytesCodecs B) → IsLawfulReader f m (p.read f) (p.rests_on f))
+    → IsLawfulPart (shard_meaning shape at_end (through arrays m outer) index) (record whole_facts { reads = true }) (Some (shard_index_of inner index shape at_end)) (shard_part arrays m p outer index shape at_end)
+shard_part_laws arrays m p inner outer index shape at_end laws = record {
   places = λ f. shard_places f shape at_end (through arrays m outer) index _ _ (through_places f arrays m (p.read f) (p.rests_on f) outer (laws f));
   rests_alike = λ f sizes type fill stored places plans. absurd cc;
   alike = λ f value other sizes type fill places numbers plans. absurd cc;
@@ -192,7 +192,7 @@ shard_part_laws arrays m p outer index shape at_end laws = record {
   plainly = λ f form sizes type fill stored places e. absurd cc;
   rests_plainly = λ f form sizes type fill stored places e. absurd cc;
   in_place = λ order e. absurd cc;
-  indexed = λ f. shard_index f arrays m p outer index shape at_end (laws f);
+  indexed = λ f. shard_index f arrays m p outer index shape at_end inner (laws f);
   index_asks = λ e. refl;
 }
 
@@ -204,7 +204,7 @@ unfolding meaning
 part_laws (bytes_codec order) = bytes_part_laws order
 part_laws (packbits_codec settings) = packbits_part_laws settings
 part_laws (vlen_codec ia ix ib da dx db wide at_end) = vlen_part_laws (vlen_codec ia ix ib da dx db wide at_end) (facts (vlen_codec ia ix ib da dx db wide at_end)).plain refl refl refl
-part_laws (sharding_codec sa sx sb ia ix ib shape at_end) = shard_part_laws sa (meaning sx) (part_of sx) sb (through ia (meaning ix) ib) shape at_end (part_laws sx).places
+part_laws (sharding_codec sa sx sb ia ix ib shape at_end) = shard_part_laws sa (meaning sx) (part_of sx) (index_of sx) sb (through ia (meaning ix) ib) shape at_end (part_laws sx).places
 part_laws codec = whole_part_laws (meaning codec) (facts codec) refl refl refl
 
 -- ---- what follows

@@ -1,5 +1,5 @@
 -- What each array-to-bytes codec does in part, as one record: what a read of places answers and rests on, what is planned, and whether a write replaces its places' bytes alone.
-use Rattle.std.specs.Prelude.{ℕ, suc, if◌then◌else◌, Bool, true, false, Option, Some, None, unwrap_or, IsOkAnd, List, [], Result, Ok}
+use Rattle.std.specs.Prelude.{ℕ, if◌then◌else◌, Bool, true, false, Option, Some, None, unwrap_or, IsOkAnd, List, [], Ok}
 use Rattle.zarrs_bytes.specs.PartialRead.{place_bytes, place_size, read_places}
 use Rattle.zarrs_bytes.specs.PlannedRanges.{IsPlan as IsElementPlan}
 use Rattle.zarrs_chain_meaning.specs.CodecMeaning.{PlainCodec, bytes_codec, packbits_codec, vlen_codec, sharding_codec, meaning}
@@ -112,11 +112,6 @@ codec_plans codec = (part_of codec).plans
 -- the ranges are a plan of a read of these places, of a chunk of this form
 abbrev pub IsCodecPlan : {B : Type 0} → PlainCodec B → Form → List ℕ → List ByteSpan → Type 0
 IsCodecPlan codec form = (part_of codec).IsPlanned form.sizes form.type form.fill
-
--- how many shards stand in one another: none, but where the codec is `sharding_indexed`
-abbrev pub shard_depth : {B : Type 0} → PlainCodec B → ℕ
-shard_depth (sharding_codec sa sx sb ia ix ib shape at_end) = suc (shard_depth sx)
-shard_depth codec = 0
 
 -- the byte order of `bytes` without bytes-to-bytes codecs: there the bytes of places are those of their elements, and a write over a stored value replaces them alone
 abbrev pub order_in_place : {B : Type 0} → List B → PlainCodec B → Option (Option Endianness)

@@ -1,5 +1,6 @@
 -- The index of a shard that a decoder keeps: what it is of what is stored, and what a read by it rests on.
-use Rattle.std.specs.Prelude.{◌≡◌, ℕ, ◌*◌, ◌&&◌, Bool, true, false, Option, Some, None, IfSome, List, [], length, slice_get, Result, Ok, is_none, is_some, option_map}
+use Rattle.std.specs.Prelude.{◌≡◌, ℕ, suc, ◌*◌, ◌&&◌, Bool, true, false, Option, Some, None, IfSome, List, [], length, slice_get, Result, Ok, is_none, is_some, option_map}
+use Rattle.std.specs.Option.{option_map_or}
 use Rattle.std.proofs.Props.{props}
 use Rattle.zarrs_chunk.specs.Answer.{◌>>=◌}
 use Rattle.zarrs_chunk.specs.declared.codec_error.CodecError.{CodecError}
@@ -21,22 +22,32 @@ use Rattle.zarrs_codec_chain.specs.declared.sharding.shard_index.ShardIndex.{Sha
 abbrev pub asks_index : {B : Type 0} → List B → PlainCodec B → Bool
 asks_index outer codec = is_none (slice_get outer 0) && is_some (part_of codec).rests_behind
 
--- Of a codec whose values have an index: where the inner chunks of a value stand, by its index; and the numbers of the index's bytes.
+-- Of a codec whose values have an index: where the inner chunks of a value stand, by its index; the numbers of the index's bytes; and how many shards stand in one another.
 pub record IndexPart (B : Type 0) : Type 0 where
   pub spans : BytesCodecs B → List ℕ → List ℕ → Result (List Span) CodecError
   pub bytes : BytesCodecs B → List ℕ → List ℕ → Result (List ℕ) CodecError
+  pub depth : ℕ
 
--- of `sharding_indexed`, whose index chain means this
-abbrev pub shard_index_part : {B : Type 0} → Meaning B → List ℕ → Bool → IndexPart B
-shard_index_part index shape at_end = record {
+-- so many shards: none, where values have no index
+abbrev pub depth_with : {B : Type 0} → Option (IndexPart B) → ℕ
+depth_with part = option_map_or (λ index. index.depth) part 0
+
+-- of `sharding_indexed`, by that of its inner codec, where it has one, and by what its index chain means
+abbrev pub shard_index_of : {B : Type 0} → Option (IndexPart B) → Meaning B → List ℕ → Bool → IndexPart B
+shard_index_of inner index shape at_end = record {
   spans = λ f. spans_in shape at_end (index.representation f) (index.chunk f);
   bytes = λ f. index_bytes_in shape at_end (index.representation f);
+  depth = suc (depth_with inner);
 }
 
 -- of an array-to-bytes codec, where its values have one
 abbrev pub index_of : {B : Type 0} → PlainCodec B → Option (IndexPart B)
-index_of (sharding_codec sa sx sb ia ix ib shape at_end) = Some (shard_index_part (through ia (meaning ix) ib) shape at_end)
+index_of (sharding_codec sa sx sb ia ix ib shape at_end) = Some (shard_index_of (index_of sx) (through ia (meaning ix) ib) shape at_end)
 index_of codec = None
+
+-- how many shards stand in one another: none, but where the codec is `sharding_indexed`
+abbrev pub shard_depth : {B : Type 0} → PlainCodec B → ℕ
+shard_depth codec = depth_with (index_of codec)
 
 -- where the inner chunks of a value stand, by its index, or the first error; nowhere where values have none
 abbrev pub spans_with : {B : Type 0} → Option (IndexPart B) → BytesCodecs B → List ℕ → List ℕ → Result (List Span) CodecError

@@ -10,8 +10,8 @@ ghost use Rattle.zarrs_chain_meaning.specs.Chain.{codec_reads as codec_reads_of}
 ghost use Rattle.zarrs_chain.specs.ChainView.{plain_chain, plain_codec};
 ghost use Rattle.zarrs_chain.specs.FormView.{lent_form};
 ghost use Rattle.zarrs_codec_chain.specs.ChunkRead.{ChunkReadsRuns, GivesRuns, SureRuns, TakenBy};
-ghost use Rattle.zarrs_codec_chain.specs.CodecPart.{codec_plans, order_in_place, shard_depth, IsCodecPlan, rests_where};
-ghost use Rattle.zarrs_codec_chain.specs.KeptIndex.{asks_index, codec_index, index_seen};
+ghost use Rattle.zarrs_codec_chain.specs.CodecPart.{codec_plans, order_in_place, IsCodecPlan, rests_where};
+ghost use Rattle.zarrs_codec_chain.specs.KeptIndex.{asks_index, codec_index, index_seen, shard_depth};
 ghost use Rattle.zarrs_codec_chain.specs.SpanReads.{ReadsBox, SureBox, SurePlaces};
 
 use crate::sharding::box_reads::box_by_index;

@@ -10,7 +10,7 @@ ghost use Rattle.zarrs_chunk.specs.ChunkShape.{product};
 ghost use Rattle.zarrs_chunk.specs.Runs.{AreFilled, EndWithin, joined_runs};
 ghost use Rattle.zarrs_codec.specs.StorageState.{after_reading};
 ghost use Rattle.zarrs_codec_chain.specs.ChunkRead.{ChunkReadsRuns, GivesRunsOf, SureRuns, TakenBy};
-ghost use Rattle.zarrs_codec_chain.specs.CodecPart.{shard_depth};
+ghost use Rattle.zarrs_codec_chain.specs.KeptIndex.{shard_depth};
 ghost use Rattle.zarrs_codec_chain.specs.SpanReads.{StandsIn, seen_state};
 
 use crate::partial_decoder::codec_read::plain_runs;

@@ -4,7 +4,7 @@ use Rattle.zarrs_chain.specs.ChainView.{plain_chain, plain_codec, plain_sharding
 use Rattle.zarrs_chain_meaning.specs.sharding.Sharding.{spans_of}
 use Rattle.zarrs_codec_chain.proofs.GroupWalks.{WalkedTo}
 use Rattle.zarrs_codec_chain.specs.ChunkRead.{are_given_sure}
-use Rattle.zarrs_codec_chain.specs.CodecPart.{shard_depth}
+use Rattle.zarrs_codec_chain.specs.KeptIndex.{shard_depth}
 use Rattle.zarrs_codec_chain.specs.ShardRead.{groups_rest}
 use Rattle.zarrs_codec_chain.specs.SpanReads.{chain_read, chain_rests, seen_state}
 use Rattle.zarrs_shard_runs.specs.GroupedRuns.{group}
