@@ -23,7 +23,7 @@ is_kept [] sizes region = false
 is_kept (codec ∷ codecs) sizes region =
     is_ok (bounds_of (subset region) sizes) && is_filled region && keeps_regions (codec ∷ codecs)
 
--- the box that a selection is, where it goes through array-to-array codecs as a box
+-- the box that a selection is, where it goes through array-to-array codecs, at least one, as a box
 abbrev pub kept_region : List ArrayMapping → List ℕ → Selection → Option Region
 kept_region codecs sizes (subset region) = if is_kept codecs sizes region then Some region else None
 kept_region codecs sizes (indices tuples) = None

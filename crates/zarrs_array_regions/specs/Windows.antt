@@ -76,7 +76,7 @@ abbrev pub behind_window : {A : Type 0} → Option Window → A → (Window → 
 behind_window None stay go = stay
 behind_window (Some next) stay go = go next
 
--- The window that codecs take one of the chunk's own sizes to, one after another. From a reshape on it stays, since all later codecs leave each place where it is.
+-- The window that codecs take one of the chunk's own sizes to, one after another. From a reshape on it stays: where codecs keep regions, all later ones leave each place where it is.
 abbrev pub last_window : List ArrayMapping → Window → Window
 last_window [] window = window
 last_window (codec ∷ codecs) window = behind_window (next_window codec window) window (last_window codecs)

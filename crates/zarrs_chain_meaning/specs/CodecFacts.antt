@@ -23,7 +23,7 @@ if_alone _ _ _ = None
 abbrev pub whole_facts : Facts
 whole_facts = record { reads = false; order = None; plain = None; Packs = λ form. Unit {0} }
 
--- Those of an array-to-bytes codec: the one definition that goes by all of them. A `vlen` is plain by the byte orders of its chains, where each is `bytes` alone; `sharding_indexed` is read by its index, and by what its inner chain reads; any other is read whole.
+-- Those of an array-to-bytes codec. A `vlen` is plain by the byte orders of its chains, where each is `bytes` alone; `sharding_indexed` is read by its index, and by what its inner chain reads; any other is read whole.
 abbrev pub facts : {B : Type 0} → PlainCodec B → Facts
 facts (bytes_codec order) = record whole_facts { reads = true; order = Some order }
 facts (packbits_codec settings) = record whole_facts { reads = true; Packs = λ form. IsOk (packed_layout settings form) }

@@ -78,7 +78,7 @@ packbits_meaning settings =
     (λ form chunk. packed_layout settings form >>= λ l. Ok (value_with l (chunk_stream l chunk)))
     (packbits_chunk settings) (PackBitsStands settings) (PackBitsWritten settings)
 
--- what an array-to-bytes codec means: the one definition that goes by all of them
+-- what an array-to-bytes codec means
 unfoldable pub meaning : {B : Type 0} → PlainCodec B → Meaning B
 meaning (bytes_codec order) = bytes_meaning order
 meaning (packbits_codec settings) = packbits_meaning settings

@@ -35,7 +35,7 @@ Standing = List ℕ → ElementType → List ℕ → List ℕ → Chunk → Type
 abbrev pub Keeping : Type 0
 Keeping = ElementType → Element → Element
 
--- Which array-to-array codecs hold to their types; what is left of an element; and by the caller's bytes-to-bytes codecs: how many bytes a chunk has, its value, the chunk of a value, for which chunk a value stands, and which value is written for a chunk.
+-- All array-to-array codecs inside are orders, reshapes or squeezes, and no inner chunk has a size of zero; what is left of an element; and by the caller's bytes-to-bytes codecs: how many bytes a chunk has, its value, the chunk of a value, for which chunk a value stands, and which value is written for a chunk.
 pub record Meaning (B : Type 0) : Type 1 where
   pub Mapped : Type 0
   pub normal : Keeping
@@ -66,7 +66,7 @@ in_a_row none asked (suc count) = asked (suc count ∷ [])
 
 -- ---- chains
 
--- that of a chain, by that of its array-to-bytes codec: the array-to-array codecs in order, then the array-to-bytes codec; bytes-to-bytes codecs reject nothing
+-- how many bytes a chunk has through a chain, or the first error: of the array-to-array codecs in order, then of the array-to-bytes codec, which says it by `measure`; bytes-to-bytes codecs reject nothing
 abbrev pub around_representation : {B : Type 0} → BytesCodecs B → List ArrayMapping → Measure → List B → Measure
 around_representation f arrays measure outer sizes type fill = do
   m ← arrays_map type arrays sizes

@@ -65,7 +65,7 @@ reads_places outer codec = is_none (slice_get outer 0) && (part_of codec).plans
 abbrev pub form_in_place : {B : Type 0} → ChunkForm B → Option (Option Endianness)
 form_in_place form = if_alone [] (facts form.chain.array_to_bytes).order form.chain.bytes_to_bytes
 
--- the region that a selection selects, where its bytes are planned in the order in which they stand: over `bytes` without bytes-to-bytes codecs, of one that goes through the array-to-array codecs as a region
+-- the region that a selection selects, where its bytes are planned in the order in which they stand: over `bytes` without bytes-to-bytes codecs, of one that goes through array-to-array codecs, at least one, as a region
 abbrev pub planned_region : {B : Type 0} → ChunkForm B → Selection → Option Region
 planned_region form selection =
     if is_some (form_in_place form) then kept_region form.chain.array_to_array form.sizes selection else None

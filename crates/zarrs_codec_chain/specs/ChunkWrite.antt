@@ -31,7 +31,7 @@ use Rattle.zarrs_array_bytes.specs.Validity.{data_fit, validity}
 use Rattle.zarrs_codec.specs.declared.capabilities.PartialEncoderCapability.{PartialEncoderCapability}
 use Rattle.zarrs_chain_meaning.specs.Chain.{chain_writes}
 
--- The value that new elements at these places leave, or the first error. Where nothing is stored, it is that of the chunk of fill elements with the new ones. Of a stored value it is, over `bytes` without bytes-to-bytes codecs, the value with the bytes of the places, as they go through the array-to-array codecs, replaced; else that of the chunk that it stands for, with the new elements.
+-- The value that new elements at these places leave, or the first error. Where nothing is stored, it is that of the chunk of fill elements with the new ones. Of a stored value it is, over `bytes` without bytes-to-bytes codecs, the value with the bytes of the places, as they go through the array-to-array codecs, replaced, and with zeros before those that lie behind its end; else that of the chunk that it stands for, with the new elements.
 abbrev pub value_left : {B : Type 0} → BytesCodecs B → ChunkForm B → Option (Option Endianness) → Option (List ℕ) → List ℕ → Held → Result (List ℕ) CodecError
 value_left f form order None places new = (chain_meaning form.chain).value f form.sizes form.type form.fill (with_elements form.type (filled_chunk form.sizes form.type form.fill) places new)
 value_left f form None (Some value) places new = do

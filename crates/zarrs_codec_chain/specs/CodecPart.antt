@@ -1,4 +1,4 @@
--- What each array-to-bytes codec does in part, as one record: what a read of places answers and rests on, what is planned, and whether a write replaces its places' bytes alone.
+-- What each array-to-bytes codec does in part, as one record.
 use Rattle.std.specs.Prelude.{ℕ, if◌then◌else◌, Bool, true, false, Option, Some, None, unwrap_or, IsOkAnd, List, [], Ok}
 use Rattle.zarrs_bytes.specs.PartialRead.{place_bytes, place_size, read_places}
 use Rattle.zarrs_bytes.specs.PlannedRanges.{IsPlan as IsElementPlan}
@@ -23,7 +23,7 @@ use Rattle.zarrs_packbits.specs.ReadPlan.{IsPackBitsPlan}
 use Rattle.zarrs_plain_vlen.specs.PlainRead.{plain_read}
 use Rattle.zarrs_plain_vlen.specs.VlenRead.{stored_rests_on}
 
--- The bytes that are there may be none: nothing is stored. What is asked of a plan, and of what a read rests on, is asked of places of the chunk that the codec gets; of a codec whose values have an index, what a read rests on behind it too.
+-- What a codec does in part, at places of the chunk that it gets: what a read answers; the numbers of the bytes that it rests on; whether it plans them, and which ranges are such a plan; and of a codec whose values have an index, what a read rests on behind it. Where bytes are optional, none means that nothing is stored.
 pub record Part (B : Type 0) : Type 1 where
   pub read : BytesCodecs B → PlaceReader
   pub rests_on : BytesCodecs B → Resting

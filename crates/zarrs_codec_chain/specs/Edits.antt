@@ -43,11 +43,11 @@ abbrev pub edited_store : {B : Type 0} → BytesCodecs B → ChunkForm B → Opt
 edited_store f form stored (Encode indexer new) = seen (λ value. Some value) (stored_written f form stored (selection_of indexer) new)
 edited_store f form stored Erase = Ok None
 
--- What is stored is nothing, or written for a chunk: then P holds of that chunk or of nothing. (Each number of the chunk is a byte.)
+-- P holds of each chunk of bytes for which what is stored is written, and of nothing where nothing is stored; over any other value this says nothing
 abbrev pub OfWritten : {B : Type 0} → BytesCodecs B → ChunkForm B → Option (List ℕ) → (Option Chunk → Type 0) → Type 0
 OfWritten f form stored P = (state : Option Chunk) → IfSome state (All HasBytes) → IsStoredFor f form stored state → P state
 
--- What was stored before these edits was nothing, or written for a chunk: then what is stored is written for the chunk as they leave it, or nothing where the last of them erases.
+-- Where nothing was stored before these edits, or a value that is written for a chunk of bytes, what is stored is written for the chunk as they leave it, or nothing where the last of them erases; over any other value this says nothing.
 abbrev pub LeavesWritten : {B : Type 0} → BytesCodecs B → ChunkForm B → List Edit → Option (List ℕ) → Option (List ℕ) → Type 0
 LeavesWritten f form edits before after =
     OfWritten f form before (λ state. IsOkAnd (all_made (edited_state form) edits state) (IsStoredFor f form after))
@@ -89,7 +89,7 @@ LeavesEdits (Some refusal) accepted left =
 
 -- ---- what a list of edits gives
 
--- What a beginning of the edits leaves, behind which one is rejected, or none. From nothing, or from a value that is written for a chunk, what is stored is written for the chunk as the accepted edits leave it: where none was rejected, where the handle is atomic, and where the rejected one made no writing call. An edit is rejected, a lack of memory and a failure of the handle aside, exactly where it can't be made of that chunk or no value is written for what it makes. Each accepted edit makes one writing call; of a rejected one is left what a rejected write leaves.
+-- What a beginning of the edits leaves, behind which one is rejected, or none. From nothing, or from a value that is written for a chunk, what is stored is written for the chunk as the accepted edits leave it, where one of these holds: none was rejected; the handle is atomic; the rejected one made no writing call. An edit is rejected, a lack of memory and a failure of the handle aside, exactly where it can't be made of that chunk or no value is written for what it makes. Each accepted edit makes one writing call; of a rejected one is left what a rejected write leaves.
 pub record RunsEdits {B : Type 0} (f : BytesCodecs B) (form : ChunkForm B) (atomic : Bool) (before after : StorageState) (edits : List Edit) (outcome : EditOutcome) : Type 0 where
   pub written : IfNone outcome.refusal (LeavesWritten f form edits before.value after.value)
   pub written_if_atomic : atomic ≡ true → LeavesWritten f form (take outcome.done edits) before.value after.value

@@ -124,7 +124,7 @@ groups_rest rests shape type fill value spans (group ∷ groups) = do
   behind ← groups_rest rests shape type fill value spans groups
   Ok (here ++ behind)
 
--- none where the index can't be read
+-- the numbers of the bytes that reads of the inner chunks rest on, by where these stand; none where the index can't be read
 abbrev pub spans_rest : Resting → List ℕ → List ℕ → ElementType → List ℕ → List ℕ → List ℕ → Result (List Span) CodecError → Result (List ℕ) CodecError
 spans_rest rests shape sizes type fill value places (Ok spans) = each_inner ◌++◌ (λ span. span_rests (is_stored span) rests shape type fill value span) shape sizes places 0 spans
 spans_rest rests shape sizes type fill value places (Err cause) = Ok []

@@ -22,7 +22,7 @@ use Rattle.zarrs_data_type.specs.FillValue.{fill_fits}
 abbrev pub flag_type : ElementType
 flag_type = fixed 1 1 false
 
--- the fill value that a chain of present elements gets
+-- the fill value that a chain of present elements gets: zeros for a fixed type, absent for an optional one, no bytes for texts and byte strings
 abbrev pub blank_fill : ElementType → List ℕ
 blank_fill (fixed width components sign) = replicate (element_size width components) 0
 blank_fill (optional type) = 0 ∷ []
@@ -40,7 +40,7 @@ bounded_total total (BoundedSize one) (FixedSize other) = bounded (total one oth
 bounded_total total (BoundedSize one) (BoundedSize other) = bounded (total one other)
 bounded_total total _ _ = UnboundedSize
 
--- that of `optional`: it asks the mask chain and then the data chain, both at the full shape
+-- how many bytes a value of `optional` has at most, or the first error: that of the mask chain, and then that of the data chain, both at the full shape
 abbrev pub optional_representation : Measure → Measure → Measure
 optional_representation mask data' sizes (optional type) fill = do
   _ ← demand (fill_fits (optional type) fill) InvalidFillValue
@@ -120,7 +120,7 @@ optional_normal data' type element = element
 
 -- ---- what stands and what is written
 
--- Two lengths, a mask part and a data part of just these lengths. The mask part stands for zeros and ones, the data part for the present elements in a row.
+-- Two lengths, a mask part and a data part of just these lengths. The mask part stands for zeros and ones, the data part for the present elements in a row; where there are none, it may be any bytes.
 pub record OptionalStands (mask content : Standing) (sizes : List ℕ) (type : ElementType) (value : List ℕ) (chunk : Chunk) : Type 0 where
   pub head : List ℕ
   pub next : List ℕ

@@ -72,7 +72,7 @@ is_left_out keep type fill inner_chunk = list_all (is_kept_as_fill keep type fil
 
 -- ---- which chunks, and how many bytes
 
--- the representation of the value of such a chunk, or the first error: inner chunks that don't divide the chunk, that of the inner chain, a fill value that isn't its own normal form, and that of the index chain
+-- the representation of the value of such a chunk, or the first error: inner chunks that don't divide the chunk, elements that 64 bits don't count, or their bytes, that of the inner chain, a fill value that isn't its own normal form, and that of the index chain
 abbrev pub shard_representation : List ℕ → Keeping → Measure → Measure → Measure
 shard_representation shape keep inner index sizes type fill = do
   _ ← demand (length shape == length sizes) IncompatibleDimensionality
@@ -109,7 +109,7 @@ abbrev pub shard_layout : Bool → List ℕ → List ℕ → List ℕ
 shard_layout false index values = index ++ values
 shard_layout true index values = values ++ index
 
--- the value of a chunk that the codec takes, or the first error: of the inner chain, in order; of a value that 64 bits don't count; of the index chain, which has to keep the numbers
+-- the value of a chunk that the codec takes, or the first error: of the inner chain, in order; of inner chunks' values that 64 bits don't count, behind the index where it stands before them; of the index chain, which has to keep the numbers
 abbrev pub shard_value : List ℕ → Bool → Keeping → Keeping → Measure → Encoder → Encoder → Encoder
 shard_value shape at_end keep index_keep index_measure inner index sizes type fill chunk = do
   size ← index_size index_measure shape sizes
@@ -160,7 +160,7 @@ abbrev pub InnerChunkStands : Bool → Standing → List ℕ → ElementType →
 InnerChunkStands false inner shape type fill value span inner_chunk = inner_chunk ≡ filled_chunk shape type fill
 InnerChunkStands true inner shape type fill value span inner_chunk = (span.0 + span.1 ≤ length value) × inner shape type fill (spanned_bytes value span) inner_chunk
 
--- The index, before other bytes or behind them, stands for two numbers for each inner chunk; and the bytes at these stand for that inner chunk. They are in any order, and may overlap.
+-- The index, before other bytes or behind them, stands for two numbers for each inner chunk; and the bytes at these stand for that inner chunk. They are in any order, and may overlap one another and the index.
 pub record ShardStands (shape : List ℕ) (at_end : Bool) (index_measure : Measure) (inner index : Standing) (sizes : List ℕ) (type : ElementType) (fill value : List ℕ) (chunk : Chunk) : Type 0 where
   pub divided : is_divided shape sizes ≡ true
   pub size : ℕ

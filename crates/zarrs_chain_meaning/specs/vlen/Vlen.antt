@@ -23,7 +23,7 @@ use Rattle.zarrs_data_type.specs.ElementType.{ElementType, fixed, text, bytes, i
 
 -- ---- which chunks, and how many bytes
 
--- that of `vlen`: it doesn't ask the inner chains
+-- how many bytes a value of `vlen` has, or the first error; its inner chains aren't asked
 abbrev pub vlen_representation : Measure
 vlen_representation sizes type fill = do
   _ ← demand (is_variable type) (UnsupportedDataType VLEN)
@@ -120,7 +120,7 @@ vlen_normal data' type element = element
 
 -- ---- what stands and what is written
 
--- A length, an index part of that length and a data part. The index part stands for offsets, one more than elements, which never fall; the data part for as many bytes as the last of them says; and an element is the bytes from one offset to the next.
+-- A length, an index part of that length and a data part. The index part stands for offsets, one more than elements, which never fall; the data part for as many bytes as the last of them says, and where that is none it may be any bytes; and an element is the bytes from one offset to the next.
 pub record VlenStands (wide at_end : Bool) (index content : Standing) (count : ℕ) (value : List ℕ) (chunk : Chunk) : Type 0 where
   pub head : List ℕ
   pub index_part : List ℕ
