@@ -123,7 +123,7 @@ offsets_rise form count part offsets e =
     let n = bind_ok (checked_u64 (count + 1)) _ offsets e in
     let rows = bind_ok (bytes_chunk (Some form.order) (offsets_form form.wide (count + 1)) part) _ offsets n.2 in
     let rising = bind_ok (demand (rises (offsets_in_chunk form.wide rows.0)) InvalidOffsets) _ offsets rows.2 in
-    subst (λ (x : List ℕ). rises x ≡ true) (ok_is (offsets_in_chunk form.wide rows.0) offsets rising.2) (demand_ok (rises (offsets_in_chunk form.wide rows.0)) InvalidOffsets rising.0 rising.1)
+    subst (λ (x : List ℕ). rises x ≡ true) (ok_is (offsets_in_chunk form.wide rows.0) offsets rising.2) (demand_ok (rises (offsets_in_chunk form.wide rows.0)) InvalidOffsets rising.1)
 
 -- ---- what a call answers
 
