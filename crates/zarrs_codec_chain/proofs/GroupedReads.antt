@@ -16,7 +16,7 @@ use Rattle.zarrs_chain_meaning.specs.CodecMeaning.{meaning}
 use Rattle.zarrs_chain_meaning.specs.Meaning.{Measure, Decoder, through}
 use Rattle.zarrs_chain_meaning.specs.PlainChain.{PlainCodec}
 use Rattle.zarrs_chain_meaning.specs.sharding.InnerChunks.{grid, inner_chunk_count, inner_chunk_of, place_inside, IsCut}
-use Rattle.zarrs_chain_meaning.specs.sharding.Sharding.{index_shape, index_size, Span, is_stored, spans_of, index_part_of, spanned_bytes}
+use Rattle.zarrs_chain_meaning.specs.sharding.Sharding.{index_shape, index_size, Span, is_stored, spans_of, index_part_of, spanned_bytes, spans_by}
 use Rattle.zarrs_chain_meaning.specs.vlen.Vlen.{offset_type, offset_bytes, offsets_in_chunk}
 use Rattle.zarrs_chunk.specs.Answer.{◌>>=◌, demand, seen}
 use Rattle.zarrs_chunk.specs.ChunkShape.{product}
@@ -30,7 +30,7 @@ use Rattle.zarrs_codec_chain.specs.ChunkRead.{are_given_sure}
 use Rattle.zarrs_codec_chain.specs.CodecPart.{codec_read}
 use Rattle.zarrs_codec_chain.specs.PartRead.{PlaceReader}
 use Rattle.zarrs_codec_chain.specs.PlaceLaws.{Resting, ReadsEach, read_through}
-use Rattle.zarrs_codec_chain.specs.ShardRead.{spans_by, spans_read, groups_read, index_bytes_at, span_rests, spans_rest, groups_rest, shard_rests, of_any, each_inner}
+use Rattle.zarrs_codec_chain.specs.ShardRead.{spans_read, groups_read, index_bytes_at, span_rests, spans_rest, groups_rest, shard_rests, of_any, each_inner}
 use Rattle.zarrs_data_type.specs.Element.{Chunk, Element}
 use Rattle.zarrs_data_type.specs.ElementType.{ElementType}
 use Rattle.zarrs_shard_runs.specs.GroupedRuns.{group_elements, IsReadingOrder}

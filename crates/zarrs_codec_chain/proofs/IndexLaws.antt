@@ -4,7 +4,7 @@ use Rattle.zarrs_bytes.proofs.BytesAt.{sure_parts}
 use Rattle.zarrs_bytes.proofs.Coding.{ok}
 use Rattle.zarrs_array_to_array.specs.ArrayToArrayCodec.{ArrayMapping}
 use Rattle.zarrs_chain_meaning.specs.Meaning.{Decoder, Meaning}
-use Rattle.zarrs_chain_meaning.specs.sharding.Sharding.{Span, index_size}
+use Rattle.zarrs_chain_meaning.specs.sharding.Sharding.{Span, index_size, spans_by, spans_in}
 use Rattle.zarrs_chunk.specs.Answer.{◌>>=◌}
 use Rattle.zarrs_chunk.specs.declared.codec_error.CodecError.{CodecError}
 use Rattle.zarrs_codec.specs.BytesToBytesCodec.{BytesCodecs}
@@ -15,7 +15,7 @@ use Rattle.zarrs_codec_chain.specs.CodecPart.{Part, shard_part}
 use Rattle.zarrs_codec_chain.specs.KeptIndex.{IndexPart, shard_index_of}
 use Rattle.zarrs_codec_chain.specs.PartRead.{PlaceReader}
 use Rattle.zarrs_codec_chain.specs.PlaceLaws.{IsLawfulReader, Resting, RestsEach, rests_through}
-use Rattle.zarrs_codec_chain.specs.ShardRead.{index_bytes_at, shard_rests_behind, spans_by, spans_in, spans_rest}
+use Rattle.zarrs_codec_chain.specs.ShardRead.{index_bytes_at, shard_rests_behind, spans_rest}
 use Rattle.zarrs_data_type.specs.Element.{Chunk}
 use Rattle.zarrs_data_type.specs.ElementType.{ElementType}
 

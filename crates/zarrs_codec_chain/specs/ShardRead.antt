@@ -4,10 +4,9 @@ use Rattle.std.specs.Prelude.{◌≡◌, ℕ, zero, suc, ◌+◌, ◌-◌, nat_l
 use Rattle.std.proofs.Common.{◌∙◌, ap, sym}
 use Rattle.zarrs_chain_meaning.specs.Meaning.{Measure, Decoder}
 use Rattle.zarrs_chain_meaning.specs.sharding.InnerChunks.{inner_chunk_of}
-use Rattle.zarrs_chain_meaning.specs.sharding.Sharding.{index_shape, index_size, Span, is_stored, spans_of, index_part_of, spanned_bytes}
-use Rattle.zarrs_chain_meaning.specs.vlen.Vlen.{offset_type, offset_bytes, offsets_in_chunk}
+use Rattle.zarrs_chain_meaning.specs.sharding.Sharding.{index_size, Span, is_stored, spans_by, spans_in, spanned_bytes}
 use Rattle.zarrs_chunk.specs.Answer.{◌>>=◌, demand, seen}
-use Rattle.zarrs_chunk.specs.declared.codec_error.CodecError.TheVariants.{InvalidBytesLength, InvalidByteRange}
+use Rattle.zarrs_chunk.specs.declared.codec_error.CodecError.TheVariants.{InvalidByteRange}
 use Rattle.zarrs_chunk.specs.declared.codec_error.CodecError.{CodecError}
 use Rattle.zarrs_codec.specs.CountLaws.{passed, same_value}
 use Rattle.zarrs_codec_chain.specs.PartRead.{PlaceReader, AnswersEach, each_count}
@@ -17,17 +16,6 @@ use Rattle.zarrs_data_type.specs.ElementType.{ElementType}
 use Rattle.zarrs_shard_runs.specs.PlacesInside.{places_of_inner}
 
 -- ---- the answer
-
--- where the inner chunks stand, by the index of a value whose index has so many bytes; or the first error
-abbrev pub spans_by : List ℕ → Bool → Decoder → List ℕ → List ℕ → ℕ → Result (List Span) CodecError
-spans_by shape at_end index sizes value size = do
-  _ ← demand (nat_le size (length value)) (InvalidBytesLength (length value) size)
-  rows ← index (index_shape shape sizes) (offset_type true) (offset_bytes true 0) (index_part_of at_end size value)
-  Ok (spans_of (offsets_in_chunk true rows))
-
--- the same, by how many bytes the index chain makes of an index
-abbrev pub spans_in : List ℕ → Bool → Measure → Decoder → List ℕ → List ℕ → Result (List Span) CodecError
-spans_in shape at_end measure index sizes value = index_size measure shape sizes >>= spans_by shape at_end index sizes value
 
 -- the elements at places of the inner chunk at a span: by its own bytes; fill elements where it isn't stored
 abbrev pub span_read : Bool → PlaceReader → List ℕ → ElementType → List ℕ → List ℕ → Span → List ℕ → Result Chunk CodecError
