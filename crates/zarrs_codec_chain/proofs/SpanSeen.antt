@@ -12,7 +12,8 @@ use Rattle.zarrs_chain.specs.sharding.ShardingCalls.{index_size_of}
 use Rattle.zarrs_chain_meaning.proofs.ArraySteps.{ok_is}
 use Rattle.zarrs_chain_meaning.specs.CodecMeaning.{chain_chunk}
 use Rattle.zarrs_chain_meaning.specs.sharding.InnerChunks.{grid}
-use Rattle.zarrs_chain_meaning.specs.sharding.Sharding.{Span, index_part_of, index_shape, spanned_bytes, spans_of, spans_by}
+use Rattle.zarrs_codec_chain.proofs.ShardReads.{spans_by}
+use Rattle.zarrs_chain_meaning.specs.sharding.Sharding.{Span, index_part_of, index_shape, spanned_bytes, spans_of}
 use Rattle.zarrs_chain_meaning.specs.vlen.Vlen.{offset_type, offset_bytes, offsets_in_chunk}
 use Rattle.zarrs_chunk.proofs.Inside.{from_le_test}
 use Rattle.zarrs_chunk.specs.Answer.{◌>>=◌, Answers, demand, memory, memory_or_fault, seen}

@@ -124,16 +124,13 @@ abbrev pub index_part_of : Bool → ℕ → List ℕ → List ℕ
 index_part_of false size value = take size value
 index_part_of true size value = drop (length value - size) value
 
--- where the inner chunks stand, by the index of a value whose index has so many bytes; or the first error
-abbrev pub spans_by : List ℕ → Bool → Decoder → List ℕ → List ℕ → ℕ → Result (List Span) CodecError
-spans_by shape at_end index sizes value size = do
+-- where the inner chunks stand, by the index of a value, or the first error
+abbrev pub spans_in : List ℕ → Bool → Measure → Decoder → List ℕ → List ℕ → Result (List Span) CodecError
+spans_in shape at_end measure index sizes value = do
+  size ← index_size measure shape sizes
   _ ← demand (nat_le size (length value)) (InvalidBytesLength (length value) size)
   rows ← index (index_shape shape sizes) (offset_type true) (offset_bytes true 0) (index_part_of at_end size value)
   Ok (spans_of (offsets_in_chunk true rows))
-
--- the same, by how many bytes the index chain makes of an index
-abbrev pub spans_in : List ℕ → Bool → Measure → Decoder → List ℕ → List ℕ → Result (List Span) CodecError
-spans_in shape at_end measure index sizes value = index_size measure shape sizes >>= spans_by shape at_end index sizes value
 
 -- the bytes of a span
 abbrev pub spanned_bytes : List ℕ → Span → List ℕ
