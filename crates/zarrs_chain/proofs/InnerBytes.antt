@@ -22,7 +22,8 @@ use Rattle.zarrs_array_bytes.specs.Validity.{Holds, levels_fit, sizes_fit, valid
 use Rattle.zarrs_array_bytes.proofs.ValidLemmas.{both_ok}
 use Rattle.zarrs_bytes.proofs.Coding.{ok}
 use Rattle.zarrs_chain_meaning.specs.Meaning.{Decoder}
-use Rattle.zarrs_chain_meaning.specs.sharding.Sharding.{Span, inner_chunk_at, inner_chunks_at, is_stored, spans_of}
+use Rattle.zarrs_chain_meaning.specs.sharding.ShardSteps.{inner_chunks_at}
+use Rattle.zarrs_chain_meaning.specs.sharding.Sharding.{Span, inner_chunk_at, is_stored, spans_of}
 use Rattle.zarrs_chain_meaning.specs.vlen.VlenSteps.{lent_bytes}
 use Rattle.zarrs_chain_meaning.proofs.ArraySteps.{ok_is}
 use Rattle.zarrs_chain_meaning.proofs.VlenOffsets.{fixed_held}

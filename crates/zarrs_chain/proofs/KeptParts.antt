@@ -44,7 +44,8 @@ use Rattle.zarrs_chain_meaning.specs.BytesStages.{in_memory, outer_value}
 use Rattle.zarrs_chain_meaning.specs.Chain.{taken_form}
 use Rattle.zarrs_chain_meaning.specs.CodecMeaning.{PlainCodec, bytes_codec, meaning, codec_normal_element, codec_representation, codec_value, chain_value}
 use Rattle.zarrs_chain_meaning.specs.KeptBytes.{codec_keeps_bytes}
-use Rattle.zarrs_chain_meaning.specs.sharding.Sharding.{inner_value, is_left_out}
+use Rattle.zarrs_chain_meaning.specs.sharding.ShardSteps.{inner_value}
+use Rattle.zarrs_chain_meaning.specs.sharding.Sharding.{is_left_out}
 use Rattle.zarrs_chain_meaning.proofs.ArraySteps.{at_ok, next_answer, ok_is, ok_no_err}
 use Rattle.zarrs_chain_meaning.proofs.ChainSteps.{is_ok_of, is_taken, seen_ok, validity_fits}
 use Rattle.zarrs_chain.specs.ChainView.{plain_chain}

@@ -15,7 +15,8 @@ use Rattle.zarrs_array_bytes.proofs.WriteLemmas.{length-update}
 use Rattle.zarrs_bytes.proofs.Coding.{ok}
 use Rattle.zarrs_chain_meaning.specs.Meaning.{Decoder}
 use Rattle.zarrs_chain_meaning.specs.sharding.InnerChunks.{IsCut, inner_chunk_count, inner_chunk_of, inner_chunk_places, joined_inner_chunks, place_in_shard, place_inside}
-use Rattle.zarrs_chain_meaning.specs.sharding.Sharding.{Span, inner_chunk_at, inner_chunks_at, is_stored, spans_of, spanned_bytes}
+use Rattle.zarrs_chain_meaning.specs.sharding.ShardSteps.{inner_chunks_at}
+use Rattle.zarrs_chain_meaning.specs.sharding.Sharding.{Span, inner_chunk_at, is_stored, spans_of, spanned_bytes}
 use Rattle.zarrs_chain_meaning.proofs.InnerChunks.{joined_at, joined_long, places_long}
 use Rattle.zarrs_chain.specs.sharding.ShardWalk.{chunk_behind, chunk_with}
 use Rattle.zarrs_bytes.specs.PartialWrite.{filled_chunk}

@@ -15,7 +15,8 @@ use Rattle.zarrs_chain_meaning.specs.BytesStages.{in_memory}
 use Rattle.zarrs_chain_meaning.specs.CodecMeaning.{chain_representation, chain_value, codec_normal_element, normal_form}
 use Rattle.zarrs_chain_meaning.specs.Meaning.{Encoder, Keeping}
 use Rattle.zarrs_chain_meaning.specs.sharding.InnerChunks.{grid, inner_chunk_count, inner_chunk_places, inner_chunks_of}
-use Rattle.zarrs_chain_meaning.specs.sharding.Sharding.{first_offset, index_numbers, index_shape, index_size, inner_value, is_left_out, joined_values, missing, shard_layout, shard_value}
+use Rattle.zarrs_chain_meaning.specs.sharding.ShardSteps.{inner_value}
+use Rattle.zarrs_chain_meaning.specs.sharding.Sharding.{first_offset, index_numbers, index_shape, index_size, is_left_out, joined_values, missing, shard_layout, shard_value}
 use Rattle.zarrs_chain_meaning.specs.vlen.Vlen.{is_same_bytes, offset_bytes, offset_elements, offset_type}
 use Rattle.zarrs_chain_meaning.proofs.ArraySteps.{ok_is, next_answer}
 use Rattle.zarrs_chain_meaning.proofs.ChainSteps.{next_err}

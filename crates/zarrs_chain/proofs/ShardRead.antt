@@ -19,8 +19,8 @@ use Rattle.zarrs_codec.specs.BytesToBytesCodec.{BytesCodecs}
 use Rattle.zarrs_chain_meaning.specs.CodecMeaning.{PlainChain, chain_representation, chain_chunk}
 use Rattle.zarrs_chain_meaning.specs.Meaning.{Decoder}
 use Rattle.zarrs_chain_meaning.specs.sharding.InnerChunks.{inner_chunk_count, inner_chunk_places, is_divided, joined_inner_chunks}
-use Rattle.zarrs_chain_meaning.specs.sharding.Sharding.{Span, spanned_bytes, index_part_of, index_shape, index_size, inner_chunk_at, inner_chunks_at, shard_chunk, spans_of}
-use Rattle.zarrs_chain_meaning.specs.sharding.ShardSteps.{index_bytes, stored_span}
+use Rattle.zarrs_chain_meaning.specs.sharding.Sharding.{Span, spanned_bytes, index_part_of, index_shape, index_size, inner_chunk_at, shard_chunk, spans_of}
+use Rattle.zarrs_chain_meaning.specs.sharding.ShardSteps.{index_bytes, stored_span, inner_chunks_at}
 use Rattle.zarrs_chain_meaning.specs.vlen.Vlen.{offset_bytes, offset_type, offsets_in_chunk}
 use Rattle.zarrs_chain_meaning.proofs.ArraySteps.{ok_is}
 use Rattle.zarrs_chain_meaning.proofs.ChainSteps.{held_chunk}
@@ -104,22 +104,25 @@ pub shard_read : {B : Type 0} (f : BytesCodecs B) (inner index : PlainChain B) (
     → shard_chunk shape at_end (chain_representation f index) (chain_chunk f inner) (chain_chunk f index) sizes type fill value
     ≡ inner_chunks_at (chain_chunk f inner) shape type fill value (spans_of numbers) >>= (λ inner_chunks. ok (joined_inner_chunks shape sizes inner_chunks))
 shard_read f inner index shape at_end sizes type fill value part numbers size sized there found =
-    ap (λ r. r >>= rest) sized ∙ by_size (nat_le size (length value)) there
+    ap (λ r. r >>= rest >>= tail) sized ∙ by_size (nat_le size (length value)) there
   where
-    tail : List ℕ → Result Chunk CodecError
-    tail numbers = inner_chunks_at (chain_chunk f inner) shape type fill value (spans_of numbers) >>= (λ inner_chunks. ok (joined_inner_chunks shape sizes inner_chunks))
+    tail : List Span → Result Chunk CodecError
+    tail spans = inner_chunks_at (chain_chunk f inner) shape type fill value spans >>= (λ inner_chunks. ok (joined_inner_chunks shape sizes inner_chunks))
 
-    read : List ℕ → Result Chunk CodecError
-    read part = chain_chunk f index (index_shape shape sizes) (offset_type true) (offset_bytes true 0) part >>= λ rows. tail (offsets_in_chunk true rows)
+    spans_at : Result Chunk CodecError → Result (List Span) CodecError
+    spans_at r = r >>= λ rows. ok (spans_of (offsets_in_chunk true rows))
 
-    rest : ℕ → Result Chunk CodecError
+    read : List ℕ → Result (List Span) CodecError
+    read part = spans_at (chain_chunk f index (index_shape shape sizes) (offset_type true) (offset_bytes true 0) part)
+
+    rest : ℕ → Result (List Span) CodecError
     rest size = demand (nat_le size (length value)) (InvalidBytesLength (length value) size) >>= λ _. read (index_part_of at_end size value)
 
-    seen_then : (r : Result Chunk CodecError) → seen (offsets_in_chunk true) r ≡ Ok numbers → r >>= (λ rows. tail (offsets_in_chunk true rows)) ≡ tail numbers
-    seen_then (Ok rows) e = ap tail (ok_is (offsets_in_chunk true rows) numbers e)
+    seen_then : (r : Result Chunk CodecError) → seen (offsets_in_chunk true) r ≡ Ok numbers → spans_at r >>= tail ≡ tail (spans_of numbers)
+    seen_then (Ok rows) e = ap (λ (ns : List ℕ). tail (spans_of ns)) (ok_is (offsets_in_chunk true rows) numbers e)
     seen_then (Err cause) e = absurd cc
 
     by_size : (test : Bool) → demand test (InvalidBytesLength (length value) size) >>= (λ _. ok (index_part_of at_end size value)) ≡ Ok part
-        → demand test (InvalidBytesLength (length value) size) >>= (λ _. read (index_part_of at_end size value)) ≡ tail numbers
-    by_size true e = ap read (ok_is (index_part_of at_end size value) part e) ∙ seen_then (chain_chunk f index (index_shape shape sizes) (offset_type true) (offset_bytes true 0) part) found
+        → demand test (InvalidBytesLength (length value) size) >>= (λ _. read (index_part_of at_end size value)) >>= tail ≡ tail (spans_of numbers)
+    by_size true e = ap (λ (p : List ℕ). read p >>= tail) (ok_is (index_part_of at_end size value) part e) ∙ seen_then (chain_chunk f index (index_shape shape sizes) (offset_type true) (offset_bytes true 0) part) found
     by_size false e = absurd cc

@@ -22,8 +22,8 @@ use Rattle.zarrs_codec.proofs.Fences.{second_true}
 use Rattle.zarrs_chain_meaning.specs.CodecMeaning.{chain_chunk, chain_representation}
 use Rattle.zarrs_chain_meaning.specs.Meaning.{Decoder}
 use Rattle.zarrs_chain_meaning.specs.sharding.InnerChunks.{grid, inner_chunk_places, is_divided, joined_inner_chunks}
-use Rattle.zarrs_chain_meaning.specs.sharding.Sharding.{Span, index_shape, index_size, inner_chunk_at, inner_chunks_at, is_stored, spans_of}
-use Rattle.zarrs_chain_meaning.specs.sharding.ShardSteps.{divided_grid, index_bytes}
+use Rattle.zarrs_chain_meaning.specs.sharding.Sharding.{Span, index_shape, index_size, inner_chunk_at, is_stored, spans_of}
+use Rattle.zarrs_chain_meaning.specs.sharding.ShardSteps.{divided_grid, index_bytes, inner_chunks_at}
 use Rattle.zarrs_chain_meaning.specs.vlen.Vlen.{offset_bytes, offset_type, offsets_in_chunk}
 use Rattle.zarrs_chain_meaning.proofs.ArraySteps.{ok_is}
 use Rattle.zarrs_chain_meaning.proofs.ChainSteps.{held_chunk}

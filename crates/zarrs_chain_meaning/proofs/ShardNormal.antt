@@ -16,7 +16,8 @@ use Rattle.zarrs_chain_meaning.proofs.NestedNormal.{KeepsTypes, KeepsTwice, Keep
 use Rattle.zarrs_chain_meaning.proofs.NestedStages.{in_memory_so, is_positive}
 use Rattle.zarrs_chain_meaning.specs.Meaning.{Measure, Encoder, Standing, Keeping}
 use Rattle.zarrs_chain_meaning.specs.sharding.InnerChunks.{is_divided, grid, inner_chunk_count, inner_chunks_of}
-use Rattle.zarrs_chain_meaning.specs.sharding.Sharding.{index_shape, index_size, shard_representation, is_same_element, is_kept_as_fill, is_left_out, inner_value, joined_values, index_numbers, first_offset, shard_layout, shard_value, InnerChunkWritten, ShardWritten}
+use Rattle.zarrs_chain_meaning.specs.sharding.ShardSteps.{inner_value}
+use Rattle.zarrs_chain_meaning.specs.sharding.Sharding.{index_shape, index_size, shard_representation, is_same_element, is_kept_as_fill, is_left_out, joined_values, index_numbers, first_offset, shard_layout, shard_value, InnerChunkWritten, ShardWritten}
 use Rattle.zarrs_chain_meaning.specs.vlen.Vlen.{offset_type, offset_bytes, offset_elements, is_same_bytes}
 use Rattle.zarrs_chunk.proofs.Inside.{from_lt_test}
 use Rattle.zarrs_chunk.specs.Answer.{demand, checked_u64}

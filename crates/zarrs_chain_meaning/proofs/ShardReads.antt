@@ -13,7 +13,8 @@ use Rattle.zarrs_chain_meaning.proofs.NestedRoom.{HasFill}
 use Rattle.zarrs_chain_meaning.proofs.NestedStages.{is_positive}
 use Rattle.zarrs_chain_meaning.specs.Meaning.{Measure, Decoder, Standing, Keeping}
 use Rattle.zarrs_chain_meaning.specs.sharding.InnerChunks.{grid, inner_chunk_count, inner_chunk_of, place_inside, inner_chunks_of, joined_inner_chunks, IsCut}
-use Rattle.zarrs_chain_meaning.specs.sharding.Sharding.{index_shape, index_size, Span, is_stored, spans_of, shard_representation, shard_layout, index_part_of, spanned_bytes, inner_chunk_at, inner_chunks_at, shard_chunk, InnerChunkStands, ShardStands}
+use Rattle.zarrs_chain_meaning.specs.sharding.ShardSteps.{inner_chunks_at}
+use Rattle.zarrs_chain_meaning.specs.sharding.Sharding.{index_shape, index_size, Span, is_stored, spans_of, shard_representation, shard_layout, index_part_of, spans_in, spanned_bytes, inner_chunk_at, shard_chunk, InnerChunkStands, ShardStands}
 use Rattle.zarrs_chain_meaning.specs.vlen.Vlen.{offset_type, offset_bytes, offsets_in_chunk}
 use Rattle.zarrs_chunk.proofs.Inside.{from_le_test}
 use Rattle.zarrs_chunk.specs.Answer.{demand}
@@ -26,6 +27,39 @@ use Rattle.zarrs_data_type.specs.ElementType.{ElementType}
 use Rattle.zarrs_data_type.specs.FillValue.{fill_fits}
 use Rattle.zarrs_chain_meaning.proofs.ShardNormal.{shard_taken, product_two}
 use Rattle.zarrs_bytes.specs.PartialWrite.{filled_chunk}
+
+-- ---- a chunk that is answered
+
+-- its steps: the index, and the inner chunks
+pub record ChunkOpened (shape : List ℕ) (at_end : Bool) (measure : Measure) (inner index : Decoder) (sizes : List ℕ) (type : ElementType) (fill value : List ℕ) (chunk : Chunk) : Type 0 where
+  pub size : ℕ
+  pub rows : Chunk
+  pub inner_chunks : List Chunk
+  pub sized : index_size measure shape sizes ≡ Ok size
+  pub enough : nat_le size (length value) ≡ true
+  pub found : index (index_shape shape sizes) (offset_type true) (offset_bytes true 0) (index_part_of at_end size value) ≡ Ok rows
+  pub read : inner_chunks_at inner shape type fill value (spans_of (offsets_in_chunk true rows)) ≡ Ok inner_chunks
+  pub joined : joined_inner_chunks shape sizes inner_chunks ≡ chunk
+
+pub chunk_opened : (shape : List ℕ) (at_end : Bool) (measure : Measure) (inner index : Decoder) (sizes : List ℕ) (type : ElementType) (fill value : List ℕ) (chunk : Chunk)
+    → shard_chunk shape at_end measure inner index sizes type fill value ≡ Ok chunk → ChunkOpened shape at_end measure inner index sizes type fill value chunk
+chunk_opened shape at_end measure inner index sizes type fill value chunk e =
+    let s = bind_ok (spans_in shape at_end measure index sizes value) _ chunk e in
+    let a = bind_ok (index_size measure shape sizes) _ s.0 s.1 in
+    let b = bind_ok (demand (nat_le a.0 (length value)) (InvalidBytesLength (length value) a.0)) _ s.0 a.2 in
+    let c = bind_ok (index (index_shape shape sizes) (offset_type true) (offset_bytes true 0) (index_part_of at_end a.0 value)) _ s.0 b.2 in
+    let g = bind_ok (inner_chunks_at inner shape type fill value s.0) _ chunk s.2 in
+    let same : spans_of (offsets_in_chunk true c.0) ≡ s.0 = ok_is (spans_of (offsets_in_chunk true c.0)) s.0 c.2 in
+    record {
+      size = a.0;
+      rows = c.0;
+      inner_chunks = g.0;
+      sized = a.1;
+      enough = demand_ok (nat_le a.0 (length value)) (InvalidBytesLength (length value) a.0) b.0 b.1;
+      found = c.1;
+      read = ap (inner_chunks_at inner shape type fill value) same ∙ g.1;
+      joined = ok_is (joined_inner_chunks shape sizes g.0) chunk g.2;
+    }
 
 -- ---- what is answered stands
 
@@ -94,28 +128,23 @@ shard_reads shape at_end keep im measure inner index decode index_decode p fills
     let taken = shard_taken shape keep im measure sizes type fill r t in
     let cut = is_cut shape sizes p taken.divided in
     let h = fills shape type fill taken.inner_size taken.inner_is in
-    let a = bind_ok (index_size measure shape sizes) _ chunk e in
-    let b = bind_ok (demand (nat_le a.0 (length value)) (InvalidBytesLength (length value) a.0)) _ chunk a.2 in
-    let part = index_part_of at_end a.0 value in
-    let c = bind_ok (index_decode (index_shape shape sizes) (offset_type true) (offset_bytes true 0) part) _ chunk b.2 in
-    let numbers = offsets_in_chunk true c.0 in
-    let g = bind_ok (inner_chunks_at decode shape type fill value (spans_of numbers)) _ chunk c.2 in
-    let joined : joined_inner_chunks shape sizes g.0 ≡ chunk = ok_is (joined_inner_chunks shape sizes g.0) chunk g.2 in
-    let enough = from_le_test a.0 (length value) (demand_ok (nat_le a.0 (length value)) (InvalidBytesLength (length value) a.0) b.0 b.1) in
-    let split = index_cut at_end a.0 value enough in
-    let rows = d (index_shape shape sizes) (offset_type true) (offset_bytes true 0) part c.0 (index_positive shape sizes positive cut) c.1 in
-    let read = chunks_read inner decode i shape type fill value (spans_of numbers) g.0 p h g.1 in
-    let twice : length numbers ≡ inner_chunk_count shape sizes * 2 = length-map c.0 _ ∙ rows.1.count_is ∙ product_two (grid shape sizes) in
-    let count : length g.0 ≡ inner_chunk_count shape sizes = read.long ∙ spans_long (inner_chunk_count shape sizes) numbers twice in
-    let is : IsChunk type (product sizes) chunk = subst (IsChunk type (product sizes)) joined (joined_are shape sizes type g.0 cut count read.are) in
-    let again : inner_chunks_of shape sizes chunk ≡ g.0 = ap (inner_chunks_of shape sizes) (sym joined) ∙ inner_chunks_again shape sizes g.0 cut count (λ k l. (read.are k [] l).count_is) in (
+    let o = chunk_opened shape at_end measure decode index_decode sizes type fill value chunk e in
+    let part = index_part_of at_end o.size value in
+    let numbers = offsets_in_chunk true o.rows in
+    let split = index_cut at_end o.size value (from_le_test o.size (length value) o.enough) in
+    let rows = d (index_shape shape sizes) (offset_type true) (offset_bytes true 0) part o.rows (index_positive shape sizes positive cut) o.found in
+    let read = chunks_read inner decode i shape type fill value (spans_of numbers) o.inner_chunks p h o.read in
+    let twice : length numbers ≡ inner_chunk_count shape sizes * 2 = length-map o.rows _ ∙ rows.1.count_is ∙ product_two (grid shape sizes) in
+    let count : length o.inner_chunks ≡ inner_chunk_count shape sizes = read.long ∙ spans_long (inner_chunk_count shape sizes) numbers twice in
+    let is : IsChunk type (product sizes) chunk = subst (IsChunk type (product sizes)) o.joined (joined_are shape sizes type o.inner_chunks cut count read.are) in
+    let again : inner_chunks_of shape sizes chunk ≡ o.inner_chunks = ap (inner_chunks_of shape sizes) (sym o.joined) ∙ inner_chunks_again shape sizes o.inner_chunks cut count (λ k l. (read.are k [] l).count_is) in (
       record {
         divided = taken.divided;
-        size = a.0;
+        size = o.size;
         index_part = part;
         others = split.0;
-        rows = c.0;
-        sized = a.1;
+        rows = o.rows;
+        sized = o.sized;
         parts = split.1;
         index_long = split.2;
         index_stands = rows.0;

@@ -1,5 +1,5 @@
 -- How many bytes `sharding_indexed` writes; and what it asks of chunks.
-use Rattle.std.proofs.Common.{◌≡◌, ℕ, suc, ◌+◌, ◌*◌, ◌/◌, ◌%◌, ◌≤◌, nat_eq, nat_le, Bool, true, false, Option, Some, None, List, [], ◌∷◌, length, Ok, arith, refl, ap, sym, subst, ◌∙◌}
+use Rattle.std.proofs.Common.{◌≡◌, ℕ, suc, ◌+◌, ◌*◌, ◌/◌, ◌%◌, ◌≤◌, nat_eq, Bool, true, false, Option, Some, None, List, [], ◌∷◌, length, Ok, arith, refl, ap, sym, subst, ◌∙◌}
 use Rattle.std.specs.List.{All, AllZip}
 use Rattle.std.proofs.lemmas.Bool.{eqb-true}
 use Rattle.std.proofs.lemmas.List.{length-append}
@@ -14,12 +14,11 @@ use Rattle.zarrs_chain_meaning.proofs.NestedKept.{WritesMeasured, AreKept, offse
 use Rattle.zarrs_chain_meaning.proofs.NestedRoom.{HasRoom, HasFill}
 use Rattle.zarrs_chain_meaning.proofs.NestedStages.{is_byte, is_positive}
 use Rattle.zarrs_chain_meaning.specs.Meaning.{Measure, Decoder, Standing, Keeping}
-use Rattle.zarrs_chain_meaning.specs.sharding.InnerChunks.{is_divided, grid, inner_chunk_count, inner_chunks_of, joined_inner_chunks}
-use Rattle.zarrs_chain_meaning.specs.sharding.Sharding.{index_shape, fixed_size, index_size, spans_of, shard_representation, is_left_out, joined_values, index_numbers, first_offset, shard_layout, index_part_of, inner_chunks_at, shard_chunk, InnerChunkWritten, ShardWritten}
-use Rattle.zarrs_chain_meaning.specs.vlen.Vlen.{offset_type, offset_bytes, offset_elements, offsets_in_chunk}
-use Rattle.zarrs_chunk.specs.Answer.{demand, checked_u64}
+use Rattle.zarrs_chain_meaning.specs.sharding.InnerChunks.{is_divided, grid, inner_chunk_count, inner_chunks_of}
+use Rattle.zarrs_chain_meaning.specs.sharding.Sharding.{index_shape, fixed_size, shard_representation, is_left_out, joined_values, index_numbers, first_offset, shard_layout, shard_chunk, InnerChunkWritten, ShardWritten}
+use Rattle.zarrs_chain_meaning.specs.vlen.Vlen.{offset_type, offset_bytes, offset_elements}
+use Rattle.zarrs_chunk.specs.Answer.{checked_u64}
 use Rattle.zarrs_chunk.specs.ChunkShape.{product}
-use Rattle.zarrs_chunk.specs.declared.codec_error.CodecError.TheVariants.{InvalidBytesLength}
 use Rattle.zarrs_codec.proofs.Fences.{second_true, first_true}
 use Rattle.zarrs_codec.specs.BytesToBytesCodec.{KeepsTo, IsAtMost, AreBytes}
 use Rattle.zarrs_codec.specs.declared.bytes_representation.BytesRepresentation.{BytesRepresentation}
@@ -28,6 +27,7 @@ use Rattle.zarrs_data_type.specs.Element.{Chunk}
 use Rattle.zarrs_data_type.specs.ElementType.{ElementType}
 use Rattle.zarrs_packbits.specs.Laws.{HasBytes}
 use Rattle.zarrs_chain_meaning.proofs.ShardNormal.{shard_taken, product_two}
+use Rattle.zarrs_chain_meaning.proofs.ShardReads.{chunk_opened}
 use Rattle.zarrs_chain_meaning.specs.optional.Optional.{bounded_total}
 
 -- ---- sizes
@@ -193,8 +193,5 @@ shard_fits shape keep im measure law sizes type fill r e =
 
 pub shard_long : (shape : List ℕ) (at_end : Bool) (measure : Measure) (inner index : Decoder) (sizes : List ℕ) (type : ElementType) (fill value : List ℕ) (chunk : Chunk) → shard_chunk shape at_end measure inner index sizes type fill value ≡ Ok chunk → length chunk ≡ product sizes
 shard_long shape at_end measure inner index sizes type fill value chunk e =
-    let a = bind_ok (index_size measure shape sizes) _ chunk e in
-    let b = bind_ok (demand (nat_le a.0 (length value)) (InvalidBytesLength (length value) a.0)) _ chunk a.2 in
-    let c = bind_ok (index (index_shape shape sizes) (offset_type true) (offset_bytes true 0) (index_part_of at_end a.0 value)) _ chunk b.2 in
-    let g = bind_ok (inner_chunks_at inner shape type fill value (spans_of (offsets_in_chunk true c.0))) _ chunk c.2 in
-    ap length (sym (ok_is (joined_inner_chunks shape sizes g.0) chunk g.2)) ∙ joined_long shape sizes g.0
+    let o = chunk_opened shape at_end measure inner index sizes type fill value chunk e in
+    ap length (sym o.joined) ∙ joined_long shape sizes o.inner_chunks

@@ -22,7 +22,8 @@ use Rattle.zarrs_chain_meaning.specs.BytesStages.{in_memory}
 use Rattle.zarrs_chain_meaning.proofs.NestedStages.{is_positive}
 use Rattle.zarrs_chain_meaning.specs.Meaning.{Measure, Encoder, Decoder, Standing, Keeping}
 use Rattle.zarrs_chain_meaning.specs.sharding.InnerChunks.{inner_chunks_of, joined_inner_chunks}
-use Rattle.zarrs_chain_meaning.specs.sharding.Sharding.{index_shape, fixed_size, index_size, missing, Span, is_stored, spans_of, is_same_element, is_kept_as_fill, is_left_out, inner_value, joined_values, index_numbers, first_offset, shard_layout, shard_value, index_part_of, spanned_bytes, inner_chunk_at, inner_chunks_at, shard_chunk, InnerChunkStands, ShardStands, InnerChunkWritten, ShardWritten}
+use Rattle.zarrs_chain_meaning.specs.sharding.ShardSteps.{inner_value, inner_chunks_at}
+use Rattle.zarrs_chain_meaning.specs.sharding.Sharding.{index_shape, fixed_size, index_size, missing, Span, is_stored, spans_of, is_same_element, is_kept_as_fill, is_left_out, joined_values, index_numbers, first_offset, shard_layout, shard_value, index_part_of, spanned_bytes, inner_chunk_at, shard_chunk, InnerChunkStands, ShardStands, InnerChunkWritten, ShardWritten}
 use Rattle.zarrs_chain_meaning.specs.vlen.Vlen.{offset_type, offset_bytes, offset_of, offset_elements, offsets_in_chunk, is_same_bytes}
 use Rattle.zarrs_chunk.proofs.Inside.{le_test, lt_test}
 use Rattle.zarrs_chunk.specs.ChunkShape.{product}

@@ -24,12 +24,12 @@ use Rattle.zarrs_chunk.specs.declared.codec_error.CodecError.TheVariants.{Invali
 use Rattle.zarrs_codec.specs.BytesToBytesCodec.{BytesCodecs}
 use Rattle.zarrs_codec.specs.StorageState.{are_sure}
 use Rattle.zarrs_codec_chain.proofs.LawfulPart.{part_laws}
-use Rattle.zarrs_codec_chain.proofs.ShardReads.{each_at, picked, none_refused, pick_at, refusals, spans_are, through_each}
+use Rattle.zarrs_codec_chain.proofs.ShardReads.{each_at, picked, none_refused, pick_at, refusals, spans_are, through_each, spans_by, spans_rest}
 use Rattle.zarrs_codec_chain.specs.ChunkRead.{are_given_sure}
 use Rattle.zarrs_codec_chain.specs.CodecPart.{codec_read}
 use Rattle.zarrs_codec_chain.specs.PartRead.{PlaceReader}
 use Rattle.zarrs_codec_chain.specs.PlaceLaws.{Resting, ReadsEach, read_through}
-use Rattle.zarrs_codec_chain.specs.ShardRead.{spans_by, spans_read, groups_read, index_bytes_at, span_rests, spans_rest, groups_rest, shard_rests, of_any, each_inner}
+use Rattle.zarrs_codec_chain.specs.ShardRead.{spans_read, groups_read, index_bytes_at, span_rests, groups_rest, shard_rests, of_any, each_inner}
 use Rattle.zarrs_data_type.specs.Element.{Chunk, Element}
 use Rattle.zarrs_data_type.specs.ElementType.{ElementType}
 use Rattle.zarrs_shard_runs.specs.GroupedRuns.{group_elements, IsReadingOrder}
@@ -184,7 +184,8 @@ pub shard_sure : (shape : List ℕ) (at_end : Bool) (measure : Measure) (index :
 shard_sure shape at_end measure index rests sizes type fill value places numbers sure size sized e h =
     let a = bind_ok (index_size measure shape sizes) _ numbers e in
     let same : a.0 ≡ size = ok_is a.0 size (sym a.1 ∙ sized) in
-    let here = subst (λ (n : ℕ). (spans_rest rests shape sizes type fill value places (spans_by shape at_end index sizes value n) >>= λ behind. ok (index_bytes_at at_end n value ++ behind)) ≡ Ok numbers) same a.2 in
+    let there = subst (λ (s : Result ℕ CodecError). (spans_rest rests shape sizes type fill value places (s >>= spans_by shape at_end index sizes value) >>= λ behind. ok (index_bytes_at at_end a.0 value ++ behind)) ≡ Ok numbers) a.1 a.2 in
+    let here = subst (λ (n : ℕ). (spans_rest rests shape sizes type fill value places (spans_by shape at_end index sizes value n) >>= λ behind. ok (index_bytes_at at_end n value ++ behind)) ≡ Ok numbers) same there in
     let b = bind_ok (spans_rest rests shape sizes type fill value places (spans_by shape at_end index sizes value size)) _ numbers here in
     (sure_parts sure (index_bytes_at at_end size value) b.0 (subst (λ (ns : List ℕ). are_sure sure ns ≡ true) (sym (ok_is (index_bytes_at at_end size value ++ b.0) numbers b.2)) h)).0
 

@@ -13,6 +13,7 @@ use Rattle.zarrs_chain.specs.declared.codec_chain.CodecChain.{CodecChain}
 use Rattle.zarrs_chain_meaning.proofs.InnerChunks.{is_cut}
 use Rattle.zarrs_chain_meaning.specs.CodecMeaning.{PlainCodec, chain_chunk}
 use Rattle.zarrs_chain_meaning.specs.sharding.InnerChunks.{IsCut, inner_chunk_count, is_divided}
+use Rattle.zarrs_codec_chain.proofs.ShardReads.{spans_by, spans_rest}
 use Rattle.zarrs_chain_meaning.specs.sharding.Sharding.{Span, spans_of}
 use Rattle.zarrs_chunk.specs.Answer.{◌>>=◌, AnswersBy, memory, memory_or_fault}
 use Rattle.zarrs_chunk.specs.ChunkShape.{product}
@@ -28,7 +29,7 @@ use Rattle.zarrs_codec_chain.proofs.ShardParts.{chain_count, groups_long}
 use Rattle.zarrs_codec_chain.proofs.ShardSpans.{StoredShard, all_read, behind_are, by_spans, known, spans_known}
 use Rattle.zarrs_codec_chain.specs.ChunkRead.{are_given_sure}
 use Rattle.zarrs_codec_chain.specs.KeptIndex.{IsIndex}
-use Rattle.zarrs_codec_chain.specs.ShardRead.{groups_rest, spans_by, spans_read, spans_rest}
+use Rattle.zarrs_codec_chain.specs.ShardRead.{spans_read}
 use Rattle.zarrs_codec_chain.specs.SpanReads.{AreInnerRuns, PutsInOrder, chain_read, chain_rests, stored_groups_read, stored_groups_rest, stored_spans}
 use Rattle.zarrs_data_type.specs.Element.{Chunk}
 use Rattle.zarrs_data_type.specs.ElementType.{ElementType}

@@ -4,7 +4,8 @@ use Rattle.zarrs_bytes.proofs.BytesAt.{sure_parts}
 use Rattle.zarrs_bytes.proofs.Coding.{ok}
 use Rattle.zarrs_array_to_array.specs.ArrayToArrayCodec.{ArrayMapping}
 use Rattle.zarrs_chain_meaning.specs.Meaning.{Decoder, Meaning}
-use Rattle.zarrs_chain_meaning.specs.sharding.Sharding.{Span, index_size}
+use Rattle.zarrs_codec_chain.proofs.ShardReads.{spans_by, spans_rest}
+use Rattle.zarrs_chain_meaning.specs.sharding.Sharding.{Span, index_size, spans_in}
 use Rattle.zarrs_chunk.specs.Answer.{◌>>=◌}
 use Rattle.zarrs_chunk.specs.declared.codec_error.CodecError.{CodecError}
 use Rattle.zarrs_codec.specs.BytesToBytesCodec.{BytesCodecs}
@@ -15,7 +16,7 @@ use Rattle.zarrs_codec_chain.specs.CodecPart.{Part, shard_part}
 use Rattle.zarrs_codec_chain.specs.KeptIndex.{IndexPart, shard_index_of}
 use Rattle.zarrs_codec_chain.specs.PartRead.{PlaceReader}
 use Rattle.zarrs_codec_chain.specs.PlaceLaws.{IsLawfulReader, Resting, RestsEach, rests_through}
-use Rattle.zarrs_codec_chain.specs.ShardRead.{index_bytes_at, shard_rests_behind, spans_by, spans_in, spans_rest}
+use Rattle.zarrs_codec_chain.specs.ShardRead.{index_bytes_at, shard_rests_behind}
 use Rattle.zarrs_data_type.specs.Element.{Chunk}
 use Rattle.zarrs_data_type.specs.ElementType.{ElementType}
 
@@ -47,7 +48,7 @@ spans_refused r next error e = λ i. e i >>= next
 
 module _ (rests : Resting) (shape sizes : List ℕ) (type : ElementType) (fill value places : List ℕ) (at_end : Bool) (index : Decoder) (sure : Option (ℕ → Bool)) where
   abbrev all_of : Result ℕ CodecError → Result (List ℕ) CodecError
-  all_of size = size >>= λ n. spans_rest rests shape sizes type fill value places (spans_by shape at_end index sizes value n) >>= λ behind. ok (index_bytes_at at_end n value ++ behind)
+  all_of size = size >>= λ n. spans_rest rests shape sizes type fill value places (size >>= spans_by shape at_end index sizes value) >>= λ behind. ok (index_bytes_at at_end n value ++ behind)
 
   behind_size : (size : Result ℕ CodecError) → are_given_sure sure (all_of size) ≡ true → are_given_sure sure (spans_rest rests shape sizes type fill value places (size >>= spans_by shape at_end index sizes value)) ≡ true
   behind_size (Ok n) e = second_sure sure (index_bytes_at at_end n value) (spans_rest rests shape sizes type fill value places (spans_by shape at_end index sizes value n)) e

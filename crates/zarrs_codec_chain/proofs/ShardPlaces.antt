@@ -18,12 +18,14 @@ use Rattle.zarrs_chain_meaning.proofs.ChainSteps.{seen_ok}
 use Rattle.zarrs_chain_meaning.proofs.InnerChunks.{is_cut}
 use Rattle.zarrs_chain_meaning.proofs.NestedStages.{arrays_are_map, is_positive}
 use Rattle.zarrs_chain_meaning.proofs.ShardNormal.{shard_taken}
+use Rattle.zarrs_chain_meaning.proofs.ShardReads.{chunk_opened}
 use Rattle.zarrs_chain_meaning.specs.ArrayStages.{arrays_map}
 use Rattle.zarrs_chain_meaning.specs.BytesStages.{outer_bytes}
 use Rattle.zarrs_chain_meaning.specs.Meaning.{Measure, Decoder, Meaning, around_representation, around_chunk, through}
 use Rattle.zarrs_chain_meaning.specs.sharding.InnerChunks.{inner_chunk_of, place_inside, joined_inner_chunks, IsCut}
-use Rattle.zarrs_chain_meaning.specs.sharding.Sharding.{index_shape, index_size, Span, is_stored, spans_of, index_part_of, spanned_bytes, inner_chunk_at, inner_chunks_at, shard_representation, shard_chunk, shard_meaning}
-use Rattle.zarrs_chain_meaning.specs.vlen.Vlen.{offset_type, offset_bytes, offsets_in_chunk}
+use Rattle.zarrs_chain_meaning.specs.sharding.ShardSteps.{inner_chunks_at}
+use Rattle.zarrs_chain_meaning.specs.sharding.Sharding.{index_size, Span, is_stored, spans_of, index_part_of, spanned_bytes, inner_chunk_at, shard_representation, shard_chunk, shard_meaning, spans_in}
+use Rattle.zarrs_chain_meaning.specs.vlen.Vlen.{offsets_in_chunk}
 use Rattle.zarrs_chunk.proofs.Inside.{from_le_test}
 use Rattle.zarrs_chunk.specs.Answer.{◌>>=◌, demand, seen}
 use Rattle.zarrs_chunk.specs.ChunkShape.{product}
@@ -32,10 +34,10 @@ use Rattle.zarrs_chunk.specs.declared.codec_error.CodecError.TheVariants.{Invali
 use Rattle.zarrs_codec.specs.BytesToBytesCodec.{BytesCodecs}
 use Rattle.zarrs_codec.specs.CoordinateMap.{CoordinateMap, IsCoordinateMap, inverse_map, moved_chunk}
 use Rattle.zarrs_codec.specs.declared.bytes_representation.BytesRepresentation.{BytesRepresentation}
-use Rattle.zarrs_codec_chain.proofs.ShardReads.{members_mapped, members_inside, parts_of, picked, in_turn_is, shard_each, through_each}
+use Rattle.zarrs_codec_chain.proofs.ShardReads.{members_mapped, members_inside, parts_of, picked, in_turn_is, shard_each, through_each, spans_by, spans_rest}
 use Rattle.zarrs_codec_chain.specs.PartRead.{PlaceReader}
 use Rattle.zarrs_codec_chain.specs.PlaceLaws.{Resting, read_through, rests_through, SameMembers, RestsEach, IsSame, ReadsBy, SelectsOfChunk, IsLawfulReader}
-use Rattle.zarrs_codec_chain.specs.ShardRead.{spans_by, spans_in, span_read, in_turn, spans_read, shard_read, index_bytes_at, span_rests, spans_rest, shard_rests, shard_rests_behind, of_any, each_inner}
+use Rattle.zarrs_codec_chain.specs.ShardRead.{span_read, in_turn, spans_read, shard_read, index_bytes_at, span_rests, shard_rests, shard_rests_behind, of_any, each_inner}
 use Rattle.zarrs_data_type.specs.Element.{Element, absent, Chunk, fill_element}
 use Rattle.zarrs_data_type.specs.ElementType.{ElementType}
 use Rattle.zarrs_shard_runs.specs.PlacesInside.{places_of_inner}
@@ -92,8 +94,8 @@ module _ (rests : Resting) (shape sizes : List ℕ) (type : ElementType) (fill v
   spans_same ps qs same test (Err cause) = refl
 
   behind_size : (ps qs : List ℕ) → SameMembers ps qs → (test : ℕ → Bool) (at_end : Bool) (index : Decoder) (size : Result ℕ CodecError)
-      → seen (list_all test) (size >>= λ n. spans_rest rests shape sizes type fill value ps (spans_by shape at_end index sizes value n) >>= λ b. ok (index_bytes_at at_end n value ++ b))
-      ≡ seen (list_all test) (size >>= λ n. spans_rest rests shape sizes type fill value qs (spans_by shape at_end index sizes value n) >>= λ b. ok (index_bytes_at at_end n value ++ b))
+      → seen (list_all test) (size >>= λ n. spans_rest rests shape sizes type fill value ps (size >>= spans_by shape at_end index sizes value) >>= λ b. ok (index_bytes_at at_end n value ++ b))
+      ≡ seen (list_all test) (size >>= λ n. spans_rest rests shape sizes type fill value qs (size >>= spans_by shape at_end index sizes value) >>= λ b. ok (index_bytes_at at_end n value ++ b))
   behind_size ps qs same test at_end index (Ok n) =
       let spans = spans_by shape at_end index sizes value n in
       let here = index_bytes_at at_end n value in
@@ -251,16 +253,12 @@ pub shard_selects : (shape : List ℕ) (at_end : Bool) (keep : _) (im measure : 
 shard_selects shape at_end keep im measure decode index read p law none sizes type fill value r chunk ps positive t e below =
     let taken = shard_taken shape keep im measure sizes type fill r t in
     let cut = is_cut shape sizes p taken.divided in
-    let a = bind_ok (index_size measure shape sizes) _ chunk e in
-    let b = bind_ok (demand (nat_le a.0 (length value)) (InvalidBytesLength (length value) a.0)) _ chunk a.2 in
-    let c = bind_ok (index (index_shape shape sizes) (offset_type true) (offset_bytes true 0) (index_part_of at_end a.0 value)) _ chunk b.2 in
-    let spans = spans_of (offsets_in_chunk true c.0) in
-    let g = bind_ok (inner_chunks_at decode shape type fill value spans) _ chunk c.2 in
-    let enough = demand_ok (nat_le a.0 (length value)) (InvalidBytesLength (length value) a.0) b.0 b.1 in
-    let parts = chunks_select im decode read law shape type fill value p (taken.inner_size, taken.inner_is) (λ places. none shape type fill taken.inner_size places taken.inner_is) sizes 0 spans g.0 ps cut below g.1 in
-    rw (a.1, enough, c.1, parts)
-    (ap (λ (c : Chunk). ok c) (in_turn_is element_of g.0 shape sizes ps ∙ joined_selected shape sizes g.0 ps below)
-    ∙ ap (λ (c : Chunk). ok (select c ps)) (ok_is (joined_inner_chunks shape sizes g.0) chunk g.2))
+    let o = chunk_opened shape at_end measure decode index sizes type fill value chunk e in
+    let spans = spans_of (offsets_in_chunk true o.rows) in
+    let parts = chunks_select im decode read law shape type fill value p (taken.inner_size, taken.inner_is) (λ places. none shape type fill taken.inner_size places taken.inner_is) sizes 0 spans o.inner_chunks ps cut below o.read in
+    rw (o.sized, o.enough, o.found, parts)
+    (ap (λ (c : Chunk). ok c) (in_turn_is element_of o.inner_chunks shape sizes ps ∙ joined_selected shape sizes o.inner_chunks ps below)
+    ∙ ap (λ (c : Chunk). ok (select c ps)) o.joined)
 
 back_selected : (sizes : List ℕ) (m : CoordinateMap) (chunk : Chunk) (ps : List ℕ) → All (λ p. p < product sizes) ps → select chunk (map m.to ps) ≡ select (moved_chunk (inverse_map sizes m) chunk) ps
 back_selected sizes m chunk [] below = refl
@@ -413,7 +411,8 @@ pub shard_local : (shape : List ℕ) (at_end : Bool) (measure : Measure) (index 
 shard_local shape at_end measure index read rests law sizes type fill value other ps numbers l e h =
     let a = bind_ok (index_size measure shape sizes) _ numbers e in
     let spans = spans_by shape at_end index sizes value a.0 in
-    let b = bind_ok (spans_rest rests shape sizes type fill value ps spans) _ numbers a.2 in
+    let here = subst (λ (s : Result ℕ CodecError). (spans_rest rests shape sizes type fill value ps (s >>= spans_by shape at_end index sizes value) >>= λ behind. ok (index_bytes_at at_end a.0 value ++ behind)) ≡ Ok numbers) a.1 a.2 in
+    let b = bind_ok (spans_rest rests shape sizes type fill value ps spans) _ numbers here in
     let both : All (IsSame value other) (index_bytes_at at_end a.0 value ++ b.0) = subst (All (IsSame value other)) (sym (ok_is (index_bytes_at at_end a.0 value ++ b.0) numbers b.2)) h in
     let same : spans ≡ spans_by shape at_end index sizes other a.0 = spans_alike shape at_end index sizes value other a.0 l (All-first (IsSame value other) (index_bytes_at at_end a.0 value) b.0 both) in
     rw a.1

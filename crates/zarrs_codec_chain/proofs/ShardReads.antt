@@ -1,6 +1,7 @@
 -- Reads in part through chains and through `sharding_indexed` keep what is asked of them, where those of the inner chain do.
-use Rattle.std.proofs.Common.{◌≡◌, ℕ, zero, suc, ◌+◌, ◌<◌, ◌&&◌, nat_eq, nat_le, Bool, true, false, Option, Some, None, get_or, List, [], ◌∷◌, length, drop, map, Result, Ok, Err, arith, refl, ap, sym, ◌∙◌}
+use Rattle.std.proofs.Common.{◌≡◌, ℕ, zero, suc, ◌+◌, ◌<◌, ◌&&◌, nat_eq, nat_le, Bool, true, false, Option, Some, None, get_or, List, [], ◌∷◌, ◌++◌, length, drop, map, Result, Ok, Err, arith, refl, ap, sym, ◌∙◌}
 use Rattle.std.specs.List.{list_all}
+use Rattle.std.specs.Result.{result_unwrap_or}
 use Rattle.std.proofs.lemmas.Bool.{false≢true, true≢false}
 use Rattle.std.proofs.lemmas.Bool.Decides.{nat_tests}
 use Rattle.std.proofs.lemmas.List.Folds.{list_all-map}
@@ -10,14 +11,15 @@ use Rattle.zarrs_chain_meaning.specs.ArrayStages.{arrays_map}
 use Rattle.zarrs_chain_meaning.specs.BytesStages.{outer_bytes}
 use Rattle.zarrs_chain_meaning.specs.Meaning.{Measure, Decoder}
 use Rattle.zarrs_chain_meaning.specs.sharding.InnerChunks.{inner_chunk_of, place_inside}
-use Rattle.zarrs_chain_meaning.specs.sharding.Sharding.{Span, is_stored, spanned_bytes}
+use Rattle.zarrs_chain_meaning.specs.sharding.Sharding.{index_part_of, index_shape, Span, is_stored, spanned_bytes, spans_in, spans_of}
+use Rattle.zarrs_chain_meaning.specs.vlen.Vlen.{offset_type, offset_bytes, offsets_in_chunk}
 use Rattle.zarrs_chunk.specs.Answer.{◌>>=◌, demand}
 use Rattle.zarrs_chunk.specs.declared.codec_error.CodecError.{CodecError}
-use Rattle.zarrs_chunk.specs.declared.codec_error.CodecError.TheVariants.{InvalidByteRange}
+use Rattle.zarrs_chunk.specs.declared.codec_error.CodecError.TheVariants.{InvalidBytesLength, InvalidByteRange}
 use Rattle.zarrs_codec.specs.BytesToBytesCodec.{BytesCodecs}
 use Rattle.zarrs_codec_chain.specs.PartRead.{PlaceReader}
-use Rattle.zarrs_codec_chain.specs.PlaceLaws.{read_through, SameMembers, ReadsEach}
-use Rattle.zarrs_codec_chain.specs.ShardRead.{spans_in, span_read, without_first, in_turn, spans_read, shard_read, of_any, each_inner}
+use Rattle.zarrs_codec_chain.specs.PlaceLaws.{read_through, Resting, SameMembers, ReadsEach}
+use Rattle.zarrs_codec_chain.specs.ShardRead.{span_read, without_first, in_turn, spans_read, shard_read, span_rests, of_any, each_inner}
 use Rattle.zarrs_data_type.specs.Element.{Element, absent, Chunk, fill_element}
 use Rattle.zarrs_data_type.specs.ElementType.{ElementType}
 use Rattle.zarrs_shard_runs.specs.PlacesInside.{places_of_inner}
@@ -114,6 +116,19 @@ inner_each read shape type fill value span each =
     is : (here : ReadsEach (span_read (is_stored span) read shape type fill value span)) (ps : List ℕ) → of_any (span_read (is_stored span) read shape type fill value span) ps ≡ (unless_none here.refusal ps >>= λ _. ok (map here.element ps))
     is here [] = refl
     is here (p ∷ ps) = here.is (p ∷ ps)
+
+-- ---- the index, by how many bytes it has
+
+-- where the inner chunks stand, by the index of a value whose index has so many bytes
+abbrev pub spans_by : List ℕ → Bool → Decoder → List ℕ → List ℕ → ℕ → Result (List Span) CodecError
+spans_by shape at_end index sizes value size = do
+  _ ← demand (nat_le size (length value)) (InvalidBytesLength (length value) size)
+  rows ← index (index_shape shape sizes) (offset_type true) (offset_bytes true 0) (index_part_of at_end size value)
+  Ok (spans_of (offsets_in_chunk true rows))
+
+-- what a read rests on behind the index, by where they stand
+abbrev pub spans_rest : Resting → List ℕ → List ℕ → ElementType → List ℕ → List ℕ → List ℕ → Result (List Span) CodecError → Result (List ℕ) CodecError
+spans_rest rests shape sizes type fill value places spans = each_inner ◌++◌ (λ span. span_rests (is_stored span) rests shape type fill value span) shape sizes places 0 (result_unwrap_or spans [])
 
 -- ---- parts and turns
 

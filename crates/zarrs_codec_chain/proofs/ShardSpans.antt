@@ -26,7 +26,8 @@ use Rattle.zarrs_codec_chain.proofs.SpanSeen.{HasValue, IsInside, inside_seen, s
 use Rattle.zarrs_codec_chain.specs.ChunkRead.{are_given_sure}
 use Rattle.zarrs_codec_chain.specs.CodecPart.{codec_read, codec_rests_on, rests_where}
 use Rattle.zarrs_codec_chain.specs.KeptIndex.{IsIndex, codec_spans}
-use Rattle.zarrs_codec_chain.specs.ShardRead.{index_bytes_at, span_read, span_rests, spans_read, spans_rest, shard_rests}
+use Rattle.zarrs_codec_chain.proofs.ShardReads.{spans_rest}
+use Rattle.zarrs_codec_chain.specs.ShardRead.{index_bytes_at, span_read, span_rests, spans_read, shard_rests}
 use Rattle.zarrs_codec_chain.specs.SpanReads.{StandsIn, chain_read, chain_rests, inner_span, seen_state, span_parts, stored_index_bytes, stored_span_read, stored_span_rests, stored_spans}
 use Rattle.zarrs_codec_chain.specs.declared.sharding.value_span.ValueSpan.{ValueSpan}
 use Rattle.zarrs_data_type.specs.Element.{absent, Chunk, fill_element}

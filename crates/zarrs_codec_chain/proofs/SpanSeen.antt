@@ -12,6 +12,7 @@ use Rattle.zarrs_chain.specs.sharding.ShardingCalls.{index_size_of}
 use Rattle.zarrs_chain_meaning.proofs.ArraySteps.{ok_is}
 use Rattle.zarrs_chain_meaning.specs.CodecMeaning.{chain_chunk}
 use Rattle.zarrs_chain_meaning.specs.sharding.InnerChunks.{grid}
+use Rattle.zarrs_codec_chain.proofs.ShardReads.{spans_by}
 use Rattle.zarrs_chain_meaning.specs.sharding.Sharding.{Span, index_part_of, index_shape, spanned_bytes, spans_of}
 use Rattle.zarrs_chain_meaning.specs.vlen.Vlen.{offset_type, offset_bytes, offsets_in_chunk}
 use Rattle.zarrs_chunk.proofs.Inside.{from_le_test}
@@ -21,7 +22,7 @@ use Rattle.zarrs_chunk.specs.declared.codec_error.CodecError.TheVariants.{Invali
 use Rattle.zarrs_codec.specs.BytesToBytesCodec.{BytesCodecs}
 use Rattle.zarrs_codec.specs.StorageState.{StorageState, are_sure, value_indices, value_is_sure}
 use Rattle.zarrs_codec_chain.proofs.PlaceWrites.{memory_too}
-use Rattle.zarrs_codec_chain.specs.ShardRead.{index_bytes_at, spans_by}
+use Rattle.zarrs_codec_chain.specs.ShardRead.{index_bytes_at}
 use Rattle.zarrs_codec_chain.specs.SpanReads.{StandsIn, held_state, index_span, inner_span, seen_state, span_held, span_parts, stored_index_bytes, stored_spans}
 use Rattle.zarrs_codec_chain.specs.declared.sharding.value_span.ValueSpan.{ValueSpan}
 use Rattle.zarrs_lent_handles.proofs.SpanLemmas.{moved_numbers, span_inside, span_of_span, spanned_long}

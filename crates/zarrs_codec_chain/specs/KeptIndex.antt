@@ -9,9 +9,9 @@ use Rattle.zarrs_chain_meaning.specs.Chain.{taken_form}
 use Rattle.zarrs_chain_meaning.specs.ChunkForm.{ChunkForm}
 use Rattle.zarrs_chain_meaning.specs.CodecMeaning.{meaning, PlainChain, PlainCodec, sharding_codec}
 use Rattle.zarrs_chain_meaning.specs.Meaning.{Meaning, through}
-use Rattle.zarrs_chain_meaning.specs.sharding.Sharding.{Span, spans_of}
+use Rattle.zarrs_chain_meaning.specs.sharding.Sharding.{Span, spans_of, spans_in}
 use Rattle.zarrs_codec_chain.specs.CodecPart.{part_of}
-use Rattle.zarrs_codec_chain.specs.ShardRead.{index_bytes_in, spans_in}
+use Rattle.zarrs_codec_chain.specs.ShardRead.{index_bytes_in}
 use Rattle.zarrs_codec_chain.specs.declared.partial_decoder.cache.Cache.{Cache}
 use Rattle.zarrs_codec_chain.specs.declared.partial_decoder.cache.Cache.TheVariants as kept
 use Rattle.zarrs_codec_chain.specs.declared.sharding.shard_index.ShardIndex.{ShardIndex}

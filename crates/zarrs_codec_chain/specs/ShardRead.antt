@@ -1,13 +1,13 @@
 -- Reads in part of `sharding_indexed`: the index, and then of each inner chunk with selected places what is read of its own bytes, in the order of their numbers.
 use Rattle.std.specs.List.{range_with_len}
-use Rattle.std.specs.Prelude.{◌≡◌, ℕ, zero, suc, ◌+◌, ◌-◌, nat_le, if◌then◌else◌, Bool, true, false, Some, None, List, [], ◌∷◌, ◌++◌, length, drop, map, get_or, Result, Ok, Err, refl}
+use Rattle.std.specs.Result.{result_unwrap_or}
+use Rattle.std.specs.Prelude.{◌≡◌, ℕ, zero, suc, ◌+◌, ◌-◌, nat_le, if◌then◌else◌, Bool, true, false, Some, None, List, [], ◌∷◌, ◌++◌, length, drop, map, get_or, Result, Ok, refl}
 use Rattle.std.proofs.Common.{◌∙◌, ap, sym}
 use Rattle.zarrs_chain_meaning.specs.Meaning.{Measure, Decoder}
 use Rattle.zarrs_chain_meaning.specs.sharding.InnerChunks.{inner_chunk_of}
-use Rattle.zarrs_chain_meaning.specs.sharding.Sharding.{index_shape, index_size, Span, is_stored, spans_of, index_part_of, spanned_bytes}
-use Rattle.zarrs_chain_meaning.specs.vlen.Vlen.{offset_type, offset_bytes, offsets_in_chunk}
+use Rattle.zarrs_chain_meaning.specs.sharding.Sharding.{index_size, Span, is_stored, spans_in, spanned_bytes}
 use Rattle.zarrs_chunk.specs.Answer.{◌>>=◌, demand, seen}
-use Rattle.zarrs_chunk.specs.declared.codec_error.CodecError.TheVariants.{InvalidBytesLength, InvalidByteRange}
+use Rattle.zarrs_chunk.specs.declared.codec_error.CodecError.TheVariants.{InvalidByteRange}
 use Rattle.zarrs_chunk.specs.declared.codec_error.CodecError.{CodecError}
 use Rattle.zarrs_codec.specs.CountLaws.{passed, same_value}
 use Rattle.zarrs_codec_chain.specs.PartRead.{PlaceReader, AnswersEach, each_count}
@@ -17,17 +17,6 @@ use Rattle.zarrs_data_type.specs.ElementType.{ElementType}
 use Rattle.zarrs_shard_runs.specs.PlacesInside.{places_of_inner}
 
 -- ---- the answer
-
--- where the inner chunks stand, by the index of a value whose index has so many bytes; or the first error
-abbrev pub spans_by : List ℕ → Bool → Decoder → List ℕ → List ℕ → ℕ → Result (List Span) CodecError
-spans_by shape at_end index sizes value size = do
-  _ ← demand (nat_le size (length value)) (InvalidBytesLength (length value) size)
-  rows ← index (index_shape shape sizes) (offset_type true) (offset_bytes true 0) (index_part_of at_end size value)
-  Ok (spans_of (offsets_in_chunk true rows))
-
--- the same, by how many bytes the index chain makes of an index
-abbrev pub spans_in : List ℕ → Bool → Measure → Decoder → List ℕ → List ℕ → Result (List Span) CodecError
-spans_in shape at_end measure index sizes value = index_size measure shape sizes >>= spans_by shape at_end index sizes value
 
 -- the elements at places of the inner chunk at a span: by its own bytes; fill elements where it isn't stored
 abbrev pub span_read : Bool → PlaceReader → List ℕ → ElementType → List ℕ → List ℕ → Span → List ℕ → Result Chunk CodecError
@@ -101,8 +90,7 @@ groups_read read shape type fill value spans (group ∷ groups) = do
 
 -- the numbers of the index's bytes
 abbrev pub index_bytes_at : Bool → ℕ → List ℕ → List ℕ
-index_bytes_at false size value = range_with_len 0 size
-index_bytes_at true size value = range_with_len (length value - size) size
+index_bytes_at at_end size value = range_with_len (if at_end then length value - size else 0) size
 
 -- the same, by how many bytes the index chain makes of an index
 abbrev pub index_bytes_in : List ℕ → Bool → Measure → List ℕ → List ℕ → Result (List ℕ) CodecError
@@ -124,20 +112,16 @@ groups_rest rests shape type fill value spans (group ∷ groups) = do
   behind ← groups_rest rests shape type fill value spans groups
   Ok (here ++ behind)
 
--- the numbers of the bytes that reads of the inner chunks rest on, by where these stand; none where the index can't be read
-abbrev pub spans_rest : Resting → List ℕ → List ℕ → ElementType → List ℕ → List ℕ → List ℕ → Result (List Span) CodecError → Result (List ℕ) CodecError
-spans_rest rests shape sizes type fill value places (Ok spans) = each_inner ◌++◌ (λ span. span_rests (is_stored span) rests shape type fill value span) shape sizes places 0 spans
-spans_rest rests shape sizes type fill value places (Err cause) = Ok []
-
--- what a read of `sharding_indexed` rests on behind its index, by what one of its inner chain rests on
+-- what a read of `sharding_indexed` rests on behind its index, by what one of its inner chain rests on; nothing, where the index can't be read
 abbrev pub shard_rests_behind : List ℕ → Bool → Measure → Decoder → Resting → Resting
 shard_rests_behind shape at_end measure index rests sizes type fill None places = Ok []
-shard_rests_behind shape at_end measure index rests sizes type fill (Some value) places = spans_rest rests shape sizes type fill value places (spans_in shape at_end measure index sizes value)
+shard_rests_behind shape at_end measure index rests sizes type fill (Some value) places =
+    each_inner ◌++◌ (λ span. span_rests (is_stored span) rests shape type fill value span) shape sizes places 0 (result_unwrap_or (spans_in shape at_end measure index sizes value) [])
 
 -- what a read of `sharding_indexed` rests on, by what one of its inner chain rests on: the index, and what the inner reads rest on
 abbrev pub shard_rests : List ℕ → Bool → Measure → Decoder → Resting → Resting
 shard_rests shape at_end measure index rests sizes type fill None places = Ok []
 shard_rests shape at_end measure index rests sizes type fill (Some value) places = do
   size ← index_size measure shape sizes
-  behind ← spans_rest rests shape sizes type fill value places (spans_by shape at_end index sizes value size)
+  behind ← shard_rests_behind shape at_end measure index rests sizes type fill (Some value) places
   Ok (index_bytes_at at_end size value ++ behind)

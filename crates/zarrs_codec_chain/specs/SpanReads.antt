@@ -18,7 +18,7 @@ use Rattle.zarrs_chain.specs.declared.codec_chain.CodecChain.{CodecChain}
 use Rattle.zarrs_chain.specs.sharding.ShardingCalls.{index_size_of}
 use Rattle.zarrs_chain_meaning.specs.CodecMeaning.{PlainCodec, PlainChain, meaning, codec_representation, chain_representation, chain_chunk}
 use Rattle.zarrs_chain_meaning.specs.sharding.InnerChunks.{grid}
-use Rattle.zarrs_chain_meaning.specs.sharding.Sharding.{Span, is_stored, spans_of}
+use Rattle.zarrs_chain_meaning.specs.sharding.Sharding.{Span, is_stored, spans_of, spans_in}
 use Rattle.zarrs_codec.specs.BytesToBytesCodec.{BytesCodecs}
 use Rattle.zarrs_codec.specs.StorageState.{StorageState, are_sure, value_indices}
 use Rattle.zarrs_codec.specs.declared.bytes_representation.BytesRepresentation.{BytesRepresentation}
@@ -27,7 +27,7 @@ use Rattle.zarrs_codec_chain.specs.ChunkSource.{bytes_above, source_places}
 use Rattle.zarrs_codec_chain.specs.CodecPart.{codec_read, codec_rests_on, rests_where}
 use Rattle.zarrs_codec_chain.specs.PartRead.{PlaceReader}
 use Rattle.zarrs_codec_chain.specs.PlaceLaws.{Resting, read_through, rests_through}
-use Rattle.zarrs_codec_chain.specs.ShardRead.{spans_in, span_read, groups_read, index_bytes_at, span_rests, groups_rest}
+use Rattle.zarrs_codec_chain.specs.ShardRead.{span_read, groups_read, index_bytes_at, span_rests, groups_rest}
 use Rattle.zarrs_codec_chain.specs.declared.sharding.value_span.ValueSpan.{ValueSpan}
 use Rattle.zarrs_data_type.specs.Element.{Chunk}
 use Rattle.zarrs_data_type.specs.ElementType.{ElementType}

@@ -10,7 +10,8 @@ use Rattle.zarrs_array_bytes.specs.Tight.{IsTight}
 use Rattle.zarrs_chunk.specs.Answer.{◌>>=◌}
 use Rattle.zarrs_chain_meaning.specs.CodecMeaning.{chain_chunk}
 use Rattle.zarrs_chain_meaning.specs.sharding.InnerChunks.{inner_chunk_count, joined_inner_chunks}
-use Rattle.zarrs_chain_meaning.specs.sharding.Sharding.{inner_chunks_at, spans_of}
+use Rattle.zarrs_chain_meaning.specs.sharding.ShardSteps.{inner_chunks_at}
+use Rattle.zarrs_chain_meaning.specs.sharding.Sharding.{spans_of}
 use Rattle.zarrs_chain.specs.ChainView.{plain_chain}
 use Rattle.zarrs_chain.proofs.ShardReading.{WalksTo}
 use Rattle.zarrs_chain.proofs.+decode.Given as goal

@@ -16,7 +16,8 @@ use Rattle.zarrs_data_type.specs.ElementType.{ElementType}
 use Rattle.zarrs_data_type.specs.Form.{Form}
 use Rattle.zarrs_chain_meaning.specs.CodecMeaning.{chain_chunk}
 use Rattle.zarrs_chain_meaning.specs.sharding.InnerChunks.{is_divided}
-use Rattle.zarrs_chain_meaning.specs.sharding.Sharding.{Span, inner_chunk_at, inner_chunks_at, is_stored, spans_of}
+use Rattle.zarrs_chain_meaning.specs.sharding.ShardSteps.{inner_chunks_at}
+use Rattle.zarrs_chain_meaning.specs.sharding.Sharding.{Span, inner_chunk_at, is_stored, spans_of}
 use Rattle.zarrs_chain.specs.ChainView.{plain_chain}
 use Rattle.zarrs_chain.specs.declared.codec_chain.CodecChain.{CodecChain}
 use Rattle.zarrs_chain.specs.sharding.ShardRows.{IsPart, found_in_part}

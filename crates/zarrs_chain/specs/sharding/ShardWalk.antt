@@ -20,7 +20,8 @@ use Rattle.zarrs_chain_meaning.specs.Chain.{taken_form}
 use Rattle.zarrs_chain_meaning.specs.KeptBytes.{KeepsBytes}
 use Rattle.zarrs_chain_meaning.specs.Meaning.{Decoder}
 use Rattle.zarrs_chain_meaning.specs.sharding.InnerChunks.{inner_chunk_places, inner_chunks_of, joined_inner_chunks}
-use Rattle.zarrs_chain_meaning.specs.sharding.Sharding.{Span, missing, is_stored, is_left_out, inner_value, inner_chunk_at, inner_chunks_at, spans_of}
+use Rattle.zarrs_chain_meaning.specs.sharding.ShardSteps.{inner_value, inner_chunks_at}
+use Rattle.zarrs_chain_meaning.specs.sharding.Sharding.{Span, missing, is_stored, is_left_out, inner_chunk_at, spans_of}
 use Rattle.zarrs_chain.specs.ChainView.{plain_chain}
 use Rattle.zarrs_chain.specs.declared.codec_chain.CodecChain.{CodecChain}
 use Rattle.zarrs_chain.specs.declared.sharding.written_shard.WrittenShard.{WrittenShard}

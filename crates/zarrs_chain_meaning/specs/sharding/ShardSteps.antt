@@ -6,7 +6,11 @@ use Rattle.zarrs_chunk.specs.Region.{Region}
 use Rattle.zarrs_chunk.specs.declared.codec_error.CodecError.{CodecError}
 use Rattle.zarrs_chunk.specs.declared.codec_error.CodecError.TheVariants.{IncompatibleDimensionality, IndivisibleShape, InvalidBytesLength, InvalidByteRange}
 use Rattle.zarrs_chain_meaning.specs.sharding.InnerChunks.{is_divided, quotients, grid}
-use Rattle.zarrs_chain_meaning.specs.sharding.Sharding.{index_part_of, spanned_bytes}
+use Rattle.zarrs_chain_meaning.specs.Meaning.{Decoder}
+use Rattle.zarrs_chain_meaning.specs.Parts.{for_each}
+use Rattle.zarrs_chain_meaning.specs.sharding.Sharding.{index_part_of, inner_chunk_at, is_stored, spanned_bytes, Span}
+use Rattle.zarrs_data_type.specs.Element.{Chunk}
+use Rattle.zarrs_data_type.specs.ElementType.{ElementType}
 
 -- ---- inner chunks
 
@@ -37,6 +41,15 @@ inner_region shape numbers = record { starts = inner_start shape numbers; length
 -- the shape of the index is given: so many inner chunks along each axis, and for each its offset and its length
 abbrev pub GivesIndexShape : List ℕ → Result (List ℕ) CodecError → Type 0
 GivesIndexShape counts result = GivesValue result (Ok (counts ++ 2 ∷ []))
+
+-- the value of an inner chunk, or none where it is left out
+abbrev pub inner_value : Bool → Result (List ℕ) CodecError → Result (Option (List ℕ)) CodecError
+inner_value left_out value = if left_out then Ok None else value >>= λ part. Ok (Some part)
+
+-- the inner chunks at spans, in order, or the first error
+abbrev pub inner_chunks_at : Decoder → List ℕ → ElementType → List ℕ → List ℕ → List Span → Result (List Chunk) CodecError
+inner_chunks_at inner shape type fill value spans =
+    for_each (λ span. inner_chunk_at (is_stored span) inner shape type fill value span) spans
 
 -- ---- parts of a value
 

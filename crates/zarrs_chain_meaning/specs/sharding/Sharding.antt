@@ -9,14 +9,14 @@ use Rattle.zarrs_bytes.specs.PartialWrite.{filled_chunk}
 use Rattle.zarrs_chain_meaning.specs.BytesStages.{in_memory}
 use Rattle.zarrs_chain_meaning.specs.Meaning.{Measure, Encoder, Decoder, Standing, Keeping, Meaning}
 use Rattle.zarrs_chain_meaning.specs.Parts.{for_each}
-use Rattle.zarrs_chain_meaning.specs.optional.Optional.{bounded, bounded_total}
+use Rattle.zarrs_chain_meaning.specs.optional.Optional.{bounded_total}
 use Rattle.zarrs_chain_meaning.specs.sharding.InnerChunks.{is_divided, grid, inner_chunk_count, inner_chunks_of, joined_inner_chunks}
 use Rattle.zarrs_chain_meaning.specs.vlen.Vlen.{offset_type, offset_bytes, offset_elements, offsets_in_chunk, is_same_bytes}
 use Rattle.zarrs_chunk.specs.Answer.{◌>>=◌, demand, checked_u64}
 use Rattle.zarrs_chunk.specs.ChunkShape.{product}
 use Rattle.zarrs_chunk.specs.declared.codec_error.CodecError.TheVariants.{IncompatibleDimensionality, IndivisibleShape, InvalidFillValue, IndexNotFixed, Overflow, OffsetNotKept, InvalidBytesLength, InvalidByteRange}
 use Rattle.zarrs_chunk.specs.declared.codec_error.CodecError.{CodecError}
-use Rattle.zarrs_codec.specs.declared.bytes_representation.BytesRepresentation.TheVariants.{FixedSize, BoundedSize, UnboundedSize}
+use Rattle.zarrs_codec.specs.declared.bytes_representation.BytesRepresentation.TheVariants.{FixedSize}
 use Rattle.zarrs_codec.specs.declared.bytes_representation.BytesRepresentation.{BytesRepresentation}
 use Rattle.zarrs_data_type.specs.Element.{Element, plain, absent, present, Chunk, fill_element}
 use Rattle.zarrs_data_type.specs.ElementType.{ElementType}
@@ -86,10 +86,6 @@ shard_representation shape keep inner index sizes type fill = do
 
 -- ---- the value of a chunk
 
--- the value of an inner chunk, or none where it is left out
-abbrev pub inner_value : Bool → Result (List ℕ) CodecError → Result (Option (List ℕ)) CodecError
-inner_value left_out value = if left_out then Ok None else value >>= λ part. Ok (Some part)
-
 -- all values, one behind the other
 abbrev pub joined_values : List (Option (List ℕ)) → List ℕ
 joined_values parts = flat_map (λ part. unwrap_or part []) parts
@@ -113,7 +109,7 @@ shard_layout true index values = values ++ index
 abbrev pub shard_value : List ℕ → Bool → Keeping → Keeping → Measure → Encoder → Encoder → Encoder
 shard_value shape at_end keep index_keep index_measure inner index sizes type fill chunk = do
   size ← index_size index_measure shape sizes
-  parts ← for_each (λ inner_chunk. inner_value (is_left_out keep type fill inner_chunk) (inner shape type fill inner_chunk)) (inner_chunks_of shape sizes chunk)
+  parts ← for_each (λ inner_chunk. if is_left_out keep type fill inner_chunk then Ok None else inner shape type fill inner_chunk >>= λ part. Ok (Some part)) (inner_chunks_of shape sizes chunk)
   let at = first_offset at_end size
   _ ← demand (nat_lt (at + length (joined_values parts)) (2 ^ 64)) Overflow
   let rows = offset_elements true (index_numbers at parts)
@@ -128,6 +124,14 @@ abbrev pub index_part_of : Bool → ℕ → List ℕ → List ℕ
 index_part_of false size value = take size value
 index_part_of true size value = drop (length value - size) value
 
+-- where the inner chunks stand, by the index of a value, or the first error
+abbrev pub spans_in : List ℕ → Bool → Measure → Decoder → List ℕ → List ℕ → Result (List Span) CodecError
+spans_in shape at_end measure index sizes value = do
+  size ← index_size measure shape sizes
+  _ ← demand (nat_le size (length value)) (InvalidBytesLength (length value) size)
+  rows ← index (index_shape shape sizes) (offset_type true) (offset_bytes true 0) (index_part_of at_end size value)
+  Ok (spans_of (offsets_in_chunk true rows))
+
 -- the bytes of a span
 abbrev pub spanned_bytes : List ℕ → Span → List ℕ
 spanned_bytes value span = take span.1 (drop span.0 value)
@@ -139,18 +143,11 @@ inner_chunk_at true inner shape type fill value span = do
   _ ← demand (nat_le (span.0 + span.1) (length value)) InvalidByteRange
   inner shape type fill (spanned_bytes value span)
 
--- the inner chunks at spans, in order, or the first error
-abbrev pub inner_chunks_at : Decoder → List ℕ → ElementType → List ℕ → List ℕ → List Span → Result (List Chunk) CodecError
-inner_chunks_at inner shape type fill value spans =
-    for_each (λ span. inner_chunk_at (is_stored span) inner shape type fill value span) spans
-
 -- the chunk that a value stands for, of chunks that the codec takes, or the first error
 abbrev pub shard_chunk : List ℕ → Bool → Measure → Decoder → Decoder → Decoder
 shard_chunk shape at_end index_measure inner index sizes type fill value = do
-  size ← index_size index_measure shape sizes
-  _ ← demand (nat_le size (length value)) (InvalidBytesLength (length value) size)
-  rows ← index (index_shape shape sizes) (offset_type true) (offset_bytes true 0) (index_part_of at_end size value)
-  inner_chunks ← inner_chunks_at inner shape type fill value (spans_of (offsets_in_chunk true rows))
+  spans ← spans_in shape at_end index_measure index sizes value
+  inner_chunks ← for_each (λ span. inner_chunk_at (is_stored span) inner shape type fill value span) spans
   Ok (joined_inner_chunks shape sizes inner_chunks)
 
 -- ---- what stands and what is written
