@@ -1,6 +1,7 @@
 //! JSON texts read and shown.
 ghost use Rattle.std.specs.Prelude.{◌≡◌, ok_or, IfOk, false};
 ghost use Rattle.serde_json.specs.Data.{string};
+ghost use Rattle.serde_json.specs.Written.{has_float};
 ghost use Rattle.serde_json.specs.View.{view, items_view};
 ghost use Rattle.serde_json.specs.Find.{as_object};
 ghost use Rattle.zarrs_chunk.specs.Answer.{seen};
