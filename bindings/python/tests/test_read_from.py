@@ -275,16 +275,62 @@ def test_three_rounds_and_no_inner_chunk_that_is_not_needed(
     value = chain.encode(np.ma.masked_array(array) if fill is None else array)
     assert len(value) == 64 * 40 * (size + 16)
     rows = rng.permutation(64 * 40)[:1500]
-    # with a step what is between the rows is read too
     for selection, count in (
         (np.s_[:40, 4:34], 40 * 30),
-        (np.s_[::2], 63 * 40),
+        (np.s_[::2, ::-1], 32 * 40),
         (np.stack((rows // 40, rows % 40), 1), 1500),
     ):
         rounds.clear()
         file = RecordingFile(value)
         assert np.array_equal(chain.read_from(file, selection), chain.read(value, selection))
         assert len(rounds) <= 3 and len(file.seen) == 64 * 40 * 16 + size * count
+
+
+@pytest.mark.parametrize("front", [[], [transpose([1, 0])]])
+@pytest.mark.parametrize("inside, kind, size", [([LITTLE], "int16", 2), (["bytes", "crc32c"], "uint8", 5), ([VLEN], "string", 25)])
+def test_steps_pass_inner_chunks(inside, kind, size, front, rng, monkeypatch):
+    """Of 40 times 60 inner chunks of one element, and of 10 times 15 with 16: none that a step passes is fetched, and what
+    lies between in those that have some is."""
+    rounds = rounds_of(monkeypatch)
+    array = np.full((40, 60), "a", object) if kind == "string" else rng.integers(1, 99, (40, 60)).astype(kind)
+    for side in (1, 4):
+        shard = {"chunk_shape": [side, side], "codecs": inside, "index_codecs": [LITTLE]}
+        chain = Chain([*front, {"name": "sharding_indexed", "configuration": shard}], (40, 60), kind)
+        value = chain.encode(array)
+        for selection in (np.s_[::8, ::10], np.s_[39::-13, 5], np.s_[1::20, 3:50:7]):
+            rounds.clear()
+            file = RecordingFile(value)
+            same(chain.read_from(file, selection), array[selection])
+            same(chain.read(value, selection), array[selection])
+            assert len(rounds) <= 3
+            if side == 1:
+                assert len(file.seen) == 40 * 60 * 16 + size * array[selection].size
+            elif not front and kind == "int16":
+                touched = {(row // 4, column // 4) for row, column in np.argwhere(_marked(array.shape, selection)).tolist()}
+                assert len(file.seen) <= 150 * 16 + 32 * len(touched)
+
+
+def _marked(shape, selection):
+    """Which places a selection means."""
+    marked = np.zeros(shape, bool)
+    marked[selection] = True
+    return marked
+
+
+def test_damage_that_a_step_passes_is_not_refused():
+    """The entry of an inner chunk that has no selected element."""
+    shard = {"chunk_shape": [8, 8], "codecs": ["bytes"], "index_codecs": [LITTLE]}
+    chain = Chain([{"name": "sharding_indexed", "configuration": shard}], (64, 64), "uint8", 0)
+    array = np.ones((64, 64), "u1")
+    value = chain.encode(array)
+    value[-64 * 16 + 16] ^= 255
+    value[-64 * 16 + 23] ^= 255
+    for selection in (np.s_[::16, ::16], np.s_[0, ::16], [[0, 0], [9, 9]]):
+        expected = np.ones(2, "u1") if isinstance(selection, list) else array[selection]
+        same(chain.read(value, selection), expected)
+        same(chain.read_from(io.BytesIO(value), selection), expected)
+    with pytest.raises(zarrs_codecs.InvalidByteRange, match="inner chunk 1"):
+        chain.read(value, np.s_[0, ::4])
 
 
 def test_texts_in_shards_answer_as_reads_do(rng):

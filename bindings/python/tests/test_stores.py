@@ -207,6 +207,22 @@ def test_stores_are_not_written(rng, tmp_path):
     same(array[...], expected)
 
 
+@pytest.mark.parametrize("codecs", [[LITTLE], [transpose([1, 0]), LITTLE], sharded([16, 16], [LITTLE], [LITTLE])])
+def test_rows_that_are_far_apart_are_fetched_by_one_call(codecs, tmp_path):
+    """Of rows of 16 KiB each third one: of a shard the index first, and no inner chunk that has none of them."""
+    numbers = np.arange(64 * 4096, dtype="<i4").reshape(64, 4096)
+    array = make_array(tmp_path / "a", numbers.shape, numbers.shape, "int32", codecs, -1)
+    array[...] = numbers
+    store = Ranging(files_of(tmp_path / "a"))
+    lent = Array("bucket/a", store=store)
+    found, calls = store.calls_of(lambda: lent[::20])
+    same(found, numbers[::20])
+    is_shard = "chunk_shape" in str(codecs)
+    assert len(calls) == 1 + is_shard
+    fetched = sum(end - start for call in calls for start, end in call)
+    assert fetched == 4 * 4096 * 4 + is_shard * 1024 * 16
+
+
 class Breaking(Ranging):
     """One whose calls answer less, an exception, or raise one."""
 

@@ -42,7 +42,7 @@ class Rows:
         """What C is given."""
         return len(self.rows), lent(self.rows)[0], self.rows.size
 
-    def closed(self, item_size: int = 1, gap: int | None = None) -> "Rows":
+    def closed(self, item_size: int = 1, gap: int | None = None, sizes: Shape | None = None) -> "Rows":
         """The same: there is nothing between the elements."""
         return self
 
@@ -50,7 +50,7 @@ class Rows:
         """The same."""
         return self
 
-    def parts(self, limit: int) -> Iterator["Rows"]:
+    def parts(self, limit: int, together: int | None = None) -> Iterator["Rows"]:
         """Selections of so many elements at most, whose answers, one behind another, are this one's."""
         for first in range(0, len(self.rows), limit):
             yield Rows(self.rows[first : first + limit])
@@ -84,9 +84,9 @@ class Box:
         tuples, numbers = self.numbers()
         return tuples, start(numbers), numbers.size
 
-    def closed(self, item_size: int = 1, gap: int | None = None) -> "Box":
+    def closed(self, item_size: int = 1, gap: int | None = None, sizes: Shape | None = None) -> "Box":
         """The same elements, and those in gaps of fewer bytes, in all where it is None: `after` leaves them
-        out."""
+        out. Where sizes are given, of inner chunks, a gap is one in an inner chunk, and those that pass one stay."""
         if not self.has_gaps:
             return self
         on_axes = list(self.on_axes)
@@ -94,39 +94,42 @@ class Box:
         between = item_size
         for axis in reversed(range(len(on_axes))):
             one = on_axes[axis]
-            if one.step > 1 and (gap is None or (one.step - 1) * between < gap):
+            is_near = gap is None or (one.step - 1) * between < gap
+            if one.step > 1 and is_near and (sizes is None or one.step <= sizes[axis]):
                 steps[axis] = one.step
                 on_axes[axis] = range(one.start, one[-1] + 1)
-            between *= len(on_axes[axis])
+            between *= len(on_axes[axis]) if sizes is None else sizes[axis]
         return Box(on_axes, _stepped(self.after, steps))
 
     def without_gaps(self) -> "Box | Rows":
         """The same elements in the same order, as rows where there are elements between those that are meant."""
         return Rows(self._rows()) if self.has_gaps else self
 
-    def parts(self, limit: int) -> Iterator["Box | Rows"]:
+    def parts(self, limit: int, together: int | None = None) -> Iterator["Box | Rows"]:
         """Selections without gaps and of so many elements at most, whose answers, one behind another, are
-        this one's elements. Those apart from each other come as rows."""
+        this one's elements. Those apart from each other come as rows; where `together` is given, as few such
+        selections of so many elements."""
         count = math.prod(self.shape)
         has_gaps = self.has_gaps
         if count <= limit and not has_gaps:
             yield self
-        elif count <= min(limit, _MANY_ROWS):
+        elif count <= min(limit, together or _MANY_ROWS):
             yield Rows(self._rows())
         else:
-            yield from self._divided(count, limit)
+            yield from self._divided(count, limit, together)
 
-    def _divided(self, count: int, limit: int) -> Iterator["Box | Rows"]:
+    def _divided(self, count: int, limit: int, together: int | None) -> Iterator["Box | Rows"]:
         axis, one = next((axis, one) for axis, one in enumerate(self.on_axes) if len(one) > 1)
         each = count // len(one)
         if not self.has_gaps:
             step = max(limit // each, 1)
         else:
-            step = max(min(limit, _MANY_ROWS) // each, 1) if each < _FEW_TOGETHER else 1
+            is_joined = together is not None or each < _FEW_TOGETHER
+            step = max(min(limit, together or _MANY_ROWS) // each, 1) if is_joined else 1
         for first in range(0, len(one), step):
             on_axes = list(self.on_axes)
             on_axes[axis] = _rising(one[first : first + step])
-            yield from Box(on_axes, None).parts(limit)
+            yield from Box(on_axes, None).parts(limit, together)
 
     def _rows(self) -> AnyArray:
         """The elements' indices."""

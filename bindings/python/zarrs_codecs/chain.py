@@ -38,6 +38,12 @@ _LEAST_PART_BYTES = 1 << 14
 _PART_BYTES = PART_BYTES
 # How many bytes there are between two elements where these aren't read as well.
 _GAP_BYTES = 1 << 14
+# Of so many elements at most that lie apart a list of their indices is made, by which no others are read.
+_MOST_APART = 1 << 20
+# Of so many also of those that lie near, where it isn't known in which inner chunks they are.
+_FEW_APART = 1 << 12
+# What is at hand is copied with what lies between, where that is fewer times as much.
+_SPARSE = 32
 # The numbers that a first try at a plan has room for.
 _PLAN_NUMBERS = 1 << 17
 # So many rounds fetch what they lack alone, and one more all that isn't there: each round reads again what those before
@@ -391,11 +397,31 @@ class Chain:
 
     # -- parts of chunks
 
+    @cached_property
+    def _inner_shape(self) -> Shape | None:
+        """The sizes of inner chunks, where the chain is a shard alone."""
+        from ._sharding import is_sharded
+
+        return tuple(self._inner_list[0]["configuration"]["chunk_shape"]) if is_sharded(self._inner_list) else None
+
+    def _near(self, meant: Selection, is_at_hand: bool = False) -> Selection:
+        """A selection with what lies between its places, where that is near, in the inner chunks of a shard that have some of
+        them; where rows of those that are apart would be too many, with all that does."""
+        if not meant.has_gaps:
+            return meant
+        inner, whole = self._inner_shape, meant.closed()
+        is_moved = inner is None and self._whole_inside is not None
+        is_exact = is_moved and math.prod(meant.shape) <= _FEW_APART
+        chosen = meant if is_exact else meant.closed(self.dtype.itemsize, _GAP_BYTES, inner)
+        count = math.prod(chosen.shape)
+        is_copied = is_at_hand and inner is None and count * _SPARSE > math.prod(whole.shape)
+        return whole if is_copied or count > _MOST_APART else chosen
+
     def _read(self, inner: Any, chosen: Selection, out: AnyArray | None = None) -> AnyArray:
         """C's answer of a selection, of the library's value or of None."""
         value = b"" if inner is None else inner
         at, length = lent(value)
-        arguments = (inner is not None, at, length, *chosen.arguments())
+        arguments = (inner is not None, at, length, *chosen.without_gaps().arguments())
         call = partial(library.zarrs_read, self._header, self._length, *arguments)
         return self._told(call, chosen.shape, value, length, out)
 
@@ -419,7 +445,7 @@ class Chain:
 
     def _read_inner(self, inner: Any, selection: Any, out: AnyArray | None = None) -> AnyArray:
         """The same of the library's value."""
-        chosen = select(selection, self.shape).closed()
+        chosen = self._near(select(selection, self.shape), is_at_hand=True)
         with self._saying_inner_chunk(Held(b"" if inner is None else inner), selection):
             if chosen.after is None:
                 return self._read(inner, chosen, out)
@@ -612,8 +638,8 @@ class Chain:
         and one more for each further level of shards in shards. Behind an array-to-array codec shards in shards
         go one after the other, and behind eight rounds those that are needed come whole. Each range is a read
         of the file by itself. Of a slice with a step it leaves out what is between two places where that's
-        16 KiB or more. Raises what `read` does of such a value, what the file raises, and `EOFError` where it is
-        cut meanwhile.
+        16 KiB or more, and the inner chunks that have none of them. Raises what `read` does of such a value, what
+        the file raises, and `EOFError` where it is cut meanwhile.
 
         >>> import io
         >>> Chain(["bytes"], (4,), "uint8").read_from(io.BytesIO(b"abcd"), slice(1, 3))
@@ -647,14 +673,14 @@ class Chain:
 
     def _read_in_rounds(self, fetched: Fetched, selection: Any, out: AnyArray | None) -> AnyArray:
         """The elements of a selection, by as many rounds as it takes, up to a number."""
-        chosen = select(selection, self.shape).closed()
-        rounds = 0
+        chosen = self._near(select(selection, self.shape))
+        asked, rounds = chosen.without_gaps(), 0
         with self._saying_inner_chunk(fetched.source, selection):
             while True:
-                lacking = self._lacking_in_round(rounds, fetched, chosen)
+                lacking = self._lacking_in_round(rounds, fetched, asked)
                 if lacking.size:
                     fetched.fetch(lacking)
-                arguments = *fetched.arguments(), *chosen.arguments()
+                arguments = *fetched.arguments(), *asked.arguments()
                 call = partial(library.zarrs_read_pieces, self._header, self._length, *arguments)
                 try:
                     elements = told(self._type, call, chosen.shape, fetched.size + 64)
@@ -736,7 +762,8 @@ class Chain:
         part_bytes = elements.nbytes
         if source.part_bytes is not None:
             part_bytes = min(max(part_bytes // 4, _LEAST_PART_BYTES), _PART_BYTES)
-        for part in chosen.parts(max(part_bytes // self.dtype.itemsize, 1)):
+        together = () if source.part_bytes is not None else (_MOST_APART,)
+        for part in chosen.parts(max(part_bytes // self.dtype.itemsize, 1), *together):
             ranges: Any = self._planned(part)
             # that some end behind the value, the library says, once it has what there is of them
             ranges = np.minimum(ranges[ranges[:, 0] < length], np.uint64(length))
