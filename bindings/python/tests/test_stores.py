@@ -223,6 +223,28 @@ def test_rows_that_are_far_apart_are_fetched_by_one_call(codecs, tmp_path):
     assert fetched == 4 * 4096 * 4 + is_shard * 1024 * 16
 
 
+@pytest.mark.parametrize("codecs", [[LITTLE], sharded([32, 32], [LITTLE], [LITTLE])])
+def test_lists_of_few_places_fetch_these(codecs, tmp_path):
+    """Each with each, of 512 times 512: no element between them; and many are copied out of what has them."""
+    numbers = np.arange(512 * 512, dtype="<i4").reshape(512, 512)
+    array = make_array(tmp_path / "a", numbers.shape, numbers.shape, "int32", codecs, -1)
+    array[...] = numbers + 1
+    index = 256 * 16 if "chunk_shape" in str(codecs) else 0
+    store = Ranging(files_of(tmp_path / "a"))
+    for read, expected in (
+        (lambda lent: lent.oindex[[500, 3], [7, 500, 7]], numbers[np.ix_([500, 3], [7, 500, 7])]),
+        (lambda lent: lent[[0, 500], 5], numbers[[0, 500], 5]),
+        (lambda lent: lent.oindex[::200, None, [1, 400]], numbers[::200, None][..., [1, 400]]),
+        (lambda lent: lent.oindex[510, [9, 400]], numbers[510, [9, 400]]),
+    ):
+        lent = Array("bucket/a", store=store)
+        found, calls = store.calls_of(lambda: read(lent))
+        same(found, expected + 1)
+        fetched = {(start, end) for call in calls for start, end in call}
+        assert sum(end - start for start, end in fetched) == index + np.unique(expected).size * 4
+    same(lent.oindex[[1, 2, 4], [5, 3]], numbers[np.ix_([1, 2, 4], [5, 3])] + 1)
+
+
 class Breaking(Ranging):
     """One whose calls answer less, an exception, or raise one."""
 

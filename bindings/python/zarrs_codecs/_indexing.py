@@ -1,13 +1,14 @@
 """Lists of places: outer indices, with a list or a mask for some axes, and points, with an index for each axis."""
 
 import itertools
+import math
 from collections.abc import Iterator
 from dataclasses import dataclass
 from typing import Any, NamedTuple
 
 import numpy as np
 
-from ._selections import as_places, entries_of
+from ._selections import MOST_APART, SPARSE, Box, as_places, entries_of
 from ._types import AnyArray, Shape, listed
 
 
@@ -17,6 +18,22 @@ class Step(NamedTuple):
     place: tuple[Any, ...]
     inside: tuple[AnyArray, ...]
     there: tuple[AnyArray, ...]
+
+    def is_sparse(self, box: Box) -> bool:
+        """Whether the elements are few among those of the box that the basic index means."""
+        count = math.prod(one.size for one in self.inside)
+        return count <= MOST_APART and count * SPARSE <= math.prod(box.shape)
+
+    def points(self, box: Box) -> tuple[Any, ...]:
+        """The elements' places on each axis of the array, to be broadcast."""
+        inside, found = iter(self.inside), []
+        for entry in self.place:
+            if entry is None:
+                next(inside)
+                continue
+            on_axis = box.on_axes[len(found)]
+            found.append(on_axis.start + on_axis.step * next(inside) if isinstance(entry, slice) else on_axis.start)
+        return tuple(found)
 
 
 def is_list(entry: Any) -> bool:

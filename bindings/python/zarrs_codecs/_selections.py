@@ -16,6 +16,10 @@ from .refusals import OutOfBounds
 # Boxes of fewer elements than these that are apart from each other are read as rows, so many at a time.
 _FEW_TOGETHER = 256
 _MANY_ROWS = 4096
+# Of so many elements at most that lie apart a list of their indices is made, by which no others are read.
+MOST_APART = 1 << 20
+# What is at hand is copied with what lies between, where that is fewer times as much.
+SPARSE = 32
 
 # What C is given: how many rows, or that it is a box, and the numbers.
 Arguments = tuple[int, Any, int]

@@ -351,8 +351,11 @@ class Array:
         answer = empty(self._type, chosen.shape)
 
         def read(step: Step) -> None:
-            found = self._read_box(box((*step.place, ...), self.shape), one_by_one)
-            answer[step.there] = found[step.inside]
+            place = box((*step.place, ...), self.shape)
+            if step.is_sparse(place):
+                answer[step.there] = self._read_points(Points(step.points(place), self.shape), one_by_one)
+            else:
+                answer[step.there] = self._read_box(place, one_by_one)[step.inside]
 
         self._chunks.each(read, ((step,) for step in chosen.steps(self.chunks)))
         return answer if front is None else np.moveaxis(answer, front, 0)
@@ -374,14 +377,14 @@ class Array:
 
         self._chunks.each(write, ((step,) for step in chosen.steps(self.chunks)))
 
-    def _read_points(self, points: Points) -> Any:
-        self._chunks.check_folder()
+    def _read_points(self, points: Points, each: Each) -> Any:
+        """The elements at points."""
         answer = empty(self._type, points.shape)
-        each = answer.reshape(-1)
+        in_a_row = answer.reshape(-1)
         parts = points.by_chunk(self.chunks)
-        self._chunks.each(
+        each(
             self._chunks.read_into,
-            ((chunk, rows, each, numbers, self._fill) for chunk, rows, numbers in parts),
+            ((chunk, rows, in_a_row, numbers, self._fill) for chunk, rows, numbers in parts),
         )
         return answer[()]
 
@@ -420,7 +423,9 @@ class PointIndex:
         self._array = array
 
     def __getitem__(self, selection: Any) -> Any:
-        return self._array._read_points(Points(selection, self._array.shape))
+        points = Points(selection, self._array.shape)
+        self._array._chunks.check_folder()
+        return self._array._read_points(points, self._array._chunks.each)
 
     def __setitem__(self, selection: Any, array: ArrayLike) -> None:
         self._array._write_points(array, Points(selection, self._array.shape))

@@ -25,7 +25,7 @@ from ._header import Header, copied, json_of
 from ._library import SHORT, EditSize, checked, library
 from ._locating import OF_CODECS, OF_VALUES, locate, locate_stored
 from ._rounds import Fetched, has_shards_inside, with_whole_inside
-from ._selections import Selection, select
+from ._selections import MOST_APART, SPARSE, Selection, select
 from ._types import AnyArray, Bytes, Shape, sizes_of
 from .refusals import InvalidConfiguration, NotInPlace, OutOfBounds, Refused, Storage, Syntax, UnknownName
 
@@ -38,12 +38,8 @@ _LEAST_PART_BYTES = 1 << 14
 _PART_BYTES = PART_BYTES
 # How many bytes there are between two elements where these aren't read as well.
 _GAP_BYTES = 1 << 14
-# Of so many elements at most that lie apart a list of their indices is made, by which no others are read.
-_MOST_APART = 1 << 20
-# Of so many also of those that lie near, where it isn't known in which inner chunks they are.
+# Of so many elements also a list is made that lie near, where it isn't known in which inner chunks they are.
 _FEW_APART = 1 << 12
-# What is at hand is copied with what lies between, where that is fewer times as much.
-_SPARSE = 32
 # The numbers that a first try at a plan has room for.
 _PLAN_NUMBERS = 1 << 17
 # So many rounds fetch what they lack alone, and one more all that isn't there: each round reads again what those before
@@ -414,8 +410,8 @@ class Chain:
         is_exact = is_moved and math.prod(meant.shape) <= _FEW_APART
         chosen = meant if is_exact else meant.closed(self.dtype.itemsize, _GAP_BYTES, inner)
         count = math.prod(chosen.shape)
-        is_copied = is_at_hand and inner is None and count * _SPARSE > math.prod(whole.shape)
-        return whole if is_copied or count > _MOST_APART else chosen
+        is_copied = is_at_hand and inner is None and count * SPARSE > math.prod(whole.shape)
+        return whole if is_copied or count > MOST_APART else chosen
 
     def _read(self, inner: Any, chosen: Selection, out: AnyArray | None = None) -> AnyArray:
         """C's answer of a selection, of the library's value or of None."""
@@ -762,7 +758,7 @@ class Chain:
         part_bytes = elements.nbytes
         if source.part_bytes is not None:
             part_bytes = min(max(part_bytes // 4, _LEAST_PART_BYTES), _PART_BYTES)
-        together = () if source.part_bytes is not None else (_MOST_APART,)
+        together = () if source.part_bytes is not None else (MOST_APART,)
         for part in chosen.parts(max(part_bytes // self.dtype.itemsize, 1), *together):
             ranges: Any = self._planned(part)
             # that some end behind the value, the library says, once it has what there is of them
