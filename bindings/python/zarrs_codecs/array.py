@@ -73,9 +73,10 @@ class Array:
 
     The folder is that of the moment when it is opened, whatever folder is the current one later;
     `FileNotFoundError` is raised where it isn't there or has no `zarr.json` any more. Raises `InvalidMetadata`
-    where its `zarr.json` is of no such array, the refusals of `Chain`, `InvalidBytesLength` for a chunk of
-    another length than its codecs always write, `IndexError` for an index that is none, `ValueError` for
-    elements that don't broadcast or aren't of the type, and `TypeError` for those of another kind.
+    where its `zarr.json` is of no such array, the refusals of `Chain`, those of `decode` where a chunk is read
+    whole and else those of `read`, `InvalidBytesLength` for a chunk of another length than its codecs always
+    write, `IndexError` for an index that is none, `ValueError` for elements that don't broadcast or aren't of
+    the type, and `TypeError` for those of another kind.
 
     `shape`, `dtype`, `ndim` and `size` are as numpy has them, and `chunks` is the shape of a chunk;
     `dimension_names` has the axes' names, or is None; `metadata` is what `zarr.json` said, `chain` the `Chain` of
