@@ -209,7 +209,7 @@ def test_stores_are_not_written(rng, tmp_path):
 
 @pytest.mark.parametrize("codecs", [[LITTLE], [transpose([1, 0]), LITTLE], sharded([16, 16], [LITTLE], [LITTLE])])
 def test_rows_that_are_far_apart_are_fetched_by_one_call(codecs, tmp_path):
-    """Of rows of 16 KiB each third one: of a shard the index first, and no inner chunk that has none of them."""
+    """Of 64 rows of 16 KiB each twentieth: of a shard the index first, and no inner chunk that has none of them."""
     numbers = np.arange(64 * 4096, dtype="<i4").reshape(64, 4096)
     array = make_array(tmp_path / "a", numbers.shape, numbers.shape, "int32", codecs, -1)
     array[...] = numbers

@@ -42,8 +42,8 @@ _GAP_BYTES = 1 << 14
 _FEW_APART = 1 << 12
 # The numbers that a first try at a plan has room for.
 _PLAN_NUMBERS = 1 << 17
-# So many rounds fetch what they lack alone, and one more all that isn't there: each round reads again what those before
-# it have read.
+# So many rounds fetch what they lack alone, and one more all that isn't there, of a shard the inner chunks that are
+# needed: each round reads again what those before it have read.
 _MOST_ROUNDS = 8
 # Behind so many the inner chunks of a shard are fetched whole that are needed.
 _FEW_ROUNDS = 2
