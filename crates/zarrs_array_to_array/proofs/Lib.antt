@@ -24,6 +24,7 @@ pub mod PlaneRows
 pub mod SwappedAxes
 pub mod RowGroups
 pub mod ElementWords
+pub mod Tiles
 pub mod AxisRows
 pub mod FixedChunks
 pub mod Readers

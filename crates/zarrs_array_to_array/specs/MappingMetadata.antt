@@ -1,5 +1,5 @@
 -- The metadata of codecs that move elements.
-use Rattle.std.specs.Prelude.{◌≡◌, ℕ, List, Result, if◌then◌else◌}
+use Rattle.std.specs.Prelude.{ℕ, List, Result, if◌then◌else◌}
 use Rattle.zarrs_metadata.specs.Data.{Members}
 use Rattle.zarrs_chunk.specs.Answer.{seen}
 use Rattle.zarrs_metadata.specs.CodecMetadata.{transpose_name, is_transpose_name, transpose_made, reshape_name, is_reshape_name, reshape_made, squeeze_name, squeeze_made}

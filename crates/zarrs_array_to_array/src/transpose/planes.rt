@@ -6,6 +6,7 @@ ghost use Rattle.zarrs_array_to_array.specs.Strides.{next_rows, row};
 ghost use Rattle.zarrs_chunk.specs.Answer.{Appends};
 
 use crate::transpose::axis::Axis;
+use crate::transpose::near_rows::append_near_rows;
 use crate::transpose::row_groups::{append_grouped_row, append_row};
 use std::alloc::{AllocError, Global};
 
@@ -17,7 +18,7 @@ const NEAR: usize = 16384;
 
 /// Appends the elements of a plane, each of so many bytes, row by row.
 #[inline(always)]
-fn append_rows_of(
+pub(crate) fn append_rows_of(
     out: &mut Vec<u8>,
     bytes: &[u8],
     size: usize,
@@ -37,7 +38,8 @@ fn append_rows_of(
 }
 
 /// Appends the elements of a plane, row by row. The sizes of most are constants here, and chosen once,
-/// so that each element is a move or two.
+/// so that each element is a move or two. Rows of four bytes an element that begin one behind another
+/// are made four at a time.
 fn append_rows(
     out: &mut Vec<u8>,
     bytes: &[u8],
@@ -54,6 +56,9 @@ fn append_rows(
     match size {
         1 => append_rows_of(out, bytes, 1, front, rows, columns),
         2 => append_rows_of(out, bytes, 2, front, rows, columns),
+        4 if rows.step == 1 && columns.step >= 4 => {
+            append_near_rows(out, bytes, front, rows, columns)
+        }
         4 => append_rows_of(out, bytes, 4, front, rows, columns),
         8 => append_rows_of(out, bytes, 8, front, rows, columns),
         16 => append_rows_of(out, bytes, 16, front, rows, columns),

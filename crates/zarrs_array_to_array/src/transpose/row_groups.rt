@@ -83,7 +83,14 @@ fn append_eights(
 
 /// Writes so many bytes from each element of a row on, one behind another.
 #[inline(always)]
-fn put_row(items: &mut [u8], bytes: &[u8], size: usize, front: usize, axis: Axis, len: usize)
+pub(crate) fn put_row(
+    items: &mut [u8],
+    bytes: &[u8],
+    size: usize,
+    front: usize,
+    axis: Axis,
+    len: usize,
+)
     requires len { length items.old ≡ axis.size * len }
     requires sized { 0 < size }
     requires inside { RowInside len size front axis.step axis.size bytes.now }
