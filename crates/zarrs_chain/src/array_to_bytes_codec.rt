@@ -11,11 +11,9 @@ ghost use Rattle.zarrs_chain.specs.ChainView.{plain_codec};
 ghost use Rattle.zarrs_chain_meaning.specs.CodecMeaning.{HasMappings};
 ghost use Rattle.zarrs_chain_meaning.specs.MadeAgain.{HasRanges};
 ghost use Rattle.zarrs_chain.specs.FormView.{lent_form};
-ghost use Rattle.zarrs_metadata.specs.BytesConfiguration.{write_bytes};
+ghost use Rattle.zarrs_metadata.specs.CodecMetadata.{members_of};
 ghost use Rattle.zarrs_metadata.specs.MetadataV3.{metadata_seen, Writes};
 ghost use Rattle.zarrs_metadata.specs.PluginCreateError.{Makes};
-ghost use Rattle.zarrs_packbits.specs.SettingsMetadata.{write_settings};
-ghost use Rattle.zarrs_vlen_v2.specs.VlenV2Metadata.{write_vlen_v2};
 ghost use Rattle.zarrs_chain_meaning.specs.WrittenMetadata.{codec_name as codec_name_of, codec_configuration as codec_configuration_of};
 ghost use Rattle.zarrs_chain_meaning.specs.MadeChain.{codec_by};
 ghost use Rattle.zarrs_chain.specs.ChainParts.{made_seen};
@@ -287,32 +285,12 @@ pub(crate) fn codec_name<B>(codec: &ArrayToBytesCodec<B>) -> &'static str
     }
 }
 
-/// The configuration of `bytes`. Errors: `OutOfMemory`.
-fn bytes_written(alloc: Global, codec: &BytesCodec) -> Result<Configuration, PluginCreateError>
-    ensures answer { Writes result (write_bytes codec.now) }
-{
-    match codec.configuration(alloc)? {
-        None => Ok(Configuration::new(alloc)),
-        Some(configuration) => Ok(configuration),
-    }
-}
-
-/// The configuration of `packbits`. Errors: `OutOfMemory`.
-fn packbits_written(
+/// The configuration of a codec that has no chains. Errors: `OutOfMemory`.
+fn configuration_of<C: CodecTraits>(
     alloc: Global,
-    codec: &PackBitsCodec,
+    codec: &C,
 ) -> Result<Configuration, PluginCreateError>
-    ensures answer { Writes result (write_settings codec.now) }
-{
-    match codec.configuration(alloc)? {
-        None => Ok(Configuration::new(alloc)),
-        Some(configuration) => Ok(configuration),
-    }
-}
-
-/// The configuration of `vlen-utf8` and of `vlen-bytes`. Errors: `OutOfMemory`.
-fn vlen_v2_written(alloc: Global, codec: &VlenV2Codec) -> Result<Configuration, PluginCreateError>
-    ensures answer { Writes result write_vlen_v2 }
+    ensures answer { Writes result (members_of (C.written codec.now)) }
 {
     match codec.configuration(alloc)? {
         None => Ok(Configuration::new(alloc)),
@@ -330,9 +308,9 @@ pub(crate) fn codec_written<B: BytesToBytesCodecTraits>(
     ensures answer { Writes result (codec_configuration_of B.described (plain_codec codec.now)) }
 {
     match codec {
-        ArrayToBytesCodec::Bytes(codec) => bytes_written(alloc, codec),
-        ArrayToBytesCodec::PackBits(codec) => packbits_written(alloc, codec),
-        ArrayToBytesCodec::VlenV2(codec) => vlen_v2_written(alloc, codec),
+        ArrayToBytesCodec::Bytes(codec) => configuration_of(alloc, codec),
+        ArrayToBytesCodec::PackBits(codec) => configuration_of(alloc, codec),
+        ArrayToBytesCodec::VlenV2(codec) => configuration_of(alloc, codec),
         ArrayToBytesCodec::Vlen(codec) => vlen_written(alloc, codec),
         ArrayToBytesCodec::Optional(codec) => optional_written(alloc, codec),
         ArrayToBytesCodec::Sharding(codec) => sharding_written(alloc, codec),
