@@ -321,6 +321,74 @@ def test_a_write_leaves_the_bytes_of_other_inner_chunks():
         chain.write(held, 3, 8, out=held)
 
 
+def refusals_of(chain, value):
+    """What each call refuses that reads all of a value."""
+    for call in (
+        lambda: chain.decode(value),
+        lambda: chain.read(value, np.s_[::-1]),
+        lambda: chain.read_from(RecordingFile(value), ...),
+        lambda: chain.read_many(value, [0, ...]),
+        lambda: chain.write(value, ..., 1) if chain.unproved == () else chain.write(value, np.s_[1:], 1),
+        lambda: chain.reencode(value, [LITTLE]),
+    ):
+        with pytest.raises(z.Refused) as refused:
+            call()
+        yield refused.value
+
+
+@pytest.mark.parametrize("codec, said", [(GZIP, "gzip"), ("crc32c", "crc32c")])
+def test_refusals_say_the_codec_inside_and_the_inner_chunk(codec, said):
+    chain = Chain(sharded([2], ["bytes", codec], [LITTLE, "crc32c"]), (8,), "uint8", 0)
+    value = chain.encode(np.arange(1, 9, dtype="u1"))
+    # an index of four entries and a checksum has 68 bytes
+    third = int(np.frombuffer(bytes(value[-68:]), "<u8", 8).reshape(4, 2)[2, 0])
+    for place, key, number in ((third, "codecs", 2), (value.size - 5, "index_codecs", None)):
+        damaged = value.copy()
+        damaged[place] ^= 1
+        for refused in refusals_of(chain, damaged):
+            name = said if key == "codecs" else "crc32c"
+            assert type(refused) is z.BytesCodec
+            assert refused.codec == (0, "sharding_indexed") and refused.inner == ((key, 1, name),)
+            assert f"in its {key}[1], {name!r}" in str(refused)
+            assert ("of inner chunk" in str(refused)) == (number is not None)
+            assert number is None or f"of inner chunk {number}, by" in str(refused)
+    for refused in refusals_of(chain, value[:67]):
+        assert str(refused) == "67 bytes, where the index has 68, by codec 0, 'sharding_indexed'"
+    with pytest.raises(z.OutOfBounds) as refused:
+        chain.read_from(RecordingFile(value), [[8]])
+    assert refused.value.codec is None
+
+
+def test_each_shard_around_says_which_inner_chunk():
+    """Number 1 of the inner shards, and number 12 in it."""
+    chain = Chain(sharded([16], sharded([1], ["bytes", GZIP])), (32,), "uint8", 0)
+    value = chain.encode(np.arange(1, 33, dtype="u1"))
+    second = int(np.frombuffer(bytes(value[-32:]), "<u8").reshape(2, 2)[1, 0])
+    each = len(gzip.compress(b"a", 1))
+    value[second + 12 * each] ^= 1
+    with pytest.raises(z.BytesCodec, match="of inner chunk 12, of inner chunk 1, by codec 0") as refused:
+        chain.decode(value)
+    assert refused.value.inner == (("codecs", 0, "sharding_indexed"), ("codecs", 1, "gzip"))
+
+
+def test_one_of_many_inner_chunks_is_found_by_halves(monkeypatch):
+    """Of 4,096 with five bytes each; Python opens 256 of them at most."""
+    chain = Chain(sharded([1], ["bytes", "crc32c"]), (4096,), "uint8", 0)
+    value = chain.encode(np.full(4096, 7, "u1"))
+    value[5 * 3001] ^= 1
+    opened, once = [], ShardedChain._opened
+    monkeypatch.setattr(ShardedChain, "_opened", lambda *given: opened.append(given[1]) or once(*given))
+    rows = np.arange(4095, -1, -1)[:, np.newaxis]
+    for selection in (..., np.s_[::-2], rows):
+        file = RecordingFile(value)
+        with pytest.raises(z.BytesCodec, match="of inner chunk 3001, by"):
+            chain.read_from(file, selection)
+        with pytest.raises(z.BytesCodec, match="of inner chunk 3001, by"):
+            chain.read(value, selection)
+        assert len(opened) <= 2 * 256 and set(opened) <= set(range(2400, 3600))
+        opened.clear()
+
+
 def test_refusals_of_files_say_which(tmp_path):
     codecs = sharded([2], ["bytes", "crc32c"])
     array = Array.create(tmp_path / "a", (4,), (4,), "uint8", codecs=codecs)

@@ -87,12 +87,18 @@ class Fetched:
         return np.ascontiguousarray(rows[rows[:, 0] < rows[:, 1]], np.uint64)
 
     def index(self, begin: int, end: int) -> AnyArray:
-        """The bytes of the one range that tells where the elements are."""
-        if self._pieces.ranges.tolist() != [[begin, end]]:
-            self._pieces = _NOTHING
-            self.fetch(np.array([[begin, end]], np.uint64))
+        """The bytes of the range that tells where the elements are."""
+        lacking = self.without(np.array([[begin, end]], np.uint64))
+        if lacking.size:
+            self.fetch(lacking)
             self.first = self._pieces
-        return self._pieces.bytes
+        found = self.bytes_of(begin, end)
+        assert found is not None
+        return found
+
+    def anew(self) -> "Fetched":
+        """The same, for another read."""
+        return Fetched(self.source, self._pieces)
 
     def arguments(self) -> tuple[Any, ...]:
         """What C is given of them."""

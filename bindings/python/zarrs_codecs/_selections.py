@@ -254,10 +254,12 @@ Selection = Box | Rows
 
 
 def select(selection: Any, shape: Shape) -> Selection:
-    """The selection of a basic index, or of a list or array of elements' indices, a row for each.
+    """The selection of a basic index, or of a list or array of elements' indices, a row for each; of a selection itself.
 
     Raises `IndexError` or `TypeError` where it is neither, and `OutOfBounds` where an element of a list is outside.
     """
+    if isinstance(selection, (Box, Rows)):
+        return selection
     if isinstance(selection, (list, np.ndarray)):
         return _rows(selection, shape)
     return box(selection, shape)

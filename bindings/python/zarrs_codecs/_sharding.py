@@ -2,7 +2,7 @@
 
 import itertools
 import math
-from collections.abc import Iterable, Iterator, Sequence
+from collections.abc import Callable, Iterable, Iterator, Sequence
 from functools import cached_property
 from typing import Any, NamedTuple
 
@@ -11,9 +11,10 @@ import numpy as np
 from ._bytes_codecs import split, wrong
 from ._data_types import zarrs_own
 from ._elements import empty, mask_of, put, spread
-from ._files import Held, Source
+from ._files import Held
 from ._header import json_of
 from ._indexing import grouped
+from ._locating import OF_CODECS
 from ._rounds import Fetched
 from ._selections import Rows, Selection, select
 from ._types import AnyArray, Bytes, Shape
@@ -33,6 +34,8 @@ from .refusals import (
 NAME = "sharding_indexed"
 # What the index has for an inner chunk that isn't stored.
 _ABSENT = (1 << 64) - 1
+# Of so many elements all inner chunks are read where one of them is refused.
+_FEW_ELEMENTS = 256
 
 class _Configuration(NamedTuple):
     """What a configuration says."""
@@ -80,17 +83,48 @@ def array_chain(codecs: Any, shape: Sequence[int], data_type: Any, fill_value: A
     return parts
 
 
-def say_inner_chunk(error: Refused, chain: Chain, source: Source, selection: Any) -> None:
-    """Puts into the library's refusal of a read which inner chunk it is of, where the value is a shard: Python reads the
-    same, inner chunk by inner chunk."""
+def say_inner_chunk(
+    error: Refused, chain: Chain, fetched: Fetched, selection: Any, read: Callable[[Selection], Any]
+) -> None:
+    """Puts into the library's refusal of a read which inner chunk it is of, where the value is a shard: Python reads a part
+    of the same, inner chunk by inner chunk. The library reads parts by the call that is given."""
     if not is_sharded(chain._inner_list):
         return
     try:
+        chosen = _narrowed(error, select(selection, chain.shape), read)
         parts = ShardedChain(chain._inner_list, chain.shape, chain.data_type, chain.fill_value)
-        parts._read_fetched(Fetched(source), selection, None)
+        parts._read_fetched(fetched.anew(), chosen, None)
     except Refused as found:
         if type(found) is type(error):
-            error.args, error.codec = found.args, (0, NAME)
+            error.args, error.codec, error.inner = found.args, (0, NAME), found.inner
+
+
+def _narrowed(error: Refused, chosen: Selection, read: Callable[[Selection], Any]) -> Selection:
+    """A part of a selection whose read is refused alike, found by halves: one of few elements, where there is one."""
+    while (count := math.prod(chosen.shape)) > _FEW_ELEMENTS:
+        for part in chosen.parts(-(-count // 2)):
+            try:
+                read(part)
+            except Refused as found:
+                if type(found) is type(error):
+                    chosen = part
+                    break
+        else:
+            break
+    return chosen
+
+
+def _put_inside(error: Refused, key: str) -> None:
+    """Puts into a refusal of a codec in a list that the list is this key's."""
+    if error.codec is not None:
+        error.inner, error.codec = ((key, *error.codec), *error.inner), (0, NAME)
+
+
+def _refusal(kind: type[Refused], text: str) -> Refused:
+    """A refusal of a value by this codec."""
+    error = kind(text)
+    error.codec = 0, NAME
+    return error
 
 
 def _configuration(codec: dict[str, Any]) -> _Configuration:
@@ -186,16 +220,15 @@ class ShardedChain(Chain):
         try:
             return Chain(codecs, shape, data_type, fill_value)
         except Refused as error:
-            if error.codec is not None:
-                error.inner = ((key, *error.codec), *error.inner)
-            elif error.key is None:
+            if error.codec is None and error.key is None:
                 error.key = key
+            _put_inside(error, key)
             error.codec = 0, NAME
             raise
 
     def _locate(self, error: Refused) -> None:
-        """Puts into a refusal that it is of this codec."""
-        if error.codec is None:
+        """Puts into a refusal of codecs that it is of this one."""
+        if error.codec is None and type(error).__name__ in OF_CODECS:
             error.codec = 0, NAME
 
     def __repr__(self) -> str:
@@ -235,12 +268,16 @@ class ShardedChain(Chain):
     def _index_range(self, length: int) -> tuple[int, int]:
         """Where the index stands in a value of so many bytes."""
         if length < self._index_size:
-            raise InvalidBytesLength(f"{length} bytes, where the index has {self._index_size}")
+            raise _refusal(InvalidBytesLength, f"{length} bytes, where the index has {self._index_size}")
         return (length - self._index_size, length) if self._is_last else (0, self._index_size)
 
     def _entries(self, index: Any) -> AnyArray:
         """The first byte of each inner chunk, and how many there are."""
-        entries: AnyArray = self._index.decode(index).reshape(-1, 2)
+        try:
+            entries: AnyArray = self._index.decode(index).reshape(-1, 2)
+        except Refused as error:
+            _put_inside(error, "index_codecs")
+            raise
         return entries
 
     def _range(self, entries: AnyArray, number: int, length: int) -> tuple[int, int] | None:
@@ -249,7 +286,7 @@ class ShardedChain(Chain):
         if begin == size == _ABSENT:
             return None
         if begin + size > length:
-            raise InvalidByteRange(f"inner chunk {number} ends at {begin + size}, behind {length} bytes")
+            raise _refusal(InvalidByteRange, f"inner chunk {number} ends at {begin + size}, behind {length} bytes")
         return begin, begin + size
 
     def _stored(self, value: Any) -> list[Any]:
@@ -327,8 +364,9 @@ class ShardedChain(Chain):
         try:
             return self._chunk.decode(part) if inside is None else self._chunk._read_inner(self._chunk._inner(part), inside)
         except Refused as error:
-            if error.args and f"inner chunk {number}" not in str(error.args[0]):
+            if error.args:
                 error.args = (f"{error.args[0]}, of inner chunk {number}", *error.args[1:])
+            _put_inside(error, "codecs")
             raise
 
     def reencode(self, value: Any, codecs: Sequence[Any]) -> Bytes:
@@ -419,10 +457,10 @@ class ShardedChain(Chain):
         select(selection, self.shape)
 
     def _edit(self, value: Any, meant: Selection, elements: AnyArray) -> None:
-        raise NotInPlace("NotInPlace")
+        raise _refusal(NotInPlace, "NotInPlace")
 
     def _edit_many(self, value: Any, edits: list[tuple[Selection, AnyArray]]) -> None:
-        raise NotInPlace("NotInPlace")
+        raise _refusal(NotInPlace, "NotInPlace")
 
     def _write(self, inner: Any, meant: Selection, elements: AnyArray) -> Bytes:
         """The value that is left of a value, or of None, where elements are written at a selection."""

@@ -97,6 +97,11 @@ def _naming(method: Callable[Concatenate["Chain", _P], _R]) -> Callable[Concaten
     return named
 
 
+def _at_hand(value: Any) -> Fetched:
+    """A value that is in memory, of None one of no bytes."""
+    return Fetched(Held(b"" if value is None else value))
+
+
 def codec_list(codecs: Any) -> list[Any]:
     """A list of codecs; `InvalidConfiguration` is raised of a name or a codec alone."""
     if isinstance(codecs, (str, bytes, dict)):
@@ -216,8 +221,11 @@ class Chain:
             error.hint = hint(last)
 
     @contextlib.contextmanager
-    def _saying_inner_chunk(self, source: Source, selection: Any) -> Iterator[None]:
-        """A refusal of a read of this value says which inner chunk of a shard it is of, but for one of the selection."""
+    def _saying_inner_chunk(
+        self, fetched: Fetched, selection: Any, read: Callable[[Selection], Any]
+    ) -> Iterator[None]:
+        """A refusal of a read of this value says which inner chunk of a shard it is of, but for one of the selection. The
+        call reads parts of it."""
         try:
             yield
         except (Storage, OutOfBounds):
@@ -225,7 +233,7 @@ class Chain:
         except Refused as error:
             from ._sharding import say_inner_chunk
 
-            say_inner_chunk(error, self, source, selection)
+            say_inner_chunk(error, self, fetched, selection, read)
             raise
 
     def __repr__(self) -> str:
@@ -349,7 +357,7 @@ class Chain:
         inner = self._inner(value)
         at, length = lent(inner)
         call = partial(library.zarrs_decode, self._header, self._length, at, length)
-        with self._saying_inner_chunk(Held(inner), ...):
+        with self._saying_inner_chunk(_at_hand(inner), ..., partial(self._read, inner)):
             return self._told(call, self.shape, inner, length, out)
 
     def _told(
@@ -384,7 +392,8 @@ class Chain:
             call = partial(
                 library.zarrs_reencode, self._header, self._length, at, length, inner, len(inner)
             )
-            return other._told_value(call, length + 64)
+            with self._saying_inner_chunk(_at_hand(own), ..., partial(self._read, own)):
+                return other._told_value(call, length + 64)
         except Refused as error:
             self._locate(error)
             other._locate(error)
@@ -442,7 +451,7 @@ class Chain:
     def _read_inner(self, inner: Any, selection: Any, out: AnyArray | None = None) -> AnyArray:
         """The same of the library's value."""
         chosen = self._near(select(selection, self.shape), is_at_hand=True)
-        with self._saying_inner_chunk(Held(b"" if inner is None else inner), selection):
+        with self._saying_inner_chunk(_at_hand(inner), selection, partial(self._read, inner)):
             if chosen.after is None:
                 return self._read(inner, chosen, out)
             return put(self._read(inner, chosen)[chosen.after], out)
@@ -466,9 +475,11 @@ class Chain:
         call = partial(library.zarrs_read_many, self._header, self._length, *arguments)
         try:
             answers = told_many(self._type, call, [one.shape for one in chosen], length + 64)
-        except Refused as error:
-            self._locate_stored(error, inner)
-            raise
+        except Refused:
+            answers = None
+        if answers is None:
+            # one of them is refused by itself too, and says why
+            return [self._read_inner(inner, one) for one in chosen]
         return [
             told_one if one.after is None else told_one[one.after]
             for one, told_one in zip(chosen, answers, strict=True)
@@ -590,11 +601,12 @@ class Chain:
         at, length = lent(b"" if inner is None else inner)
         arguments = (inner is not None, at, length, *chosen.arguments(), *parts)
         call = partial(library.zarrs_write, self._header, self._length, *arguments)
-        try:
-            return self._told_value(call, length + 2 * parts[-1] + 64)
-        except Refused as error:
-            self._locate_stored(error, inner)
-            raise
+        with self._saying_inner_chunk(_at_hand(inner), ..., partial(self._read, inner)):
+            try:
+                return self._told_value(call, length + 2 * parts[-1] + 64)
+            except Refused as error:
+                self._locate_stored(error, inner)
+                raise
 
     def _planned(self, chosen: Selection) -> npt.NDArray[np.uint64] | None:
         is_planned = ctypes.c_bool()
@@ -670,22 +682,26 @@ class Chain:
     def _read_in_rounds(self, fetched: Fetched, selection: Any, out: AnyArray | None) -> AnyArray:
         """The elements of a selection, by as many rounds as it takes, up to a number."""
         chosen = self._near(select(selection, self.shape))
-        asked, rounds = chosen.without_gaps(), 0
-        with self._saying_inner_chunk(fetched.source, selection):
-            while True:
-                lacking = self._lacking_in_round(rounds, fetched, asked)
-                if lacking.size:
-                    fetched.fetch(lacking)
-                arguments = *fetched.arguments(), *asked.arguments()
-                call = partial(library.zarrs_read_pieces, self._header, self._length, *arguments)
-                try:
-                    elements = told(self._type, call, chosen.shape, fetched.size + 64)
-                    break
-                except Storage:
-                    if not lacking.size:
-                        raise
-                    rounds += 1
+        read = partial(self._read_round_by_round, fetched)
+        with self._saying_inner_chunk(fetched, selection, read):
+            elements = read(chosen)
         return put(elements if chosen.after is None else elements[chosen.after], out)
+
+    def _read_round_by_round(self, fetched: Fetched, chosen: Selection) -> AnyArray:
+        """The elements of a selection without its gaps, in its shape."""
+        asked, rounds = chosen.without_gaps(), 0
+        while True:
+            lacking = self._lacking_in_round(rounds, fetched, asked)
+            if lacking.size:
+                fetched.fetch(lacking)
+            arguments = *fetched.arguments(), *asked.arguments()
+            call = partial(library.zarrs_read_pieces, self._header, self._length, *arguments)
+            try:
+                return told(self._type, call, chosen.shape, fetched.size + 64)
+            except Storage:
+                if not lacking.size:
+                    raise
+                rounds += 1
 
     @cached_property
     def _whole_inside(self) -> bytes | None:
