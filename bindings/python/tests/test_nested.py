@@ -64,10 +64,29 @@ def test_texts_in_shards_in_shards(rng, monkeypatch):
                 assert len(rounds) <= 3
 
 
+# A window, and two points, of one inner chunk of four times four in a shard of 16 times 16, of which there are twelve.
+@pytest.mark.parametrize("front", [[], [transpose([1, 0])]])
+@pytest.mark.parametrize("inside", [[], [transpose([1, 0])]])
+def test_transpositions_before_them_change_no_round(front, inside, rng, monkeypatch):
+    rounds = rounds_of(monkeypatch)
+    chain = Chain([*front, *sharded([16, 16], [*inside, *sharded([4, 4], ["bytes"], [LITTLE])], [LITTLE])], (64, 48), "uint8", 0)
+    array = rng.integers(1, 256, (64, 48), np.uint8)
+    value = chain.encode(array)
+    for selection, expected in ((np.s_[20:22, 40:43], array[20:22, 40:43]), ([[20, 43], [23, 40]], array[[20, 23], [43, 40]])):
+        rounds.clear()
+        file = RecordingFile(value)
+        same(chain.read_from(file, selection), expected)
+        assert len(rounds) == 3 and len(file.seen) == 12 * 16 + 256 + expected.size
+    value[len(value) - 12 * 16 + 9] = 255
+    with pytest.raises(zarrs_codecs.Refused, match="inner chunk 0"):
+        chain.read_from(io.BytesIO(value), ...)
+
+
 def test_behind_other_codecs_they_go_one_after_the_other(rng, monkeypatch):
     """Behind eight rounds the shards that are needed come whole, and no others."""
     rounds = rounds_of(monkeypatch)
-    chain = Chain([transpose([1, 0]), *shard_of([16, 4], ["bytes"])], (64, 64), "uint8", 0)
+    reshape = {"name": "reshape", "configuration": {"shape": [[0], [1]]}}
+    chain = Chain([reshape, *shard_of([16, 4], ["bytes"])], (64, 64), "uint8", 0)
     array = rng.integers(1, 256, (64, 64), np.uint8)
     rows = [[row, row] for row in range(0, 48)]
     file = RecordingFile(chain.encode(array))

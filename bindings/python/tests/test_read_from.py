@@ -305,9 +305,37 @@ def test_steps_pass_inner_chunks(inside, kind, size, front, rng, monkeypatch):
             assert len(rounds) <= 3
             if side == 1:
                 assert len(file.seen) == 40 * 60 * 16 + size * array[selection].size
-            elif not front and kind == "int16":
+            elif kind == "int16":
                 touched = {(row // 4, column // 4) for row, column in np.argwhere(_marked(array.shape, selection)).tolist()}
                 assert len(file.seen) <= 150 * 16 + 32 * len(touched)
+
+
+TURNED = transpose([1, 0])
+
+
+# Of 16 times 1,024 numbers of eight bytes, each fourth row of three columns: a row is 8 KiB, a column 128 bytes. Between two
+# rows there are 24 KiB where rows stand together, and 24 bytes where columns do: then what lies between is fetched.
+@pytest.mark.parametrize(
+    "codecs, rows_together",
+    [
+        ([LITTLE], True),
+        ([TURNED, LITTLE], False),
+        ([TURNED, TURNED, LITTLE], True),
+        ([sharded(16, [LITTLE], chunk_shape=[16, 1024])], True),
+        ([TURNED, sharded(16, [LITTLE], chunk_shape=[1024, 16])], False),
+        ([sharded(16, [TURNED, LITTLE], chunk_shape=[16, 1024])], False),
+        ([TURNED, sharded(16, [TURNED, LITTLE], chunk_shape=[1024, 16])], True),
+    ],
+)
+def test_gaps_are_measured_as_elements_are_stored(codecs, rows_together):
+    chain = Chain(codecs, (16, 1024), "uint64", 0)
+    array = np.arange(1, 16 * 1024 + 1, dtype="<u8").reshape(16, 1024)
+    value = chain.encode(array)
+    file = RecordingFile(value)
+    same(chain.read_from(file, np.s_[::4, :3]), array[::4, :3])
+    ranges = [(row * 8192, 24) for row in (0, 4, 8, 12)] if rows_together else [(column * 128, 104) for column in (0, 1, 2)]
+    due = {byte for begin, size in ranges for byte in range(begin, begin + size)}
+    assert file.seen == due | set(range(16 * 1024 * 8, value.size))
 
 
 def _marked(shape, selection):

@@ -207,9 +207,12 @@ def test_stores_are_not_written(rng, tmp_path):
     same(array[...], expected)
 
 
-@pytest.mark.parametrize("codecs", [[LITTLE], [transpose([1, 0]), LITTLE], sharded([16, 16], [LITTLE], [LITTLE])])
-def test_rows_that_are_far_apart_are_fetched_by_one_call(codecs, tmp_path):
-    """Of 64 rows of 16 KiB each twentieth: of a shard the index first, and no inner chunk that has none of them."""
+@pytest.mark.parametrize(
+    "codecs, rows", [([LITTLE], 4), ([transpose([1, 0]), LITTLE], 61), (sharded([16, 16], [LITTLE], [LITTLE]), 4)]
+)
+def test_rows_that_are_far_apart_are_fetched_by_one_call(codecs, rows, tmp_path):
+    """Of 64 rows of 16 KiB each twentieth: of a shard the index first, and no inner chunk that has none of them. Where
+    columns stand together, rows aren't far apart."""
     numbers = np.arange(64 * 4096, dtype="<i4").reshape(64, 4096)
     array = make_array(tmp_path / "a", numbers.shape, numbers.shape, "int32", codecs, -1)
     array[...] = numbers
@@ -220,7 +223,33 @@ def test_rows_that_are_far_apart_are_fetched_by_one_call(codecs, tmp_path):
     is_shard = "chunk_shape" in str(codecs)
     assert len(calls) == 1 + is_shard
     fetched = sum(end - start for call in calls for start, end in call)
-    assert fetched == 4 * 4096 * 4 + is_shard * 1024 * 16
+    assert fetched == rows * 4096 * 4 + is_shard * 1024 * 16
+
+
+@pytest.mark.parametrize(
+    "inside, kind, elements", [([LITTLE, GZIP], "int32", [5, 6, 7, 8]), ([VLEN], "string", ["five", "six", "seven", "eight"])]
+)
+def test_inner_chunks_that_touch_are_fetched_as_one_range(inside, kind, elements, tmp_path, monkeypatch):
+    """In whatever order they stand: the third, the first and the second of four, and behind one byte the last."""
+    monkeypatch.setattr(_chunks, "_SMALL", 0)
+    array = make_array(tmp_path / "a", (8,), (8,), kind, sharded([2], inside), "" if kind == "string" else 0)
+    array[...] = elements * 2
+    path = array.chunk_path((0,))
+    stored = path.read_bytes()
+    each = [stored[begin : begin + size] for begin, size in np.frombuffer(stored[-64:], "<u8").reshape(4, 2).tolist()]
+    value, entries = b"", [None] * 4
+    for place in (2, 0, 1, 3):
+        value += b"x" if place == 3 else b""
+        entries[place] = len(value), len(each[place])
+        value += each[place]
+    path.write_bytes(value + np.array(entries, "<u8").tobytes())
+    store = Ranging(files_of(tmp_path / "a"))
+    found, calls = store.calls_of(lambda: Array("bucket/a", store=store)[...])
+    assert found.tolist() == elements * 2
+    last = len(value) - len(each[3])
+    assert calls == [[(len(value), len(value) + 64)], [(0, last - 1), (last, len(value))]]
+    found, calls = store.calls_of(lambda: Array("bucket/a", store=store)[1:5])
+    assert found.tolist() == (elements * 2)[1:5] and calls[1] == [(0, last - 1)]
 
 
 @pytest.mark.parametrize("codecs", [[LITTLE], sharded([32, 32], [LITTLE], [LITTLE])])

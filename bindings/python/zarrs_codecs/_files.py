@@ -17,6 +17,15 @@ from ._types import AnyArray, listed
 PART_BYTES = 1 << 20
 
 
+def joined(ranges: AnyArray) -> AnyArray:
+    """The same bytes in ranges of which none touches the next."""
+    is_first = np.ones(len(ranges), bool)
+    is_first[1:] = ranges[1:, 0] != ranges[:-1, 1]
+    is_last = np.ones(len(ranges), bool)
+    is_last[:-1] = is_first[1:]
+    return np.column_stack((ranges[is_first, 0], ranges[is_last, 1]))
+
+
 def _descriptor(file: Any) -> int | None:
     """The number of a plain file, which is read with no position of its own."""
     if isinstance(file, int):
@@ -125,7 +134,7 @@ class File(Source):
     def pieces(self, ranges: AnyArray) -> AnyArray:
         fetched = np.empty(int((ranges[:, 1] - ranges[:, 0]).sum()), np.uint8)
         view, at = fetched.data, 0
-        for begin, end in listed(ranges):
+        for begin, end in listed(joined(ranges)):
             self._read(view[at : at + end - begin], begin)
             at += end - begin
         return fetched

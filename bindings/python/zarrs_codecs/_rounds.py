@@ -6,10 +6,10 @@ import numpy as np
 import numpy.typing as npt
 
 from ._buffers import counted
-from ._files import Source
+from ._files import Source, joined
 from ._header import copied, json_of
 from ._locating import name_of
-from ._types import AnyArray, listed
+from ._types import AnyArray, Shape, listed
 
 Ranges = npt.NDArray[np.uint64]
 
@@ -78,7 +78,7 @@ class Fetched:
                 if begin < begins[at]:
                     found.append((begin, begins[at]))
                 begin, at = ends[at], at + 1
-        return _joined(np.array(found, np.uint64).reshape(-1, 2))
+        return joined(np.array(found, np.uint64).reshape(-1, 2))
 
     def missing(self) -> Ranges:
         """The ranges of all bytes that aren't there."""
@@ -104,6 +104,30 @@ class Fetched:
         """What C is given of them."""
         ranges, fetched = self._pieces
         return self.length, *counted(ranges, ranges.size), *counted(fetched, fetched.size)
+
+
+def behind_transpositions(codecs: list[Any], axes: int) -> tuple[tuple[int, ...], list[Any]]:
+    """The axes in the order that the transpositions before other codecs give them, and the other codecs."""
+    order = tuple(range(axes))
+    for place, codec in enumerate(codecs):
+        if name_of(codec) != "transpose":
+            return order, codecs[place:]
+        order = tuple(order[axis] for axis in codec["configuration"]["order"])
+    return order, []
+
+
+def layout_of(codecs: list[Any], axes: int) -> tuple[tuple[int, ...], Shape | None]:
+    """The axes in the order of the stored elements, the slowest first, and the sizes of inner chunks; None where these
+    aren't known, or there are none. Codecs of other forms leave the order of the elements as it is."""
+    order, rest = behind_transpositions(codecs, axes)
+    sizes = None
+    while rest and name_of(rest[0]) == "sharding_indexed":
+        said = rest[0]["configuration"]
+        on_axes = dict(zip(order, said["chunk_shape"], strict=True))
+        sizes = sizes or tuple(on_axes[axis] for axis in range(axes))
+        moved, rest = behind_transpositions(said["codecs"], axes)
+        order = tuple(order[axis] for axis in moved)
+    return order, sizes
 
 
 def _inside_shard(codecs: list[Any]) -> list[Any] | None:
@@ -142,13 +166,4 @@ def _merged(*parts: Pieces) -> Pieces:
         ends = np.cumsum((part.ranges[:, 1] - part.ranges[:, 0]).astype(np.int64))
         split += np.split(part.bytes, ends[:-1])
     order = np.argsort(ranges[:, 0], kind="stable")
-    return Pieces(_joined(ranges[order]), np.concatenate([split[place] for place in listed(order)]))
-
-
-def _joined(ranges: Ranges) -> Ranges:
-    """The same bytes in ranges of which none touches the next."""
-    is_first = np.ones(len(ranges), bool)
-    is_first[1:] = ranges[1:, 0] != ranges[:-1, 1]
-    is_last = np.ones(len(ranges), bool)
-    is_last[:-1] = is_first[1:]
-    return np.column_stack((ranges[is_first, 0], ranges[is_last, 1]))
+    return Pieces(joined(ranges[order]), np.concatenate([split[place] for place in listed(order)]))

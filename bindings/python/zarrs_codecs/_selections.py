@@ -2,7 +2,7 @@
 
 import math
 import operator
-from collections.abc import Iterator
+from collections.abc import Iterator, Sequence
 from dataclasses import dataclass
 from typing import Any
 
@@ -46,9 +46,15 @@ class Rows:
         """What C is given."""
         return len(self.rows), lent(self.rows)[0], self.rows.size
 
-    def closed(self, item_size: int = 1, gap: int | None = None, sizes: Shape | None = None) -> "Rows":
+    def closed(
+        self, item_size: int = 1, gap: int | None = None, order: Sequence[int] | None = None, sizes: Shape | None = None
+    ) -> "Rows":
         """The same: there is nothing between the elements."""
         return self
+
+    def moved(self, order: Sequence[int]) -> "Rows":
+        """The same elements, of a chunk with its axes in this order."""
+        return Rows(self.rows[:, list(order)])
 
     def without_gaps(self) -> "Rows":
         """The same."""
@@ -88,15 +94,18 @@ class Box:
         tuples, numbers = self.numbers()
         return tuples, start(numbers), numbers.size
 
-    def closed(self, item_size: int = 1, gap: int | None = None, sizes: Shape | None = None) -> "Box":
+    def closed(
+        self, item_size: int = 1, gap: int | None = None, order: Sequence[int] | None = None, sizes: Shape | None = None
+    ) -> "Box":
         """The same elements, and those in gaps of fewer bytes, in all where it is None: `after` leaves them
-        out. Where sizes are given, of inner chunks, a gap is one in an inner chunk, and those that pass one stay."""
+        out. Elements are stored in this order of the axes, the slowest first. Where sizes are given, of inner chunks, a
+        gap is one in an inner chunk, and those that pass one stay."""
         if not self.has_gaps:
             return self
         on_axes = list(self.on_axes)
         steps = [1] * len(on_axes)
         between = item_size
-        for axis in reversed(range(len(on_axes))):
+        for axis in reversed(range(len(on_axes)) if order is None else order):
             one = on_axes[axis]
             is_near = gap is None or (one.step - 1) * between < gap
             if one.step > 1 and is_near and (sizes is None or one.step <= sizes[axis]):
@@ -104,6 +113,10 @@ class Box:
                 on_axes[axis] = range(one.start, one[-1] + 1)
             between *= len(on_axes[axis]) if sizes is None else sizes[axis]
         return Box(on_axes, _stepped(self.after, steps))
+
+    def moved(self, order: Sequence[int]) -> "Box":
+        """The same elements, of a chunk with its axes in this order."""
+        return Box([self.on_axes[axis] for axis in order], None)
 
     def without_gaps(self) -> "Box | Rows":
         """The same elements in the same order, as rows where there are elements between those that are meant."""

@@ -77,10 +77,10 @@ def array_chain(codecs: Any, shape: Sequence[int], data_type: Any, fill_value: A
     """The chain of an array's chunks. Python cuts shards whose inner chunks hold texts that the library asks for one after
     the other, since each of these calls may go to a store that is far away."""
     chain = Chain(codecs, shape, data_type, fill_value)
-    parts = None if chain._is_composed else chain._cut
-    if parts is None or chain._has_shards_inside or parts._chunk._is_planned or parts._chunk._is_read_whole:
+    if chain._is_composed or not is_sharded(chain.codecs) or chain._has_shards_inside:
         return chain
-    return parts
+    parts = ShardedChain(chain.codecs, shape, data_type, fill_value)
+    return chain if parts._chunk._is_planned or parts._chunk._is_read_whole else parts
 
 
 def say_inner_chunk(
@@ -88,15 +88,15 @@ def say_inner_chunk(
 ) -> None:
     """Puts into the library's refusal of a read which inner chunk it is of, where the value is a shard: Python reads a part
     of the same, inner chunk by inner chunk. The library reads parts by the call that is given."""
-    if not is_sharded(chain._inner_list):
+    if chain._cut is None:
         return
+    order, parts = chain._cut
     try:
         chosen = _narrowed(error, select(selection, chain.shape), read)
-        parts = ShardedChain(chain._inner_list, chain.shape, chain.data_type, chain.fill_value)
-        parts._read_fetched(fetched.anew(), chosen, None)
+        parts._read_fetched(fetched.anew(), chosen.moved(order), None)
     except Refused as found:
         if type(found) is type(error):
-            error.args, error.codec, error.inner = found.args, (0, NAME), found.inner
+            error.args, error.codec, error.inner = found.args, (len(chain._inner_list) - 1, NAME), found.inner
 
 
 def _narrowed(error: Refused, chosen: Selection, read: Callable[[Selection], Any]) -> Selection:
@@ -249,6 +249,10 @@ class ShardedChain(Chain):
         if size is None or self._chunk.unproved:
             return Representation("unbounded", None)
         return Representation("bounded", size * math.prod(self._grid) + self._index_size)
+
+    @cached_property
+    def _cut(self) -> "tuple[tuple[int, ...], ShardedChain]":
+        return tuple(range(len(self.shape))), self
 
     @cached_property
     def _is_planned(self) -> bool:
@@ -414,6 +418,8 @@ class ShardedChain(Chain):
                 elements[piece.there] = self._fill
             else:
                 stored.append((piece, where))
+        # those that touch are fetched together
+        stored.sort(key=lambda one: one[1])
         parts = fetched.source.each([where for _, where in stored])
         for (piece, _), part in zip(stored, parts, strict=True):
             elements[piece.there] = self._opened(piece.number, part, piece.inside)

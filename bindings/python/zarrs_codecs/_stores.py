@@ -9,7 +9,7 @@ from typing import Any
 import numpy as np
 
 from ._cache import State
-from ._files import File, Source, replace
+from ._files import File, Source, joined, replace
 from ._types import AnyArray, listed
 
 # Words of `info` that tell of a change, in whatever case.
@@ -119,7 +119,7 @@ class _Ranged(Source):
     def pieces(self, ranges: AnyArray) -> AnyArray:
         if not len(ranges):
             return np.empty(0, np.uint8)
-        begins, ends = listed(ranges[:, 0]), listed(ranges[:, 1])
+        begins, ends = (listed(column) for column in joined(ranges).T)
         parts = self._store.cat_ranges([self._path] * len(begins), begins, ends)
         for part, begin, end in zip(parts, begins, ends, strict=True):
             if isinstance(part, BaseException):

@@ -24,7 +24,7 @@ from ._files import PART_BYTES, File, Held, Source
 from ._header import Header, copied, json_of
 from ._library import SHORT, EditSize, checked, library
 from ._locating import OF_CODECS, OF_VALUES, locate, locate_stored
-from ._rounds import Fetched, has_shards_inside, with_whole_inside
+from ._rounds import Fetched, behind_transpositions, has_shards_inside, layout_of, with_whole_inside
 from ._selections import MOST_APART, SPARSE, Selection, select
 from ._types import AnyArray, Bytes, Shape, sizes_of
 from .refusals import InvalidConfiguration, NotInPlace, OutOfBounds, Refused, Storage, Syntax, UnknownName
@@ -403,21 +403,20 @@ class Chain:
     # -- parts of chunks
 
     @cached_property
-    def _inner_shape(self) -> Shape | None:
-        """The sizes of inner chunks, where the chain is a shard alone."""
-        from ._sharding import is_sharded
-
-        return tuple(self._inner_list[0]["configuration"]["chunk_shape"]) if is_sharded(self._inner_list) else None
+    def _layout(self) -> tuple[tuple[int, ...], Shape | None]:
+        """The axes in the order of the stored elements, and the sizes of inner chunks, where transpositions alone stand
+        before the shard."""
+        return layout_of(self._inner_list, len(self.shape))
 
     def _near(self, meant: Selection, is_at_hand: bool = False) -> Selection:
         """A selection with what lies between its places, where that is near, in the inner chunks of a shard that have some of
         them; where rows of those that are apart would be too many, with all that does."""
         if not meant.has_gaps:
             return meant
-        inner, whole = self._inner_shape, meant.closed()
+        (order, inner), whole = self._layout, meant.closed()
         is_moved = inner is None and self._whole_inside is not None
         is_exact = is_moved and math.prod(meant.shape) <= _FEW_APART
-        chosen = meant if is_exact else meant.closed(self.dtype.itemsize, _GAP_BYTES, inner)
+        chosen = meant if is_exact else meant.closed(self.dtype.itemsize, _GAP_BYTES, order, inner)
         count = math.prod(chosen.shape)
         is_copied = is_at_hand and inner is None and count * SPARSE > math.prod(whole.shape)
         return whole if is_copied or count > MOST_APART else chosen
@@ -671,7 +670,10 @@ class Chain:
         source = fetched.source
         if not self._is_planned:
             return self._read_in_rounds(fetched, selection, out)
-        chosen = select(selection, self.shape).closed(self.dtype.itemsize, _GAP_BYTES)
+        chosen = select(selection, self.shape)
+        # as the elements are stored, and as the chunk has them, in whose order the parts are made
+        for order in (self._layout[0], None):
+            chosen = chosen.closed(self.dtype.itemsize, _GAP_BYTES, order, self.shape)
         if out is not None and chosen.after is None and takes(self._type, out, chosen.shape):
             self._read_parts(source, chosen, out.reshape(-1))
             return out
@@ -710,13 +712,15 @@ class Chain:
         return None if codecs is None else self._said.text(json_of(codecs))
 
     @cached_property
-    def _cut(self) -> "ShardedChain | None":
-        """The same chunks as Python cuts them, where the chain is a shard alone."""
+    def _cut(self) -> "tuple[tuple[int, ...], ShardedChain] | None":
+        """The order of the axes behind transpositions, and the shard behind these as Python cuts it; None where there is
+        another codec."""
         from ._sharding import ShardedChain, is_sharded
 
-        if self._outer or not is_sharded(self._inner_list):
+        order, rest = behind_transpositions(self._inner_list, len(self.shape))
+        if not is_sharded(rest):
             return None
-        return ShardedChain(self._inner_list, self.shape, self.data_type, self.fill_value)
+        return order, ShardedChain(rest, [self.shape[axis] for axis in order], self.data_type, self.fill_value)
 
     @cached_property
     def _has_shards_inside(self) -> bool:
