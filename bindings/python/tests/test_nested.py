@@ -1,12 +1,13 @@
 """Shards in shards are read in rounds of all of them at once."""
 
+import gzip
 import io
 
 import numpy as np
 import pytest
 from samples import LITTLE, VLEN, RecordingFile, same, some, some_region, some_rows, some_texts, transpose
 from test_read_from import rounds_of
-from test_sharding import sharded
+from test_sharding import GZIP, sharded
 
 import zarrs_codecs
 from zarrs_codecs import Array, Chain, _rounds
@@ -96,9 +97,22 @@ def test_behind_other_codecs_they_go_one_after_the_other(rng, monkeypatch):
     same(chain.read_from(file, rows), array[np.arange(48), np.arange(48)])
 
 
-def test_damaged_shards_are_refused_as_reads_refuse_them(rng):
+def test_shards_inside_that_python_cuts_are_read_in_part(rng):
+    """Of inner chunks of four times four: an index of 256 bytes, another one of each shard inside, and their own bytes."""
+    chain = Chain(shard_of([16, 4], ["bytes", GZIP]), (64, 64), "uint8", 0)
+    array = rng.integers(1, 256, (64, 64), np.uint8)
+    file = RecordingFile(chain.encode(array))
+    stored = [len(gzip.compress(array[20:24, column : column + 4].tobytes(), 1)) for column in (44, 48)]
+    for selection, expected in ((np.s_[21:23, 45:50], array[21:23, 45:50]), ([[20, 45], [23, 48]], array[[20, 23], [45, 48]])):
+        file.seen.clear()
+        same(chain.read_from(file, selection), expected)
+        assert len(file.seen) == 256 + 2 * 256 + sum(stored)
+
+
+@pytest.mark.parametrize("inside", [[LITTLE, "crc32c"], [LITTLE, GZIP]])
+def test_damaged_shards_are_refused_as_reads_refuse_them(inside, rng):
     """Wherever a byte is another one, or the value ends."""
-    chain = Chain(shard_of([4, 2], [LITTLE, "crc32c"]), (8, 8), "int16", 0)
+    chain = Chain(shard_of([4, 2], inside), (8, 8), "int16", 0)
     value = chain.encode(some(rng, "int16", np.dtype("<i2"), (8, 8)))
     selection = np.s_[1:6, 3:7]
     damaged = [value[:length] for length in range(0, value.size, 5)]
@@ -110,12 +124,13 @@ def test_damaged_shards_are_refused_as_reads_refuse_them(rng):
         try:
             found = chain.read(each, selection)
         except zarrs_codecs.Refused as error:
-            refusal = type(error)
+            refusal = error
         if refusal is None:
             same(chain.read_from(io.BytesIO(each), selection), found)
         else:
-            with pytest.raises(refusal):
+            with pytest.raises(type(refusal)) as refused:
                 chain.read_from(io.BytesIO(each), selection)
+            assert str(refused.value) == str(refusal)
 
 
 def test_an_array_of_them_is_the_library_s(tmp_path, rng, monkeypatch):

@@ -61,6 +61,12 @@ class Fetched:
         place = int((ends[:at] - begins[:at]).sum()) + begin - int(begins[at])
         return self._pieces.bytes[place : place + end - begin]
 
+    def there(self, begin: int, end: int) -> AnyArray:
+        """The bytes of a range that was fetched."""
+        found = self.bytes_of(begin, end)
+        assert found is not None
+        return found
+
     def without(self, ranges: Ranges) -> Ranges:
         """The bytes of ranges that aren't there, in ranges of which none touches the next. The given ones are in the order
         of their first bytes, and may overlap."""
@@ -92,9 +98,7 @@ class Fetched:
         if lacking.size:
             self.fetch(lacking)
             self.first = self._pieces
-        found = self.bytes_of(begin, end)
-        assert found is not None
-        return found
+        return self.there(begin, end)
 
     def anew(self) -> "Fetched":
         """The same, for another read."""
@@ -104,6 +108,20 @@ class Fetched:
         """What C is given of them."""
         ranges, fetched = self._pieces
         return self.length, *counted(ranges, ranges.size), *counted(fetched, fetched.size)
+
+
+class Window(Source):
+    """A part of a value, of which the bytes that are read were fetched."""
+
+    def __init__(self, fetched: Fetched, begin: int, end: int) -> None:
+        self._fetched, self._begin, self._end = fetched, begin, end
+
+    def length(self) -> int:
+        return self._end - self._begin
+
+    def pieces(self, ranges: AnyArray) -> AnyArray:
+        found = [self._fetched.there(self._begin + begin, self._begin + end) for begin, end in listed(ranges)]
+        return np.concatenate(found)
 
 
 def behind_transpositions(codecs: list[Any], axes: int) -> tuple[tuple[int, ...], list[Any]]:

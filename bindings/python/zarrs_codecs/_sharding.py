@@ -15,7 +15,7 @@ from ._files import Held
 from ._header import json_of
 from ._indexing import grouped
 from ._locating import OF_CODECS
-from ._rounds import Fetched
+from ._rounds import Fetched, Window
 from ._selections import Rows, Selection, select
 from ._types import AnyArray, Bytes, Shape
 from .chain import Chain, Representation
@@ -366,6 +366,8 @@ class ShardedChain(Chain):
     def _opened(self, number: int, part: Any, inside: Any = None) -> AnyArray:
         """The elements of a stored inner chunk, or those that a selection means; a refusal says which it is."""
         try:
+            if isinstance(part, Window):
+                return self._chunk._read_fetched(Fetched(part), inside, None)
             return self._chunk.decode(part) if inside is None else self._chunk._read_inner(self._chunk._inner(part), inside)
         except Refused as error:
             if error.args:
@@ -420,12 +422,29 @@ class ShardedChain(Chain):
                 stored.append((piece, where))
         # those that touch are fetched together
         stored.sort(key=lambda one: one[1])
-        parts = fetched.source.each([where for _, where in stored])
+        parts = self._stored_parts(fetched, chosen, [where for _, where in stored])
         for (piece, _), part in zip(stored, parts, strict=True):
             elements[piece.there] = self._opened(piece.number, part, piece.inside)
         if failure is not None:
             raise failure
         return put(elements if chosen.after is None else elements[chosen.after], out)
+
+    def _stored_parts(
+        self, fetched: Fetched, chosen: Selection, ranges: list[tuple[int, int]]
+    ) -> Iterator[Any]:
+        """What is at these ranges of inner chunks; where these are shards that Python cuts, what is read of them, which is
+        fetched for all of them together."""
+        if not self._chunk._is_composed or isinstance(fetched.source, Held):
+            return fetched.source.each(ranges)
+        from ._nested import lacking_inside
+
+        try:
+            while (lacking := lacking_inside(self._cut, chosen, fetched)).size:
+                fetched.fetch(lacking)
+        except Refused:
+            # the inner chunk that is damaged refuses it
+            return fetched.source.each(ranges)
+        return (Window(fetched, *one) for one in ranges)
 
     def _check_rows(self, chosen: Selection) -> None:
         """Raises `OutOfBounds` where a list has an index outside: the library says so of a chunk of fill values."""
@@ -455,7 +474,7 @@ class ShardedChain(Chain):
 
     def read_from(self, file: Any, selection: Any, out: AnyArray | None = None) -> AnyArray:
         """The elements that a selection means of the value that a file has, as `read` answers them: it asks for the
-        index, and then for the inner chunks with some of them."""
+        index, and then for the inner chunks with some of them; of shards inside for their indexes in between."""
         return super().read_from(file, selection, out)
 
     def planned_ranges(self, selection: Any) -> None:
