@@ -19,6 +19,8 @@ PART_BYTES = 1 << 20
 
 def joined(ranges: AnyArray) -> AnyArray:
     """The same bytes in ranges of which none touches the next."""
+    if len(ranges) < 2:
+        return ranges
     is_first = np.ones(len(ranges), bool)
     is_first[1:] = ranges[1:, 0] != ranges[:-1, 1]
     is_last = np.ones(len(ranges), bool)

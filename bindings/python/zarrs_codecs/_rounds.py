@@ -94,9 +94,9 @@ class Fetched:
 
     def index(self, begin: int, end: int) -> AnyArray:
         """The bytes of the range that tells where the elements are."""
-        lacking = self.without(np.array([[begin, end]], np.uint64))
-        if lacking.size:
-            self.fetch(lacking)
+        if not self.size or self.bytes_of(begin, end) is None:
+            asked = np.array([[begin, end]], np.uint64)
+            self.fetch(self.without(asked) if self.size else asked)
             self.first = self._pieces
         return self.there(begin, end)
 
@@ -138,7 +138,7 @@ def layout_of(codecs: list[Any], axes: int) -> tuple[tuple[int, ...], Shape | No
     """The axes in the order of the stored elements, the slowest first, and the sizes of inner chunks; None where these
     aren't known, or there are none. Codecs of other forms leave the order of the elements as it is."""
     order, rest = behind_transpositions(codecs, axes)
-    sizes = None
+    sizes: Shape | None = None
     while rest and name_of(rest[0]) == "sharding_indexed":
         said = rest[0]["configuration"]
         on_axes = dict(zip(order, said["chunk_shape"], strict=True))

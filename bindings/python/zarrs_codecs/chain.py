@@ -472,10 +472,9 @@ class Chain:
         at, length = lent(b"" if inner is None else inner)
         arguments = (inner is not None, at, length, *counted(sizes, len(sizes)), *counted(numbers, numbers.size))
         call = partial(library.zarrs_read_many, self._header, self._length, *arguments)
-        try:
+        answers: list[AnyArray] | None = None
+        with contextlib.suppress(Refused):
             answers = told_many(self._type, call, [one.shape for one in chosen], length + 64)
-        except Refused:
-            answers = None
         if answers is None:
             # one of them is refused by itself too, and says why
             return [self._read_inner(inner, one) for one in chosen]
@@ -642,10 +641,10 @@ class Chain:
         are, then the offsets, then the texts that are selected; over `sharding_indexed` the index, then what
         is needed of all inner chunks at once, of texts those inner chunks whole; over shards in shards the
         indexes of all inner shards in between; over other codecs the whole value. That is three rounds at most,
-        and one more for each further level of shards in shards. Behind an array-to-array codec shards in shards
+        and one more for each further level of shards in shards. Behind `reshape` or `zarrs.squeeze` shards in shards
         go one after the other, and behind eight rounds those that are needed come whole. Each range is a read
         of the file by itself. Of a slice with a step it leaves out what is between two places where that's
-        16 KiB or more, and the inner chunks that have none of them. Raises what `read` does of such a value, what
+        16 KiB of the file or more, and the inner chunks that have none of them. Raises what `read` does of such a value, what
         the file raises, and `EOFError` where it is cut meanwhile.
 
         >>> import io

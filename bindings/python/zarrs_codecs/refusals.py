@@ -56,7 +56,8 @@ class Refused(Exception):
     Where they are known, the message and these attributes say what was refused: `codec`, the place in the list
     of codecs, from 0, and the codec's name; `inner`, where the codec has lists of codecs and the refusal is of
     one in them, for each level the list's key, the place in it and the name there; `key`, the key of the last
-    one's configuration; `path`, the chunk's file or `zarr.json`; `hint`, what could help.
+    one's configuration; `path`, the chunk's file or `zarr.json`; `hint`, what could help. Of a shard the message says
+    of which inner chunk a refusal is, by its number in the index, and of those around it.
 
     >>> from zarrs_codecs import Chain
     >>> try:
