@@ -338,6 +338,25 @@ def test_gaps_are_measured_as_elements_are_stored(codecs, rows_together):
     assert file.seen == due | set(range(16 * 1024 * 8, value.size))
 
 
+@pytest.mark.parametrize(
+    "codecs",
+    [
+        [sharded(0, [LITTLE], chunk_shape=[64, 40])],
+        [TURNED, sharded(0, [LITTLE], chunk_shape=[40, 64])],
+        [sharded(0, [TURNED, LITTLE], chunk_shape=[64, 40])],
+    ],
+)
+def test_points_in_any_order_are_asked_for_as_they_are_stored(codecs, rng, monkeypatch):
+    """1,880 points of two bytes, in an inner chunk where they stand together: the index, and then these."""
+    rounds = rounds_of(monkeypatch)
+    chain = Chain(codecs, (64, 40), "uint16", 0)
+    array = rng.integers(1, 999, (64, 40)).astype("u2")
+    rows = rng.permutation(np.argwhere(array[3:50]) + [3, 0])
+    file = RecordingFile(chain.encode(array))
+    same(chain.read_from(file, rows), array[tuple(rows.T)])
+    assert len(rounds) == 2 and len(rounds[1]) in (1, 40) and len(file.seen) == 16 + 47 * 40 * 2
+
+
 def _marked(shape, selection):
     """Which places a selection means."""
     marked = np.zeros(shape, bool)

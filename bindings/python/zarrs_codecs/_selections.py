@@ -60,6 +60,11 @@ class Rows:
         """The same."""
         return self
 
+    def in_order(self, order: Sequence[int]) -> tuple["Rows", AnyArray]:
+        """The same elements as they are stored in this order of the axes, the slowest first, and where each one is then."""
+        places = np.lexsort([self.rows[:, axis] for axis in reversed(order)])
+        return Rows(self.rows[places]), np.argsort(places)
+
     def parts(self, limit: int, together: int | None = None) -> Iterator["Rows"]:
         """Selections of so many elements at most, whose answers, one behind another, are this one's."""
         for first in range(0, len(self.rows), limit):

@@ -25,7 +25,7 @@ from ._header import Header, copied, json_of
 from ._library import SHORT, EditSize, checked, library
 from ._locating import OF_CODECS, OF_VALUES, locate, locate_stored
 from ._rounds import Fetched, behind_transpositions, has_shards_inside, layout_of, with_whole_inside
-from ._selections import MOST_APART, SPARSE, Selection, select
+from ._selections import MOST_APART, SPARSE, Rows, Selection, select
 from ._types import AnyArray, Bytes, Shape, sizes_of
 from .refusals import InvalidConfiguration, NotInPlace, OutOfBounds, Refused, Storage, Syntax, UnknownName
 
@@ -413,7 +413,12 @@ class Chain:
         them; where rows of those that are apart would be too many, with all that does."""
         if not meant.has_gaps:
             return meant
-        (order, inner), whole = self._layout, meant.closed()
+        from ._sharding import is_sharded
+
+        # at hand nothing is fetched, and what the chunk has together is read together
+        order = None if is_at_hand else self._layout[0]
+        inner = self._layout[1] if not is_at_hand or is_sharded(self._inner_list) else None
+        whole = meant.closed()
         is_moved = inner is None and self._whole_inside is not None
         is_exact = is_moved and math.prod(meant.shape) <= _FEW_APART
         chosen = meant if is_exact else meant.closed(self.dtype.itemsize, _GAP_BYTES, order, inner)
@@ -691,6 +696,10 @@ class Chain:
     def _read_round_by_round(self, fetched: Fetched, chosen: Selection) -> AnyArray:
         """The elements of a selection without its gaps, in its shape."""
         asked, rounds = chosen.without_gaps(), 0
+        back: AnyArray | None = None
+        if isinstance(asked, Rows) and self._whole_inside is not None and self.shape:
+            # the ranges of rows that stand together are one
+            asked, back = asked.in_order(self._layout[0])
         while True:
             lacking = self._lacking_in_round(rounds, fetched, asked)
             if lacking.size:
@@ -698,11 +707,13 @@ class Chain:
             arguments = *fetched.arguments(), *asked.arguments()
             call = partial(library.zarrs_read_pieces, self._header, self._length, *arguments)
             try:
-                return told(self._type, call, chosen.shape, fetched.size + 64)
+                elements = told(self._type, call, asked.shape, fetched.size + 64)
+                break
             except Storage:
                 if not lacking.size:
                     raise
                 rounds += 1
+        return elements if back is None else elements[back].reshape(chosen.shape)
 
     @cached_property
     def _whole_inside(self) -> bytes | None:
