@@ -339,6 +339,22 @@ def test_gaps_are_measured_as_elements_are_stored(codecs, rows_together):
 
 
 @pytest.mark.parametrize(
+    "codecs, kind",
+    [([LITTLE, "crc32c"], "int32"), (["vlen-utf8"], "string"), ([optional(LITTLE)], {"optional": "int32"}), ([], "int32")],
+)
+def test_rows_that_are_far_apart_in_values_of_all_kinds(codecs, kind):
+    """Of 32 KiB each, also in inner chunks of one shard."""
+    array = np.arange(4 * 8192, dtype="<i4").reshape(4, 8192)
+    array = array.astype(str).astype(object) if kind == "string" else array
+    for each in (codecs or [LITTLE], [sharded(0, codecs or [LITTLE], chunk_shape=[4, 8192])]):
+        chain = Chain(each, (4, 8192), kind)
+        value = chain.encode(array)
+        for index in (np.s_[::2], np.s_[::-3, 5:7], np.s_[1::2, ::4096]):
+            for found in (chain.read_from(io.BytesIO(value), index), chain.read(value, index)):
+                assert found.shape == array[index].shape and found.tolist() == array[index].tolist()
+
+
+@pytest.mark.parametrize(
     "codecs",
     [
         [sharded(0, [LITTLE], chunk_shape=[64, 40])],

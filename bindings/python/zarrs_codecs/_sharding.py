@@ -88,10 +88,10 @@ def say_inner_chunk(
 ) -> None:
     """Puts into the library's refusal of a read which inner chunk it is of, where the value is a shard: Python reads a part
     of the same, inner chunk by inner chunk. The library reads parts by the call that is given."""
-    if chain._cut is None:
-        return
-    order, parts = chain._cut
     try:
+        if chain._cut is None:
+            return
+        order, parts = chain._cut
         chosen = _narrowed(error, select(selection, chain.shape), read)
         parts._read_fetched(fetched.anew(), chosen.moved(order), None)
     except Refused as found:

@@ -713,7 +713,7 @@ class Chain:
                 if not lacking.size:
                     raise
                 rounds += 1
-        return elements if back is None else elements[back].reshape(chosen.shape)
+        return (elements if back is None else elements[back]).reshape(chosen.shape)
 
     @cached_property
     def _whole_inside(self) -> bytes | None:
