@@ -380,10 +380,11 @@ def _marked(shape, selection):
     return marked
 
 
-def test_damage_that_a_step_passes_is_not_refused():
+@pytest.mark.parametrize("front", [[], [TURNED, TURNED]])
+def test_damage_that_a_step_passes_is_not_refused(front):
     """The entry of an inner chunk that has no selected element."""
     shard = {"chunk_shape": [8, 8], "codecs": ["bytes"], "index_codecs": [LITTLE]}
-    chain = Chain([{"name": "sharding_indexed", "configuration": shard}], (64, 64), "uint8", 0)
+    chain = Chain([*front, {"name": "sharding_indexed", "configuration": shard}], (64, 64), "uint8", 0)
     array = np.ones((64, 64), "u1")
     value = chain.encode(array)
     value[-64 * 16 + 16] ^= 255

@@ -413,15 +413,12 @@ class Chain:
         them; where rows of those that are apart would be too many, with all that does."""
         if not meant.has_gaps:
             return meant
-        from ._sharding import is_sharded
-
-        # at hand nothing is fetched, and what the chunk has together is read together
-        order = None if is_at_hand else self._layout[0]
-        inner = self._layout[1] if not is_at_hand or is_sharded(self._inner_list) else None
-        whole = meant.closed()
+        (order, inner), whole = self._layout, meant.closed()
         is_moved = inner is None and self._whole_inside is not None
         is_exact = is_moved and math.prod(meant.shape) <= _FEW_APART
-        chosen = meant if is_exact else meant.closed(self.dtype.itemsize, _GAP_BYTES, order, inner)
+        # what is at hand is copied, and so taken together where it is so in the chunk
+        stored = None if is_at_hand else order
+        chosen = meant if is_exact else meant.closed(self.dtype.itemsize, _GAP_BYTES, stored, inner)
         count = math.prod(chosen.shape)
         is_copied = is_at_hand and inner is None and count * SPARSE > math.prod(whole.shape)
         return whole if is_copied or count > MOST_APART else chosen
