@@ -7,7 +7,7 @@ import pytest
 from samples import LITTLE, VLEN, same
 
 import zarrs_codecs as z
-from zarrs_codecs import Array, Chain
+from zarrs_codecs import Array, Chain, _locating
 
 GZIP = {"name": "gzip", "configuration": {"level": 1}}
 
@@ -106,6 +106,17 @@ def test_an_array_with_checksums(tmp_path):
     with pytest.raises(z.BytesCodec):
         Array(tmp_path / "a")[2]
     same(Array(tmp_path / "a")[4:], np.int32([3, 4, 5, 3, 3, 3]))
+
+
+def test_whose_a_refusal_is_is_asked_once(monkeypatch):
+    chain = Chain(["bytes", "crc32c"], (4,), "uint8")
+    damaged = b"abcd" + bytes(4)
+    asked = []
+    found = _locating._is_refused_by
+    monkeypatch.setattr(_locating, "_is_refused_by", lambda *given: asked.append(given) or found(*given))
+    with pytest.raises(z.BytesCodec, match="by codec 1, 'crc32c'"):
+        chain.decode(damaged)
+    assert len(asked) == 1
 
 
 @pytest.mark.parametrize("name", ["sample.reverse", "sample.length", "CRC32C"])

@@ -240,3 +240,19 @@ def test_many_edits_of_values_of_another_length(length):
             chain.write_many(value, edits)
     else:
         same(chain.write_many(value, edits), beside)
+
+
+def test_damage_between_places_is_passed():
+    shard = {
+        "name": "sharding_indexed",
+        "configuration": {"chunk_shape": [2], "codecs": [LITTLE, "crc32c"], "index_codecs": [LITTLE], "index_location": "end"},
+    }
+    chain = Chain([shard], (6,), "uint8")
+    value = bytearray(chain.encode([1, 2, 3, 4, 5, 6]))
+    value[6] ^= 1  # the first byte of the second inner chunk
+    same(chain.read(value, np.s_[::4]), np.uint8([1, 5]))
+    first, second = chain.read_many(value, [np.s_[::4], 0])
+    same(first, np.uint8([1, 5]))
+    assert second == 1
+    with pytest.raises(z.BytesCodec, match="of inner chunk 1"):
+        chain.read_many(value, [np.s_[::4], np.s_[::3]])

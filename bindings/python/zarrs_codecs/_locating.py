@@ -5,6 +5,7 @@ import reprlib
 from collections.abc import Callable, Iterator
 from typing import Any
 
+from ._elements import told
 from .refusals import Refused
 
 # What the library says of a list of codecs, or of one codec: the name of a refusal, or "Done".
@@ -233,8 +234,11 @@ def _is_refused_by(codec: Any, value: Any) -> tuple[bool, Any]:
         return size < 0 or any(memoryview(value).cast("B")), b""
     from .chain import Chain
 
+    chain = Chain(["bytes", codec], (size,), "uint8")
+    # without `decode`, which looks where a refusal is of and so asks this again
+    call, _ = chain._decoding(value)
     try:
-        return False, Chain(["bytes", codec], (size,), "uint8").decode(value)
+        return False, told(chain._type, call, chain.shape)
     except Refused:
         return True, None
 

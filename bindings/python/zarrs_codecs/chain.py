@@ -355,10 +355,14 @@ class Chain:
         8
         """
         inner = self._inner(value)
-        at, length = lent(inner)
-        call = partial(library.zarrs_decode, self._header, self._length, at, length)
+        call, length = self._decoding(inner)
         with self._saying_inner_chunk(_at_hand(inner), ..., partial(self._read, inner)):
             return self._told(call, self.shape, inner, length, out)
+
+    def _decoding(self, inner: Any) -> tuple[Callable[..., int], int]:
+        """C's call that decodes the library's value, and how many bytes that has."""
+        at, length = lent(inner)
+        return partial(library.zarrs_decode, self._header, self._length, at, length), length
 
     def _told(
         self, call: Callable[..., Any], shape: Shape, value: Any, length: int, out: AnyArray | None
@@ -467,7 +471,8 @@ class Chain:
         [array([1, 2, 3], dtype=uint8), array([3, 6], dtype=uint8)]
         """
         inner = self._inner(value)
-        chosen = [select(one, self.shape).closed() for one in selections]
+        meant = [select(one, self.shape) for one in selections]
+        chosen = [one.closed() for one in meant]
         given_numbers = [one.numbers() for one in chosen]
         sizes = np.array([(tuples, many.size) for tuples, many in given_numbers], np.uint64).reshape(-1, 2)
         numbers = np.concatenate([many for _, many in given_numbers] or [np.empty(0, np.uint64)])
@@ -478,8 +483,8 @@ class Chain:
         with contextlib.suppress(Refused):
             answers = told_many(self._type, call, [one.shape for one in chosen], length + 64)
         if answers is None:
-            # one of them is refused by itself too, and says why
-            return [self._read_inner(inner, one) for one in chosen]
+            # what is refused is so by itself too, and says why; what lies between places that are meant isn't read then
+            return [self._read_inner(inner, one) for one in meant]
         return [
             told_one if one.after is None else told_one[one.after]
             for one, told_one in zip(chosen, answers, strict=True)
