@@ -645,6 +645,19 @@ def test_steps_skip_what_is_far_apart(tmp_path, monkeypatch):
     assert sum(counts) == 4 * 100 * 512 * 4
 
 
+@pytest.mark.parametrize("before", [[], [transpose((1, 0))]], ids=["shard", "transposed"])
+def test_what_is_in_pieces_between_two_places_is_skipped(before):
+    inside = {"chunk_shape": [16, 16], "codecs": [LITTLE], "index_codecs": [LITTLE], "index_location": "end"}
+    chain = Chain([*before, {"name": "sharding_indexed", "configuration": inside}], (32, 32), "uint8")
+    array = np.arange(1024).astype("u1").reshape(32, 32)
+    value = chain.encode(array)
+    # along the axis that is stored slowest two elements each, along the other one all that is between
+    for selection, is_apart in ((np.s_[::4, 5:7], not before), (np.s_[5:7, ::4], bool(before))):
+        file = RecordingFile(value)
+        same(chain.read_from(file, selection), array[selection])
+        assert len(file.seen) == 4 * 2 * 8 + (8 * 2 if is_apart else 2 * 29)
+
+
 def test_plans_of_many_ranges():
     chain = Chain(["bytes"], (100_000, 2), "uint8")
     ranges = chain.planned_ranges(np.s_[:, 1])

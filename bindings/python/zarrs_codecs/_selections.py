@@ -103,20 +103,24 @@ class Box:
         self, item_size: int = 1, gap: int | None = None, order: Sequence[int] | None = None, sizes: Shape | None = None
     ) -> "Box":
         """The same elements, and those in gaps of fewer bytes, in all where it is None: `after` leaves them
-        out. Elements are stored in this order of the axes, the slowest first. Where sizes are given, of inner chunks, a
-        gap is one in an inner chunk, and those that pass one stay."""
+        out. Where sizes are given, of inner chunks, a gap is one in an inner chunk, and those that pass one stay. Where
+        an order of the axes is given, elements are stored in it, the slowest axis first, and a gap stays where what is in
+        it would be in pieces too: it would be more ranges, and none fewer."""
         if not self.has_gaps:
             return self
         on_axes = list(self.on_axes)
         steps = [1] * len(on_axes)
-        between = item_size
+        between, is_whole = item_size, True
         for axis in reversed(range(len(on_axes)) if order is None else order):
             one = on_axes[axis]
             is_near = gap is None or (one.step - 1) * between < gap
-            if one.step > 1 and is_near and (sizes is None or one.step <= sizes[axis]):
+            is_closed = is_near and (is_whole or order is None) and (sizes is None or one.step <= sizes[axis])
+            if one.step > 1 and is_closed:
                 steps[axis] = one.step
                 on_axes[axis] = range(one.start, one[-1] + 1)
-            between *= len(on_axes[axis]) if sizes is None else sizes[axis]
+            size = len(on_axes[axis]) if sizes is None else sizes[axis]
+            is_whole = is_whole and on_axes[axis].step == 1 and len(on_axes[axis]) >= size
+            between *= size
         return Box(on_axes, _stepped(self.after, steps))
 
     def moved(self, order: Sequence[int]) -> "Box":

@@ -651,8 +651,9 @@ class Chain:
         and one more for each further level of shards in shards. Behind `reshape` or `zarrs.squeeze` shards in shards
         go one after the other, and behind eight rounds those that are needed come whole. Each range is a read
         of the file by itself. Of a slice with a step it leaves out what is between two places where that's
-        16 KiB of the file or more, and the inner chunks that have none of them. Raises what `read` does of such a value,
-        also of what it fetched between two places, what the file raises, and `EOFError` where it is cut meanwhile.
+        16 KiB of the file or more, of a shard also what isn't in one piece there and the inner chunks that have
+        none of them. Raises what `read` does of such a value, also of what it fetched between two places, what the
+        file raises, and `EOFError` where it is cut meanwhile.
 
         >>> import io
         >>> Chain(["bytes"], (4,), "uint8").read_from(io.BytesIO(b"abcd"), slice(1, 3))
