@@ -1,13 +1,16 @@
 """A value that is read in rounds: what a read of it lacks is fetched, and it is read again."""
 
+import ctypes
+from collections.abc import Callable
 from typing import Any, NamedTuple
 
 import numpy as np
 import numpy.typing as npt
 
-from ._buffers import counted
-from ._files import Source, joined
+from ._buffers import counted, start
+from ._files import Held, Source, joined
 from ._header import copied, json_of
+from ._library import SHORT, checked
 from ._locating import name_of
 from ._types import AnyArray, Shape, listed
 
@@ -108,6 +111,22 @@ class Fetched:
         """What C is given of them."""
         ranges, fetched = self._pieces
         return self.length, *counted(ranges, ranges.size), *counted(fetched, fetched.size)
+
+
+def at_hand(value: Any) -> Fetched:
+    """A value that is in memory, of None one of no bytes."""
+    return Fetched(Held(b"" if value is None else value))
+
+
+def told_ranges(call: Callable[..., Any], guess: int) -> Ranges:
+    """The ranges that a call tells, rows of a start and an end; `guess` is how many numbers there may be."""
+    numbers, needed = np.empty(guess, np.uint64), ctypes.c_size_t()
+    code = call(start(numbers), numbers.size, ctypes.byref(needed))
+    if code == SHORT:
+        numbers = np.empty(needed.value, np.uint64)
+        code = call(start(numbers), numbers.size, ctypes.byref(needed))
+    checked(code)
+    return numbers[: needed.value].reshape(-1, 2)
 
 
 class Window(Source):

@@ -20,11 +20,11 @@ from ._data_types import DataType
 from ._data_types import data_type as data_type_of
 from ._data_types import zarrs_own
 from ._elements import empty, given, held, put, spread, takes, told, told_into, told_many
-from ._files import PART_BYTES, File, Held, Source
+from ._files import PART_BYTES, File, Source
 from ._header import Header, copied, json_of
 from ._library import SHORT, EditSize, checked, library
 from ._locating import OF_CODECS, OF_VALUES, locate, locate_stored
-from ._rounds import Fetched, behind_transpositions, has_shards_inside, layout_of, with_whole_inside
+from ._rounds import Fetched, at_hand, behind_transpositions, has_shards_inside, layout_of, told_ranges, with_whole_inside
 from ._selections import MOST_APART, SPARSE, Rows, Selection, select
 from ._types import AnyArray, Bytes, Shape, sizes_of
 from .refusals import InvalidConfiguration, NotInPlace, OutOfBounds, Refused, Storage, Syntax, UnknownName
@@ -68,17 +68,6 @@ class Representation(NamedTuple):
     size: int | None
 
 
-def _told_ranges(call: Callable[..., Any], guess: int) -> npt.NDArray[np.uint64]:
-    """The ranges that a call tells, rows of a start and an end; `guess` is how many numbers there may be."""
-    numbers, needed = np.empty(guess, np.uint64), ctypes.c_size_t()
-    code = call(start(numbers), numbers.size, ctypes.byref(needed))
-    if code == SHORT:
-        numbers = np.empty(needed.value, np.uint64)
-        code = call(start(numbers), numbers.size, ctypes.byref(needed))
-    checked(code)
-    return numbers[: needed.value].reshape(-1, 2)
-
-
 _P = ParamSpec("_P")
 _R = TypeVar("_R")
 
@@ -95,11 +84,6 @@ def _naming(method: Callable[Concatenate["Chain", _P], _R]) -> Callable[Concaten
             raise
 
     return named
-
-
-def _at_hand(value: Any) -> Fetched:
-    """A value that is in memory, of None one of no bytes."""
-    return Fetched(Held(b"" if value is None else value))
 
 
 def codec_list(codecs: Any) -> list[Any]:
@@ -356,7 +340,7 @@ class Chain:
         """
         inner = self._inner(value)
         call, length = self._decoding(inner)
-        with self._saying_inner_chunk(_at_hand(inner), ..., partial(self._read, inner)):
+        with self._saying_inner_chunk(at_hand(inner), ..., partial(self._read, inner)):
             return self._told(call, self.shape, inner, length, out)
 
     def _decoding(self, inner: Any) -> tuple[Callable[..., int], int]:
@@ -396,7 +380,7 @@ class Chain:
             call = partial(
                 library.zarrs_reencode, self._header, self._length, at, length, inner, len(inner)
             )
-            with self._saying_inner_chunk(_at_hand(own), ..., partial(self._read, own)):
+            with self._saying_inner_chunk(at_hand(own), ..., partial(self._read, own)):
                 return other._told_value(call, length + 64)
         except Refused as error:
             self._locate(error)
@@ -456,7 +440,7 @@ class Chain:
     def _read_inner(self, inner: Any, selection: Any, out: AnyArray | None = None) -> AnyArray:
         """The same of the library's value."""
         chosen = self._near(select(selection, self.shape), is_at_hand=True)
-        with self._saying_inner_chunk(_at_hand(inner), selection, partial(self._read, inner)):
+        with self._saying_inner_chunk(at_hand(inner), selection, partial(self._read, inner)):
             if chosen.after is None:
                 return self._read(inner, chosen, out)
             return put(self._read(inner, chosen)[chosen.after], out)
@@ -606,7 +590,7 @@ class Chain:
         at, length = lent(b"" if inner is None else inner)
         arguments = (inner is not None, at, length, *chosen.arguments(), *parts)
         call = partial(library.zarrs_write, self._header, self._length, *arguments)
-        with self._saying_inner_chunk(_at_hand(inner), ..., partial(self._read, inner)):
+        with self._saying_inner_chunk(at_hand(inner), ..., partial(self._read, inner)):
             try:
                 return self._told_value(call, length + 2 * parts[-1] + 64)
             except Refused as error:
@@ -618,7 +602,7 @@ class Chain:
         call = partial(
             library.zarrs_planned_ranges, self._header, self._length, *chosen.arguments()
         )
-        ranges = _told_ranges(
+        ranges = told_ranges(
             lambda at, count, needed: call(at, count, ctypes.byref(is_planned), needed),
             min(2 * math.prod(chosen.shape), _PLAN_NUMBERS),
         )
@@ -783,7 +767,7 @@ class Chain:
         """The ranges that a read of these pieces lacks; of a chunk of another header, where one is given."""
         header = self._header if header is None else header
         call = partial(library.zarrs_lacking, header, len(header), *given_pieces, *numbers)
-        return _told_ranges(call, 64)
+        return told_ranges(call, 64)
 
     def _read_parts(self, source: Source, chosen: Selection, elements: AnyArray) -> None:
         """Reads a selection that is planned, part by part; at once where the source has no parts."""
