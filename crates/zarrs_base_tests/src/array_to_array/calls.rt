@@ -1,19 +1,17 @@
 //! The calls of a codec by the trait, each in one function, whichever the codec is.
 
-use crate::array_to_array::checks::{answers, indexer, is, shape};
 use crate::array_to_array::examples::{Example, Mapped};
 use crate::array_to_array::forms::{ChunkForm, lend, own};
+use crate::checks::{answers, indexer, is, shape};
 use std::alloc::Global;
 use std::process::Abort;
 use zarrs_array_bytes::ArrayBytes;
 use zarrs_chunk::{ChunkShape, CodecError, Indexer};
-use zarrs_codec::{ArrayToArrayCodecTraits, PartialDecoderCapability, PartialEncoderCapability};
+use zarrs_codec::ArrayToArrayCodecTraits;
 use zarrs_data_type::{DataType, FillValue};
 
 /// A container's bytes or an error, as plain data.
-pub(crate) fn bytes_of<'a>(
-    came: &'a Result<ArrayBytes<'_>, CodecError>,
-) -> Result<&'a [u8], CodecError> {
+fn bytes_of<'a>(came: &'a Result<ArrayBytes<'_>, CodecError>) -> Result<&'a [u8], CodecError> {
     match came {
         Ok(elements) => elements.as_fixed(),
         Err(cause) => Err(*cause),
@@ -30,52 +28,20 @@ pub(crate) fn has_bytes(
     answers(rt, about, &bytes_of(&came), wanted)
 }
 
-pub(crate) fn encodes<C: ArrayToArrayCodecTraits>(
-    rt: &impl Abort,
-    alloc: Global,
-    about: &str,
-    codec: &C,
-    form: &ChunkForm,
-    chunk: ArrayBytes<'_>,
-    wanted: &Result<&[u8], CodecError>,
-) -> Result<(), CodecError> {
-    let came = codec.encode(alloc, chunk, &form.shape, &form.data_type, &form.fill_value);
-    has_bytes(rt, about, came, wanted)
-}
-
-pub(crate) fn decodes<C: ArrayToArrayCodecTraits>(
-    rt: &impl Abort,
-    alloc: Global,
-    about: &str,
-    codec: &C,
-    form: &ChunkForm,
-    chunk: ArrayBytes<'_>,
-    wanted: &Result<&[u8], CodecError>,
-) -> Result<(), CodecError> {
-    let came = codec.decode(alloc, chunk, &form.shape, &form.data_type, &form.fill_value);
-    has_bytes(rt, about, came, wanted)
-}
-
 /// The chunk is encoded to these bytes, and they are decoded to the chunk: owned bytes and lent ones.
 fn moves<C: ArrayToArrayCodecTraits>(
     rt: &impl Abort,
     alloc: Global,
-    about: &str,
     codec: &C,
     form: &ChunkForm,
-    decoded: &[u8],
-    encoded: &[u8],
+    example: &Example,
 ) -> Result<(), CodecError> {
-    encodes(
-        rt,
-        alloc,
-        about,
-        codec,
-        form,
-        own(alloc, decoded)?,
-        &Ok(encoded),
-    )?;
-    decodes(rt, alloc, about, codec, form, lend(encoded), &Ok(decoded))
+    let (shape, data_type, fill_value) = (&form.shape, &form.data_type, &form.fill_value);
+    let chunk = own(alloc, example.elements)?;
+    let came = codec.encode(alloc, chunk, shape, data_type, fill_value);
+    has_bytes(rt, example.name, came, &Ok(example.moved))?;
+    let came = codec.decode(alloc, lend(example.moved), shape, data_type, fill_value);
+    has_bytes(rt, example.name, came, &Ok(example.elements))
 }
 
 /// The type and the fill value are those of the chunk.
@@ -116,29 +82,6 @@ fn keeps_type<C: ArrayToArrayCodecTraits>(
     let fill_value = codec.encoded_fill_value(alloc, &form.data_type, &form.fill_value)?;
     is_kept(rt, example, &data_type, &fill_value);
     Ok(())
-}
-
-/// What each codec can do in part.
-fn works_in_part<C: ArrayToArrayCodecTraits>(rt: &impl Abort, codec: &C, example: &Example) {
-    let reads = PartialDecoderCapability {
-        partial_read: true,
-        partial_decode: true,
-    };
-    is(
-        rt,
-        example.name,
-        &codec.partial_decoder_capability(),
-        &reads,
-    );
-    let writes = PartialEncoderCapability {
-        partial_encode: true,
-    };
-    is(
-        rt,
-        example.name,
-        &codec.partial_encoder_capability(),
-        &writes,
-    );
 }
 
 /// A chunk is best decoded whole.
@@ -236,18 +179,8 @@ pub(crate) fn does_chunk<C: ArrayToArrayCodecTraits>(
     form: &ChunkForm,
     example: &Example,
 ) -> Result<(), CodecError> {
-    let about = example.name;
-    moves(
-        rt,
-        alloc,
-        about,
-        codec,
-        form,
-        example.elements,
-        example.moved,
-    )?;
+    moves(rt, alloc, codec, form, example)?;
     represents(rt, alloc, codec, form, example)?;
     keeps_type(rt, alloc, codec, form, example)?;
-    works_in_part(rt, codec, example);
     is_decoded_whole(rt, alloc, codec, &form.shape, example)
 }

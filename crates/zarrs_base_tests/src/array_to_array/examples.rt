@@ -1,8 +1,8 @@
 //! One chunk for each codec: what the codec makes of it, and what is read and written of it through a
 //! stage.
 
-use crate::array_to_array::checks::Asked;
 use crate::array_to_array::forms::{Chunk, Type};
+use crate::checks::Asked;
 use zarrs_chunk::CodecError;
 
 const AXES: CodecError = CodecError::IncompatibleDimensionality;
@@ -11,11 +11,11 @@ const AXES: CodecError = CodecError::IncompatibleDimensionality;
 /// or the value is erased.
 pub(crate) enum Step {
     Read {
-        asked: Asked<'static>,
+        asked: Asked,
         answer: Result<&'static [u8], CodecError>,
     },
     Write {
-        at: Asked<'static>,
+        at: Asked,
         elements: &'static [u8],
         answer: Result<(), CodecError>,
     },
@@ -28,19 +28,19 @@ pub(crate) struct Mapped {
     pub(crate) sizes: &'static [u64],
     pub(crate) encoded: Result<&'static [u64], CodecError>,
     pub(crate) decoded: Result<Option<&'static [u64]>, CodecError>,
-    pub(crate) asked: Asked<'static>,
+    pub(crate) asked: Asked,
     pub(crate) places: Result<&'static [u64], CodecError>,
 }
 
-/// A codec by its metadata, as it is written; a chunk and its moved chunk, with the elements of
+/// A codec by its metadata; a chunk and its moved chunk, with the elements of
 /// both, the lowest byte of each first. Then the value of a stage's input, the highest byte of an
 /// element first, what is done with the stage, and the value that this leaves, after so many
 /// writing calls.
 pub(crate) struct Example {
     pub(crate) name: &'static str,
     pub(crate) metadata: &'static str,
-    pub(crate) chunk: Chunk<'static>,
-    pub(crate) encoded: Chunk<'static>,
+    pub(crate) chunk: Chunk,
+    pub(crate) encoded: Chunk,
     pub(crate) mapped: Mapped,
     pub(crate) elements: &'static [u8],
     pub(crate) moved: &'static [u8],

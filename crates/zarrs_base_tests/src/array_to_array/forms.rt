@@ -1,60 +1,58 @@
 //! Codecs and chunks as plain data, and what is made of them. Metadata selects a codec.
 
-use crate::array_to_array::checks::shape;
-use serde_json::Value;
+use crate::base::metadata::metadata;
+use crate::checks::shape;
 use std::alloc::Global;
 use std::borrow::CowSlice;
 use zarrs_array_bytes::ArrayBytes;
 use zarrs_array_to_array::ArrayToArrayCodec;
 use zarrs_chunk::{ChunkShape, CodecError};
 use zarrs_data_type::{DataType, FillValue};
-use zarrs_metadata::{MetadataV3, PluginCreateError};
+use zarrs_metadata::PluginCreateError;
 
 /// Two axes change places.
 pub(crate) const TURN: &'static str = r#"{"name":"transpose","configuration":{"order":[1,0]}}"#;
 
 pub(crate) const SQUEEZE: &'static str = r#""zarrs.squeeze""#;
 
-/// The metadata of a text that reads.
-pub(crate) fn metadata(alloc: Global, text: &str) -> Result<MetadataV3, PluginCreateError> {
-    match Value::from_str(alloc, text) {
-        Ok(tree) => MetadataV3::from_value(alloc, &tree),
-        Err(_) => Err(PluginCreateError::OutOfMemory),
+/// What is made of metadata, or a lack of memory. Another cause, which no row has, is any other error.
+pub(crate) fn made<T>(answer: Result<T, PluginCreateError>) -> Result<T, CodecError> {
+    match answer {
+        Ok(made) => Ok(made),
+        Err(PluginCreateError::OutOfMemory) => Err(CodecError::OutOfMemory),
+        Err(_) => Err(CodecError::ArrayBytesKind),
     }
 }
 
-pub(crate) fn codec(alloc: Global, text: &str) -> Result<ArrayToArrayCodec, PluginCreateError> {
+fn codec_of(alloc: Global, text: &str) -> Result<ArrayToArrayCodec, PluginCreateError> {
     ArrayToArrayCodec::create(alloc, &metadata(alloc, text)?)
 }
 
-/// A type of elements: one of so many bytes has one component without a sign.
-#[derive(Drop)]
+pub(crate) fn codec(alloc: Global, text: &str) -> Result<ArrayToArrayCodec, CodecError> {
+    made(codec_of(alloc, text))
+}
+
+/// A type of elements.
+#[derive(Clone, Copy)]
 pub(crate) enum Type {
     Byte,
     Word,
     Long,
-    Bytes(u64),
-    Text,
-    OptionalByte,
 }
 
-fn data_type(alloc: Global, told: &Type) -> Result<DataType, CodecError> {
+fn data_type(told: Type) -> DataType {
     match told {
-        Type::Byte => Ok(DataType::uint8()),
-        Type::Word => Ok(DataType::uint16()),
-        Type::Long => Ok(DataType::uint32()),
-        Type::Bytes(size) => DataType::components(size.wrapping_mul(8), 1, false),
-        Type::Text => Ok(DataType::string()),
-        Type::OptionalByte => DataType::optional(alloc, DataType::uint8()),
+        Type::Byte => DataType::uint8(),
+        Type::Word => DataType::uint16(),
+        Type::Long => DataType::uint32(),
     }
 }
 
 /// A chunk: its sizes, the type of its elements, and its fill value.
-#[derive(Drop)]
-pub(crate) struct Chunk<'a> {
-    pub(crate) sizes: &'a [u64],
+pub(crate) struct Chunk {
+    pub(crate) sizes: &'static [u64],
     pub(crate) data_type: Type,
-    pub(crate) fill: &'a [u8],
+    pub(crate) fill: &'static [u8],
 }
 
 /// What a codec needs to know of a chunk.
@@ -65,13 +63,12 @@ pub(crate) struct ChunkForm {
     pub(crate) fill_value: FillValue,
 }
 
-pub(crate) fn chunk_form(alloc: Global, chunk: &Chunk<'_>) -> Result<ChunkForm, CodecError> {
+pub(crate) fn chunk_form(alloc: Global, chunk: &Chunk) -> Result<ChunkForm, CodecError> {
     let shape = shape(alloc, chunk.sizes)?;
-    let data_type = data_type(alloc, &chunk.data_type)?;
     let fill_value = FillValue::new(chunk.fill.to_vec(alloc)?);
     Ok(ChunkForm {
         shape,
-        data_type,
+        data_type: data_type(chunk.data_type),
         fill_value,
     })
 }

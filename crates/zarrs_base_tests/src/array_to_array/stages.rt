@@ -1,37 +1,32 @@
 //! Stages of the codecs over an input of `bytes` in memory, which reads and writes: what they
-//! report, read and write, each by the call of the traits.
+//! report, read and write, each by the call of the traits. And each codec behind the enum.
 
-use crate::array_to_array::calls::has_bytes;
-use crate::array_to_array::checks::{Asked, answers, indexer, is};
-use crate::array_to_array::examples::{Example, Step};
-use crate::array_to_array::forms::{ChunkForm, chunk_form, lend};
+use crate::array_to_array::calls::{does_chunk, has_bytes, maps};
+use crate::array_to_array::examples::{Example, RESHAPED, SQUEEZED, Step, TURNED};
+use crate::array_to_array::forms::{ChunkForm, chunk_form, codec, lend, made};
+use crate::base::metadata::metadata;
+use crate::checks::{Asked, answers, indexer, is};
 use std::alloc::Global;
 use std::process::Abort;
-use zarrs_array_to_array::ArrayToArrayCodecPartial;
+use zarrs_array_to_array::{
+    ArrayToArrayCodec, ArrayToArrayCodecPartial, ReshapeCodec, SqueezeCodec, TransposeCodec,
+};
 use zarrs_bytes::{BytesCodec, BytesCodecPartial};
 use zarrs_chunk::{CodecError, Indexer};
 use zarrs_codec::{
     ArrayPartialDecoderTraits, ArrayPartialEncoderTraits, ArrayToArrayCodecTraits, MemoryHandle,
     Refused,
 };
+use zarrs_metadata::PluginCreateError;
 
 /// A coder of `bytes` over a value in memory.
-pub(crate) type Input = BytesCodecPartial<MemoryHandle>;
+type Input = BytesCodecPartial<MemoryHandle>;
 
 /// The stage of a codec, or why it wasn't made, with the input.
-pub(crate) type Made<C> = Result<ArrayToArrayCodecPartial<C, Input>, Refused<Input>>;
-
-/// A codec that has stages.
-pub(crate) trait Staged: ArrayToArrayCodecTraits + Drop {
-    /// The stage that is made to read.
-    fn reader(&self, alloc: Global, below: Input, form: &ChunkForm) -> Made<Self>;
-
-    /// The stage that is made to write too.
-    fn writer(&self, alloc: Global, below: Input, form: &ChunkForm) -> Made<Self>;
-}
+type Made<C> = Result<ArrayToArrayCodecPartial<C, Input>, Refused<Input>>;
 
 /// The coder of such moved chunks in part, the highest byte of an element first, over this value.
-pub(crate) fn input(alloc: Global, form: &ChunkForm, value: &[u8]) -> Result<Input, CodecError> {
+fn input(alloc: Global, form: &ChunkForm, value: &[u8]) -> Result<Input, CodecError> {
     let handle = MemoryHandle::with_value(value.to_vec(alloc)?);
     match BytesCodec::big().partial_encoder(
         alloc,
@@ -46,12 +41,12 @@ pub(crate) fn input(alloc: Global, form: &ChunkForm, value: &[u8]) -> Result<Inp
 }
 
 /// What is asked of a chunk has this answer.
-pub(crate) fn reads<D: ArrayPartialDecoderTraits>(
+fn reads<D: ArrayPartialDecoderTraits>(
     rt: &impl Abort,
     alloc: Global,
     about: &str,
     decoder: &mut D,
-    asked: &Asked<'_>,
+    asked: &Asked,
     wanted: &Result<&[u8], CodecError>,
 ) -> Result<(), CodecError> {
     let asked = indexer(alloc, asked)?;
@@ -77,7 +72,7 @@ fn writes<E: ArrayPartialEncoderTraits>(
     alloc: Global,
     about: &str,
     encoder: &mut E,
-    at: &Asked<'_>,
+    at: &Asked,
     elements: &[u8],
     wanted: &Result<(), CodecError>,
 ) -> Result<(), CodecError> {
@@ -191,29 +186,145 @@ fn works<C: ArrayToArrayCodecTraits + Drop>(
     }
 }
 
-/// The stages of the codec do what the example says, each over an input of its own.
-fn do_both<C: Staged>(
-    rt: &impl Abort,
-    alloc: Global,
-    codec: &C,
-    form: &ChunkForm,
-    encoded: &ChunkForm,
-    example: &Example,
-) -> Result<(), CodecError> {
-    let below = input(alloc, encoded, example.value)?;
-    works(rt, alloc, codec.reader(alloc, below, form), example)?;
-    let below = input(alloc, encoded, example.value)?;
-    works(rt, alloc, codec.writer(alloc, below, form), example)
+/// What a codec is given of an example: its chunk, and the moved one.
+#[derive(Drop)]
+struct Forms {
+    decoded: ChunkForm,
+    encoded: ChunkForm,
 }
 
-/// The codec's stages read and write.
-pub(crate) fn read_and_write<C: Staged>(
+fn make_forms(alloc: Global, example: &Example) -> Result<Forms, CodecError> {
+    Ok(Forms {
+        decoded: chunk_form(alloc, &example.chunk)?,
+        encoded: chunk_form(alloc, &example.encoded)?,
+    })
+}
+
+fn transpose_works(
     rt: &impl Abort,
     alloc: Global,
-    codec: &C,
-    form: &ChunkForm,
+    codec: &TransposeCodec,
+    forms: &Forms,
     example: &Example,
 ) -> Result<(), CodecError> {
-    let encoded = chunk_form(alloc, &example.encoded)?;
-    do_both(rt, alloc, codec, form, &encoded, example)
+    let below = input(alloc, &forms.encoded, example.value)?;
+    let form = &forms.decoded;
+    let made = codec.partial_encoder(alloc, below, &form.shape, &form.data_type, &form.fill_value);
+    works(rt, alloc, made, example)
+}
+
+fn reshape_works(
+    rt: &impl Abort,
+    alloc: Global,
+    codec: &ReshapeCodec,
+    forms: &Forms,
+    example: &Example,
+) -> Result<(), CodecError> {
+    let below = input(alloc, &forms.encoded, example.value)?;
+    let form = &forms.decoded;
+    let made = codec.partial_encoder(alloc, below, &form.shape, &form.data_type, &form.fill_value);
+    works(rt, alloc, made, example)
+}
+
+fn squeeze_works(
+    rt: &impl Abort,
+    alloc: Global,
+    codec: &SqueezeCodec,
+    forms: &Forms,
+    example: &Example,
+) -> Result<(), CodecError> {
+    let below = input(alloc, &forms.encoded, example.value)?;
+    let form = &forms.decoded;
+    let made = codec.partial_encoder(alloc, below, &form.shape, &form.data_type, &form.fill_value);
+    works(rt, alloc, made, example)
+}
+
+fn any_works(
+    rt: &impl Abort,
+    alloc: Global,
+    codec: &ArrayToArrayCodec,
+    forms: &Forms,
+    example: &Example,
+) -> Result<(), CodecError> {
+    let below = input(alloc, &forms.encoded, example.value)?;
+    let form = &forms.decoded;
+    let made = codec.partial_encoder(alloc, below, &form.shape, &form.data_type, &form.fill_value);
+    works(rt, alloc, made, example)
+}
+
+/// All calls of the codec behind the enum.
+fn any_does(
+    rt: &impl Abort,
+    alloc: Global,
+    codec: &ArrayToArrayCodec,
+    forms: &Forms,
+    example: &Example,
+) -> Result<(), CodecError> {
+    does_chunk(rt, alloc, codec, &forms.decoded, example)?;
+    maps(rt, alloc, example.name, codec, &example.mapped)?;
+    any_works(rt, alloc, codec, forms, example)
+}
+
+/// A copy of the codec of this metadata.
+fn any_copy(alloc: Global, metadata: &str) -> Result<ArrayToArrayCodec, CodecError> {
+    let codec = codec(alloc, metadata)?;
+    codec.clone()
+}
+
+fn any_of_forms(
+    rt: &impl Abort,
+    alloc: Global,
+    forms: &Forms,
+    example: &Example,
+) -> Result<(), CodecError> {
+    let codec = any_copy(alloc, example.metadata)?;
+    any_does(rt, alloc, &codec, forms, example)
+}
+
+fn any_of_example(rt: &impl Abort, alloc: Global, example: &Example) -> Result<(), CodecError> {
+    let forms = make_forms(alloc, example)?;
+    any_of_forms(rt, alloc, &forms, example)
+}
+
+#[test]
+fn behind_the_enum(rt: HostRuntime) -> Result<(), CodecError> {
+    any_of_example(&rt, rt.alloc(), TURNED)?;
+    any_of_example(&rt, rt.alloc(), RESHAPED)?;
+    any_of_example(&rt, rt.alloc(), SQUEEZED)
+}
+
+fn transpose(alloc: Global) -> Result<TransposeCodec, PluginCreateError> {
+    TransposeCodec::create(alloc, &metadata(alloc, TURNED.metadata)?)
+}
+
+fn transposes(rt: &impl Abort, alloc: Global, forms: &Forms) -> Result<(), CodecError> {
+    let codec = made(transpose(alloc))?;
+    transpose_works(rt, alloc, &codec, forms, TURNED)
+}
+
+#[test]
+fn an_order_turns_the_axes(rt: HostRuntime) -> Result<(), CodecError> {
+    let forms = make_forms(rt.alloc(), TURNED)?;
+    transposes(&rt, rt.alloc(), &forms)
+}
+
+fn reshape(alloc: Global) -> Result<ReshapeCodec, PluginCreateError> {
+    ReshapeCodec::create(alloc, &metadata(alloc, RESHAPED.metadata)?)
+}
+
+fn reshapes(rt: &impl Abort, alloc: Global, forms: &Forms) -> Result<(), CodecError> {
+    let codec = made(reshape(alloc))?;
+    reshape_works(rt, alloc, &codec, forms, RESHAPED)
+}
+
+#[test]
+fn sizes_give_other_axes(rt: HostRuntime) -> Result<(), CodecError> {
+    let forms = make_forms(rt.alloc(), RESHAPED)?;
+    reshapes(&rt, rt.alloc(), &forms)
+}
+
+#[test]
+fn a_squeezing_codec_leaves_an_axis_out(rt: HostRuntime) -> Result<(), CodecError> {
+    let forms = make_forms(rt.alloc(), SQUEEZED)?;
+    squeeze_works(&rt, rt.alloc(), &SqueezeCodec::new(), &forms, SQUEEZED)
 }

@@ -1,26 +1,20 @@
-//! Codecs of metadata, through the enum of the codecs: what is written of them, and shapes and
-//! indexers of moved chunks, where they are of another kind than in the examples.
+//! Codecs of metadata, through the enum of the codecs: shapes and indexers of moved chunks, where they
+//! are of another kind than in the examples.
 
 use crate::array_to_array::calls::maps;
-use crate::array_to_array::checks::{Asked, answers, shape};
 use crate::array_to_array::examples::Mapped;
-use crate::array_to_array::forms::{SQUEEZE, TURN, codec, metadata};
-use crate::array_to_array::metadata::{SQUEEZE_WRITTEN, is_written};
+use crate::array_to_array::forms::{SQUEEZE, TURN, codec};
+use crate::checks::Asked;
 use std::alloc::Global;
 use std::process::Abort;
-use std::test::Fail;
-use zarrs_array_to_array::ArrayToArrayCodec;
 use zarrs_chunk::CodecError;
-use zarrs_codec::ArrayToArrayCodecTraits;
-use zarrs_metadata::PluginCreateError;
 
 const AXES: CodecError = CodecError::IncompatibleDimensionality;
 
-/// A codec by its metadata, what is written of it where that is another text, and what it maps.
+/// A codec by its metadata, and what it maps.
 struct Row {
     name: &'static str,
     codec: &'static str,
-    written: Option<&'static str>,
     mapped: Mapped,
 }
 
@@ -28,7 +22,6 @@ const ROWS: &'static [Row] = &[
     Row {
         name: "the last axis comes first",
         codec: r#"{"name":"transpose","configuration":{"order":[2,0,1]}}"#,
-        written: None,
         mapped: Mapped {
             sizes: &[2, 3, 4],
             encoded: Ok(&[4, 2, 3]),
@@ -40,7 +33,6 @@ const ROWS: &'static [Row] = &[
     Row {
         name: "no axes, and what is passed over",
         codec: r#"{"name":"transpose","configuration":{"order":[],"x":"C"},"must_understand":false}"#,
-        written: Some(r#"{"configuration":{"order":[]},"name":"transpose"}"#),
         mapped: Mapped {
             sizes: &[],
             encoded: Ok(&[]),
@@ -52,7 +44,6 @@ const ROWS: &'static [Row] = &[
     Row {
         name: "an empty region is turned",
         codec: TURN,
-        written: Some(r#"{"configuration":{"order":[1,0]},"name":"transpose"}"#),
         mapped: Mapped {
             sizes: &[2, 3],
             encoded: Ok(&[3, 2]),
@@ -64,7 +55,6 @@ const ROWS: &'static [Row] = &[
     Row {
         name: "an order of fewer axes",
         codec: TURN,
-        written: None,
         mapped: Mapped {
             sizes: &[2, 3, 4],
             encoded: Err(AXES),
@@ -76,7 +66,6 @@ const ROWS: &'static [Row] = &[
     Row {
         name: "the region comes before the order, which has two axes",
         codec: TURN,
-        written: None,
         mapped: Mapped {
             sizes: &[2],
             encoded: Err(AXES),
@@ -88,7 +77,6 @@ const ROWS: &'static [Row] = &[
     Row {
         name: "the last axis before the others",
         codec: r#"{"name":"reshape","configuration":{"shape":[[2],[0,1]]}}"#,
-        written: None,
         mapped: Mapped {
             sizes: &[2, 3, 4],
             encoded: Ok(&[4, 6]),
@@ -100,7 +88,6 @@ const ROWS: &'static [Row] = &[
     Row {
         name: "all forms of a size, and a tuple that comes twice",
         codec: r#"{"name":"reshape","configuration":{"shape":[[0,1],-1,[3],10]}}"#,
-        written: Some(r#"{"configuration":{"shape":[[0,1],-1,[3],10]},"name":"reshape"}"#),
         mapped: Mapped {
             sizes: &[2, 3, 20, 4],
             encoded: Ok(&[6, 2, 4, 10]),
@@ -112,7 +99,6 @@ const ROWS: &'static [Row] = &[
     Row {
         name: "the product of no axes",
         codec: r#"{"name":"reshape","configuration":{"shape":[[],[0]]}}"#,
-        written: None,
         mapped: Mapped {
             sizes: &[4],
             encoded: Ok(&[1, 4]),
@@ -124,7 +110,6 @@ const ROWS: &'static [Row] = &[
     Row {
         name: "no axis 4",
         codec: r#"{"name":"reshape","configuration":{"shape":[-1,2,2,[4]]}}"#,
-        written: None,
         mapped: Mapped {
             sizes: &[5, 4, 4, 3],
             encoded: Err(CodecError::ReshapeDimension),
@@ -136,7 +121,6 @@ const ROWS: &'static [Row] = &[
     Row {
         name: "the region comes before the sizes, as 240 elements aren't 8",
         codec: r#"{"name":"reshape","configuration":{"shape":[2,2,2]}}"#,
-        written: None,
         mapped: Mapped {
             sizes: &[5, 4, 4, 3],
             encoded: Err(CodecError::ReshapeElements),
@@ -148,7 +132,6 @@ const ROWS: &'static [Row] = &[
     Row {
         name: "a region of two axes among three of one",
         codec: SQUEEZE,
-        written: Some(SQUEEZE_WRITTEN),
         mapped: Mapped {
             sizes: &[1, 4, 1, 4, 1],
             encoded: Ok(&[4, 4]),
@@ -160,7 +143,6 @@ const ROWS: &'static [Row] = &[
     Row {
         name: "squeeze by its other name, and a tuple outside",
         codec: r#"{"name":"https://codec.zarrs.dev/array_to_array/squeeze","configuration":{"x":1}}"#,
-        written: Some(SQUEEZE_WRITTEN),
         mapped: Mapped {
             sizes: &[1, 3],
             encoded: Ok(&[3]),
@@ -172,7 +154,6 @@ const ROWS: &'static [Row] = &[
     Row {
         name: "an empty range along the axis that is left out",
         codec: SQUEEZE,
-        written: Some(SQUEEZE_WRITTEN),
         mapped: Mapped {
             sizes: &[1, 3],
             encoded: Ok(&[3]),
@@ -184,7 +165,6 @@ const ROWS: &'static [Row] = &[
     Row {
         name: "the same where no other axis is, so that one stays",
         codec: SQUEEZE,
-        written: Some(SQUEEZE_WRITTEN),
         mapped: Mapped {
             sizes: &[1, 1],
             encoded: Ok(&[1]),
@@ -196,7 +176,6 @@ const ROWS: &'static [Row] = &[
     Row {
         name: "a range outside along that axis",
         codec: SQUEEZE,
-        written: Some(SQUEEZE_WRITTEN),
         mapped: Mapped {
             sizes: &[1, 1],
             encoded: Ok(&[1]),
@@ -207,99 +186,15 @@ const ROWS: &'static [Row] = &[
     },
 ];
 
-fn is_row_written(
-    rt: &impl Abort,
-    alloc: Global,
-    codec: &ArrayToArrayCodec,
-    row: &Row,
-) -> Result<(), PluginCreateError> {
-    let wanted = metadata(alloc, row.written.unwrap_or(row.codec))?;
-    is_written(rt, alloc, row.name, codec, &wanted)
-}
-
-fn is_mapped(rt: &impl Abort, alloc: Global, row: &Row) -> Result<(), Fail> {
+fn is_mapped(rt: &impl Abort, alloc: Global, row: &Row) -> Result<(), CodecError> {
     let codec = codec(alloc, row.codec)?;
-    is_row_written(rt, alloc, &codec, row)?;
-    Ok(maps(rt, alloc, row.name, &codec, &row.mapped)?)
+    maps(rt, alloc, row.name, &codec, &row.mapped)
 }
 
 #[test]
-fn codecs_are_written_and_map(rt: HostRuntime) -> Result<(), Fail> {
+fn codecs_map_shapes_and_indexers(rt: HostRuntime) -> Result<(), CodecError> {
     for row in ROWS.iter() {
         is_mapped(&rt, rt.alloc(), row)?;
-    }
-    Ok(())
-}
-
-/// A codec by its metadata, the sizes of a chunk, and those of the moved chunk.
-struct Shaped {
-    codec: &'static str,
-    sizes: &'static [u64],
-    encoded: Result<&'static [u64], CodecError>,
-}
-
-const SHAPED: &'static [Shaped] = &[
-    Shaped {
-        codec: r#"{"name":"reshape","configuration":{"shape":[[0,1],[2],3]}}"#,
-        sizes: &[5, 4, 4, 3],
-        encoded: Ok(&[20, 4, 3]),
-    },
-    Shaped {
-        codec: r#"{"name":"reshape","configuration":{"shape":[[0,1],[2],-1]}}"#,
-        sizes: &[5, 4, 4, 3],
-        encoded: Ok(&[20, 4, 3]),
-    },
-    Shaped {
-        codec: r#"{"name":"reshape","configuration":{"shape":[[0,1,2],3]}}"#,
-        sizes: &[5, 4, 4, 3],
-        encoded: Ok(&[80, 3]),
-    },
-    Shaped {
-        codec: r#"{"name":"reshape","configuration":{"shape":[[0],-1,[2,3]]}}"#,
-        sizes: &[5, 4, 4, 3],
-        encoded: Ok(&[5, 4, 12]),
-    },
-    Shaped {
-        codec: r#"{"name":"reshape","configuration":{"shape":[-1,2,2,[3]]}}"#,
-        sizes: &[5, 4, 4, 3],
-        encoded: Ok(&[20, 2, 2, 3]),
-    },
-    Shaped {
-        codec: r#"{"name":"reshape","configuration":{"shape":[]}}"#,
-        sizes: &[1, 1],
-        encoded: Ok(&[]),
-    },
-    Shaped {
-        codec: r#"{"name":"reshape","configuration":{"shape":[]}}"#,
-        sizes: &[2],
-        encoded: Err(CodecError::ReshapeElements),
-    },
-];
-
-fn is_shaped(
-    rt: &impl Abort,
-    alloc: Global,
-    codec: &ArrayToArrayCodec,
-    row: &Shaped,
-) -> Result<(), CodecError> {
-    let decoded = shape(alloc, row.sizes)?;
-    let encoded = codec.encoded_shape(alloc, &decoded);
-    let came = match &encoded {
-        Ok(shape) => Ok(shape.as_slice()),
-        Err(cause) => Err(*cause),
-    };
-    answers(rt, row.codec, &came, &row.encoded)
-}
-
-fn gets_shape(rt: &impl Abort, alloc: Global, row: &Shaped) -> Result<(), Fail> {
-    let codec = codec(alloc, row.codec)?;
-    Ok(is_shaped(rt, alloc, &codec, row)?)
-}
-
-#[test]
-fn chunks_get_other_shapes(rt: HostRuntime) -> Result<(), Fail> {
-    for row in SHAPED.iter() {
-        gets_shape(&rt, rt.alloc(), row)?;
     }
     Ok(())
 }

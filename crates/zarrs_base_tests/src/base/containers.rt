@@ -1,6 +1,6 @@
 //! Types and containers as plain data, and what is made of them.
 
-use crate::base::checks::gives;
+use crate::checks::gives;
 use std::alloc::Global;
 use std::borrow::CowSlice;
 use std::process::Abort;
@@ -10,12 +10,9 @@ use zarrs_data_type::DataType;
 
 pub(crate) type Elements = Result<ArrayBytes<'static>, CodecError>;
 
-/// A type. A pair is two components of 12 bits, with a sign. What is optional twice has bytes inside.
+/// A type. What is optional twice has bytes inside.
 pub(crate) enum Type {
     Byte,
-    Pair,
-    Text,
-    AnyBytes,
     OptionalByte,
     OptionalText,
     OptionalTwice,
@@ -24,9 +21,6 @@ pub(crate) enum Type {
 pub(crate) fn data_type(alloc: Global, told: &Type) -> Result<DataType, CodecError> {
     match told {
         Type::Byte => Ok(DataType::uint8()),
-        Type::Pair => DataType::components(12, 2, true),
-        Type::Text => Ok(DataType::string()),
-        Type::AnyBytes => Ok(DataType::bytes()),
         Type::OptionalByte => DataType::optional(alloc, DataType::uint8()),
         Type::OptionalText => DataType::optional(alloc, DataType::string()),
         Type::OptionalTwice => {
@@ -65,7 +59,7 @@ pub(crate) fn container(alloc: Global, held: &Held) -> Elements {
 }
 
 /// What came is this container.
-pub(crate) fn holds(
+fn holds(
     rt: &impl Abort,
     alloc: Global,
     name: &str,

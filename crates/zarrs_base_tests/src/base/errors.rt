@@ -1,8 +1,9 @@
-use crate::base::checks::is;
-use std::alloc::{AllocError, AllocFailed, Global};
+//! Names and texts of errors.
+
+use crate::checks::is;
+use std::alloc::{AllocError, Global};
 use std::fmt::Display;
 use std::process::Abort;
-use std::test::Fail;
 use zarrs_array_to_array::{RESHAPE, SQUEEZE, TRANSPOSE};
 use zarrs_bytes::BYTES;
 use zarrs_chunk::{CodecError, CodecName, StorageError};
@@ -211,18 +212,13 @@ const FAULTS: &'static [Row<PluginCreateError>] = &[
     },
 ];
 
-const FAILURES: &'static [Row<StorageError>] = &[Row {
-    error: StorageError { code: 7 },
-    text: "code 7",
-}];
-
 /// The error has this text, which begins with its name.
 fn has_text<E: Display>(
     rt: &impl Abort,
     alloc: Global,
     row: &Row<E>,
     name: &str,
-) -> Result<(), Fail> {
+) -> Result<(), AllocError> {
     let error = &row.error;
     let text = format!(in alloc; "{error}")?;
     is(rt, row.text, &text.as_str(), &row.text);
@@ -230,33 +226,34 @@ fn has_text<E: Display>(
     Ok(())
 }
 
+fn refusal_has_text(
+    rt: &impl Abort,
+    alloc: Global,
+    row: &Row<CodecError>,
+) -> Result<(), AllocError> {
+    has_text(rt, alloc, row, row.error.name())
+}
+
 #[test]
-fn have_names_and_texts(rt: HostRuntime) -> Result<(), Fail> {
+fn of_codecs_have_names_and_texts(rt: HostRuntime) -> Result<(), AllocError> {
     for row in REFUSALS.iter() {
-        has_text(&rt, rt.alloc(), row, row.error.name())?;
+        refusal_has_text(&rt, rt.alloc(), row)?;
     }
+    Ok(())
+}
+
+fn fault_has_text(
+    rt: &impl Abort,
+    alloc: Global,
+    row: &Row<PluginCreateError>,
+) -> Result<(), AllocError> {
+    has_text(rt, alloc, row, row.error.name())
+}
+
+#[test]
+fn of_metadata_have_names_and_texts(rt: HostRuntime) -> Result<(), AllocError> {
     for row in FAULTS.iter() {
-        has_text(&rt, rt.alloc(), row, row.error.name())?;
+        fault_has_text(&rt, rt.alloc(), row)?;
     }
     Ok(())
-}
-
-#[test]
-fn of_a_handle_has_its_number_as_text(rt: HostRuntime) -> Result<(), Fail> {
-    for row in FAILURES.iter() {
-        has_text(&rt, rt.alloc(), row, "code")?;
-    }
-    Ok(())
-}
-
-#[test]
-fn are_out_of_memory_where_a_growth_was_refused(rt: HostRuntime) {
-    let refusal = CodecError::OutOfMemory;
-    is(&rt, "refused", &CodecError::from(AllocError), &refusal);
-    let failed = AllocFailed { value: 5u64 };
-    is(&rt, "handed back", &CodecError::from(failed), &refusal);
-    let fault = PluginCreateError::OutOfMemory;
-    is(&rt, "refused", &PluginCreateError::from(AllocError), &fault);
-    let failed = AllocFailed { value: 5u64 };
-    is(&rt, "handed back", &PluginCreateError::from(failed), &fault);
 }

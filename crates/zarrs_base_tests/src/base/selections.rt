@@ -1,12 +1,11 @@
-//! Elements selected and updated: at the places of an indexer, and at runs of places. More of them are
-//! played in the transcripts of the tool.
+//! Elements selected and updated at the places of an indexer. The tool makes neither call.
 
-use crate::base::checks::{Asked, indexer, shape};
 use crate::base::containers::{Elements, Held, Type, answers, container, data_type};
+use crate::checks::{Asked, indexer, shape};
 use Asked::{Ranges, Tuples};
 use std::alloc::Global;
 use std::process::Abort;
-use zarrs_array_bytes::{ArrayBytes, update_array_bytes, update_runs};
+use zarrs_array_bytes::{ArrayBytes, update_array_bytes};
 use zarrs_chunk::{ChunkShape, CodecError, Indexer};
 use zarrs_data_type::DataType;
 
@@ -217,68 +216,4 @@ fn select_and_update_elements(rt: HostRuntime) -> Result<(), CodecError> {
         select_and_update(&rt, rt.alloc(), row)?;
     }
     Ok(())
-}
-
-/// Five words.
-const WORDS: Held = Held {
-    masks: &[],
-    bytes: &[0, 1, 2, 3, 4, 5, 6, 7, 8, 9],
-    offsets: None,
-};
-
-/// Those of the places 3, 4, 0, 1 and 0.
-const SELECTED: Held = Held {
-    masks: &[],
-    bytes: &[6, 7, 8, 9, 0, 1, 2, 3, 0, 1],
-    offsets: None,
-};
-
-const NEW: Held = Held {
-    masks: &[],
-    bytes: &[90, 91, 92, 93, 94, 95, 96, 97],
-    offsets: None,
-};
-
-/// The new ones stand at the places 3, 4, 0 and 3.
-const UPDATED: Held = Held {
-    masks: &[],
-    bytes: &[94, 95, 2, 3, 4, 5, 96, 97, 92, 93],
-    offsets: None,
-};
-
-fn select_in_runs(alloc: Global, word: &DataType) -> Elements {
-    match container(alloc, &WORDS) {
-        Ok(chunk) => chunk.extract_runs(alloc, &[(3, 2), (0, 2), (0, 1)], 5, word),
-        Err(cause) => Err(cause),
-    }
-}
-
-fn update_in_runs_by(alloc: Global, word: &DataType, new: &ArrayBytes<'static>) -> Elements {
-    match container(alloc, &WORDS) {
-        Ok(chunk) => update_runs(alloc, chunk, 5, &[(3, 2), (0, 1), (3, 1)], new, word),
-        Err(cause) => Err(cause),
-    }
-}
-
-fn update_in_runs(alloc: Global, word: &DataType) -> Elements {
-    match container(alloc, &NEW) {
-        Ok(new) => update_in_runs_by(alloc, word, &new),
-        Err(cause) => Err(cause),
-    }
-}
-
-fn are_both_in_runs(rt: &impl Abort, alloc: Global, word: &DataType) -> Result<(), CodecError> {
-    answers(
-        rt,
-        alloc,
-        "selected",
-        select_in_runs(alloc, word),
-        &SELECTED,
-    )?;
-    answers(rt, alloc, "updated", update_in_runs(alloc, word), &UPDATED)
-}
-
-#[test]
-fn select_and_update_by_runs(rt: HostRuntime) -> Result<(), CodecError> {
-    are_both_in_runs(&rt, rt.alloc(), &DataType::uint16())
 }

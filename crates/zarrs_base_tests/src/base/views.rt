@@ -1,12 +1,11 @@
-//! Elements written into an array of the caller's, and targets that chunks are decoded into.
+//! Elements written into an array of the caller's.
 
-use crate::base::checks::{are, is, shape};
+use crate::checks::{are, shape};
 use std::alloc::Global;
 use std::ops::Range;
 use std::process::Abort;
-use zarrs_array_bytes::{ArrayBytesDecodeIntoTarget, ArrayBytesFixedView};
+use zarrs_array_bytes::ArrayBytesFixedView;
 use zarrs_chunk::{ArraySubset, CodecError};
-use zarrs_data_type::DataType;
 
 /// The elements of a subset of an array: how many bytes each of them has, the array's sizes, and the
 /// ranges of the subset.
@@ -126,30 +125,4 @@ fn take_the_elements_of_a_subset(rt: HostRuntime) -> Result<(), CodecError> {
         writes(&rt, rt.alloc(), row)?;
     }
     Ok(())
-}
-
-/// The first row of two by three elements.
-const FIRST_ROW: Form = Form {
-    element_size: 1,
-    sizes: &[2, 3],
-    ranges: &[0..1, 0..3],
-};
-
-fn takes(
-    rt: &impl Abort,
-    alloc: Global,
-    target: &ArrayBytesDecodeIntoTarget<'_>,
-) -> Result<(), CodecError> {
-    let came = target.check(&shape(alloc, &[3])?, &DataType::uint8());
-    is(rt, "three bytes", &came, &Ok(()));
-    Ok(())
-}
-
-#[test]
-fn are_targets_of_chunks(rt: HostRuntime) -> Result<(), CodecError> {
-    let mut room = [0u8; 6];
-    let values = view(rt.alloc(), &mut room, &FIRST_ROW)?;
-    let masks = Vec::new(rt.alloc());
-    let target = ArrayBytesDecodeIntoTarget { values, masks };
-    takes(&rt, rt.alloc(), &target)
 }

@@ -33,20 +33,18 @@ pub(crate) fn gives<T: PartialEq + Debug + Drop, E: Drop>(
     }
 }
 
-/// These items are answered. An error of the call is an error of the test.
-pub(crate) fn lists<T: PartialEq + Debug + Drop>(
+/// The answer is this one, or this error. A lack of memory is an error of the test.
+pub(crate) fn answers<T: PartialEq + Debug>(
     rt: &impl Abort,
     name: &str,
-    answer: Result<Vec<T>, CodecError>,
-    wanted: &[T],
+    came: &Result<T, CodecError>,
+    wanted: &Result<T, CodecError>,
 ) -> Result<(), CodecError> {
-    match answer {
-        Ok(came) => {
-            are(rt, name, came.as_slice(), wanted);
-            Ok(())
-        }
-        Err(cause) => Err(cause),
+    if let Err(CodecError::OutOfMemory) = came {
+        return Err(CodecError::OutOfMemory);
     }
+    is(rt, name, came, wanted);
+    Ok(())
 }
 
 /// A shape of these sizes, none of which may be zero.
