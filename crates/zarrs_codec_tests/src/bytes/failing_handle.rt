@@ -1,8 +1,8 @@
 //! Reads over a handle that fails in the middle.
 
-use crate::bytes::checks::is;
-use crate::bytes::forms::{Asked, Form, PAIR, THREE, decoder, repeat};
-use crate::bytes::parts::{plans, reads_part};
+use crate::bytes::parts::{decoder, plans, reads_part};
+use crate::checks::is;
+use crate::forms::{Asked, Chunk, PAIR, THREE};
 use Asked::Ranges;
 use std::alloc::Global;
 use std::ops::Range;
@@ -21,7 +21,7 @@ fn make_error(call: u32) -> CodecError {
 /// whether that call is of the first read.
 struct Row {
     name: &'static str,
-    form: Form<'static>,
+    chunk: Chunk,
     part: &'static [u8],
     parts: u64,
     ranges: &'static [Range<u64>],
@@ -31,7 +31,7 @@ struct Row {
     fails_first: bool,
 }
 
-const GRID: Form<'static> = Form {
+const GRID: Chunk = Chunk {
     sizes: &[1025, 17],
     ..PAIR
 };
@@ -39,7 +39,7 @@ const GRID: Form<'static> = Form {
 const ROWS: &'static [Row] = &[
     Row {
         name: "a read over a value",
-        form: THREE,
+        chunk: THREE,
         part: &[1, 2],
         parts: 3,
         ranges: &[0..1],
@@ -50,7 +50,7 @@ const ROWS: &'static [Row] = &[
     },
     Row {
         name: "a read over nothing",
-        form: THREE,
+        chunk: THREE,
         part: &[],
         parts: 0,
         ranges: &[0..1],
@@ -62,7 +62,7 @@ const ROWS: &'static [Row] = &[
     // Ranges of 16 bytes take as much memory as their bytes, and are read by one call.
     Row {
         name: "the second read of long ranges",
-        form: GRID,
+        chunk: GRID,
         part: &[5],
         parts: 17425,
         ranges: &[0..1025, 0..16],
@@ -73,7 +73,7 @@ const ROWS: &'static [Row] = &[
     },
     Row {
         name: "the second batch of short ranges",
-        form: GRID,
+        chunk: GRID,
         part: &[5],
         parts: 17425,
         ranges: &[0..1025, 0..15],
@@ -86,6 +86,15 @@ const ROWS: &'static [Row] = &[
 
 type Decoder = BytesCodecPartial<FailingHandle>;
 
+/// The bytes so many times, one after another.
+fn repeat(alloc: Global, part: &[u8], count: u64) -> Result<Vec<u8>, CodecError> {
+    let mut bytes = Vec::new(alloc);
+    for _copy in 0..count {
+        bytes.extend_from_slice(part)?;
+    }
+    Ok(bytes)
+}
+
 /// A decoder over a handle of which one call fails.
 fn make_decoder(alloc: Global, row: &Row) -> Result<Decoder, CodecError> {
     let value = match row.parts {
@@ -93,7 +102,7 @@ fn make_decoder(alloc: Global, row: &Row) -> Result<Decoder, CodecError> {
         parts => Some(repeat(alloc, row.part, parts)?),
     };
     let handle = FailingHandle::new(value, row.call);
-    decoder(alloc, &row.form, handle)
+    decoder(alloc, &row.chunk, handle)
 }
 
 /// Two reads, one of which fails.

@@ -1,10 +1,8 @@
 //! How long the values of a chunk are.
 
-use crate::packbits::checks::is;
-use crate::packbits::forms::{
-    ALL_BITS, Chunk, ChunkForm, FLAGS, GRID, PADDED_FIRST, PADDED_LAST, Settings, WORDS,
-    chunk_form, codec,
-};
+use crate::checks::is;
+use crate::forms::{Chunk, ChunkForm, WORDS, chunk_form};
+use crate::packbits::reads::{ALL_BITS, FLAGS, GRID, PADDED_FIRST, PADDED_LAST, Settings, codec};
 use std::alloc::Global;
 use std::process::Abort;
 use zarrs_chunk::CodecError;
@@ -13,11 +11,11 @@ use zarrs_metadata::PackBitsPaddingEncoding;
 use zarrs_packbits::PackBitsCodec;
 
 /// One element of 65 bits.
-const LONG: Chunk<'static> = Chunk {
+const LONG: Chunk = Chunk {
     sizes: &[1],
     bits: 65,
     components: 1,
-    signed: true,
+    is_signed: true,
     fill: &[0, 0, 0, 0, 0, 0, 0, 0, 0],
 };
 
@@ -25,7 +23,7 @@ const LONG: Chunk<'static> = Chunk {
 struct Length {
     name: &'static str,
     settings: Settings,
-    chunk: Chunk<'static>,
+    chunk: Chunk,
     bytes: Result<u64, CodecError>,
 }
 
@@ -55,7 +53,7 @@ const LENGTHS: &'static [Length] = &[
             sizes: &[7, 10],
             bits: 1,
             components: 1,
-            signed: false,
+            is_signed: false,
             fill: &[0],
         },
         bytes: Ok(10),
@@ -67,7 +65,7 @@ const LENGTHS: &'static [Length] = &[
             sizes: &[1],
             bits: 3,
             components: 2,
-            signed: false,
+            is_signed: false,
             fill: &[0, 0],
         },
         bytes: Ok(1),
@@ -79,7 +77,7 @@ const LENGTHS: &'static [Length] = &[
             sizes: &[1],
             bits: 12,
             components: 1,
-            signed: true,
+            is_signed: true,
             fill: &[0, 0],
         },
         bytes: Ok(2),
@@ -91,7 +89,7 @@ const LENGTHS: &'static [Length] = &[
             sizes: &[1],
             bits: 12,
             components: 1,
-            signed: false,
+            is_signed: false,
             fill: &[0, 0],
         },
         bytes: Ok(2),
@@ -103,7 +101,7 @@ const LENGTHS: &'static [Length] = &[
             sizes: &[4],
             bits: 2,
             components: 1,
-            signed: false,
+            is_signed: false,
             fill: &[0],
         },
         bytes: Ok(2),
@@ -119,7 +117,7 @@ const LENGTHS: &'static [Length] = &[
             sizes: &[3],
             bits: 8,
             components: 1,
-            signed: true,
+            is_signed: true,
             fill: &[0],
         },
         bytes: Ok(1),
@@ -135,7 +133,7 @@ const LENGTHS: &'static [Length] = &[
             sizes: &[2],
             bits: 4,
             components: 1,
-            signed: true,
+            is_signed: true,
             fill: &[0],
         },
         bytes: Ok(1),
@@ -151,7 +149,7 @@ const LENGTHS: &'static [Length] = &[
             sizes: &[1],
             bits: 16,
             components: 1,
-            signed: true,
+            is_signed: true,
             fill: &[0, 0],
         },
         bytes: Ok(1),
@@ -189,7 +187,7 @@ const LENGTHS: &'static [Length] = &[
             sizes: &[],
             bits: 4,
             components: 3,
-            signed: true,
+            is_signed: true,
             fill: &[0, 0, 0],
         },
         bytes: Ok(3),
@@ -205,7 +203,7 @@ const LENGTHS: &'static [Length] = &[
             sizes: &[1],
             bits: 8,
             components: 1,
-            signed: false,
+            is_signed: false,
             fill: &[0],
         },
         bytes: Err(CodecError::BitRange),

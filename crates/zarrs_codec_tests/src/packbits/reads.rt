@@ -1,25 +1,74 @@
 //! Reads in part: the bytes that they ask for, and a decoder through the trait of all decoders.
 
-use crate::packbits::checks::{are, has_bytes, is};
-use crate::packbits::forms::{
-    ALL_BITS, Chunk, GRID, PADDED_FIRST, PADDED_LAST, Settings, codec, decoder, subset,
-};
+use crate::checks::{are_planned, is, is_part};
+use crate::forms::{Asked, Chunk, ChunkForm, chunk_form, indexer, store};
+use Asked::Ranges;
 use std::alloc::Global;
-use std::ops::Range;
 use std::process::Abort;
 use zarrs_chunk::{CodecError, Indexer};
-use zarrs_codec::{ArrayPartialDecoderTraits, ByteRange, MemoryHandle};
+use zarrs_codec::{ArrayPartialDecoderTraits, MemoryHandle, Refused};
 use zarrs_metadata::PackBitsPaddingEncoding;
 use zarrs_packbits::{PackBitsCodec, PackBitsPartialDecoder};
+
+/// The settings of a codec.
+pub(crate) struct Settings {
+    pub(crate) padding: PackBitsPaddingEncoding,
+    pub(crate) first_bit: Option<u64>,
+    pub(crate) last_bit: Option<u64>,
+}
+
+/// All bits are kept, without a padding byte.
+pub(crate) const ALL_BITS: Settings = Settings {
+    padding: PackBitsPaddingEncoding::None,
+    first_bit: None,
+    last_bit: None,
+};
+
+/// All bits are kept, and the padding byte comes first.
+pub(crate) const PADDED_FIRST: Settings = Settings {
+    padding: PackBitsPaddingEncoding::FirstByte,
+    first_bit: None,
+    last_bit: None,
+};
+
+/// All bits are kept, and the padding byte comes last.
+pub(crate) const PADDED_LAST: Settings = Settings {
+    padding: PackBitsPaddingEncoding::LastByte,
+    first_bit: None,
+    last_bit: None,
+};
+
+/// The codec of these settings, of which there is one.
+pub(crate) fn codec(settings: &Settings) -> Result<PackBitsCodec, CodecError> {
+    match PackBitsCodec::new(settings.padding, settings.first_bit, settings.last_bit) {
+        Ok(codec) => Ok(codec),
+        Err(_) => Err(CodecError::BitRange),
+    }
+}
+
+/// Two elements of one bit.
+pub(crate) const FLAGS: Chunk = Chunk {
+    sizes: &[2],
+    bits: 1,
+    components: 1,
+    is_signed: false,
+    fill: &[0],
+};
+
+/// Eight rows of five elements of one bit.
+pub(crate) const GRID: Chunk = Chunk {
+    sizes: &[8, 5],
+    ..FLAGS
+};
 
 /// What is asked for of a chunk, the ranges of bytes that a read asks for, and what it reads.
 struct Read {
     name: &'static str,
     settings: Settings,
-    chunk: Chunk<'static>,
+    chunk: Chunk,
     stored: Option<&'static [u8]>,
-    asked: &'static [Range<u64>],
-    ranges: &'static [Range<u64>],
+    asked: Asked,
+    ranges: &'static [(u64, u64)],
     elements: &'static [u8],
 }
 
@@ -32,8 +81,8 @@ const READS: &'static [Read] = &[
         settings: ALL_BITS,
         chunk: GRID,
         stored: Some(STORED_FLAGS),
-        asked: &[1..4, 1..4],
-        ranges: &[0..2, 1..2, 2..3],
+        asked: Ranges(&[1..4, 1..4]),
+        ranges: &[(0, 2), (1, 2), (2, 3)],
         elements: &[1, 0, 0, 0, 1, 0, 0, 0, 1],
     },
     Read {
@@ -41,8 +90,8 @@ const READS: &'static [Read] = &[
         settings: PADDED_FIRST,
         chunk: GRID,
         stored: Some(&[0, 73, 146, 36, 73, 146]),
-        asked: &[1..4, 1..4],
-        ranges: &[1..3, 2..3, 3..4],
+        asked: Ranges(&[1..4, 1..4]),
+        ranges: &[(1, 3), (2, 3), (3, 4)],
         elements: &[1, 0, 0, 0, 1, 0, 0, 0, 1],
     },
     Read {
@@ -50,8 +99,8 @@ const READS: &'static [Read] = &[
         settings: PADDED_LAST,
         chunk: GRID,
         stored: Some(&[73, 146, 36, 73, 146, 0]),
-        asked: &[1..4, 1..4],
-        ranges: &[0..2, 1..2, 2..3],
+        asked: Ranges(&[1..4, 1..4]),
+        ranges: &[(0, 2), (1, 2), (2, 3)],
         elements: &[1, 0, 0, 0, 1, 0, 0, 0, 1],
     },
     Read {
@@ -59,8 +108,8 @@ const READS: &'static [Read] = &[
         settings: ALL_BITS,
         chunk: GRID,
         stored: Some(STORED_FLAGS),
-        asked: &[0..8, 0..5],
-        ranges: &[0..5],
+        asked: Ranges(&[0..8, 0..5]),
+        ranges: &[(0, 5)],
         elements: &[
             1, 0, 0, 1, 0, 0, 1, 0, 0, 1, 0, 0, 1, 0, 0, 1, 0, 0, 1, 0, 0, 1, 0, 0, 1, 0, 0, 1, 0,
             0, 1, 0, 0, 1, 0, 0, 1, 0, 0, 1,
@@ -71,7 +120,7 @@ const READS: &'static [Read] = &[
         settings: ALL_BITS,
         chunk: GRID,
         stored: Some(STORED_FLAGS),
-        asked: &[1..1, 0..5],
+        asked: Ranges(&[1..1, 0..5]),
         ranges: &[],
         elements: &[],
     },
@@ -82,12 +131,12 @@ const READS: &'static [Read] = &[
             sizes: &[3],
             bits: 16,
             components: 1,
-            signed: false,
+            is_signed: false,
             fill: &[7, 8],
         },
         stored: Some(&[1, 2, 3, 4, 5, 6]),
-        asked: &[1..3],
-        ranges: &[2..6],
+        asked: Ranges(&[1..3]),
+        ranges: &[(2, 6)],
         elements: &[3, 4, 5, 6],
     },
     Read {
@@ -97,12 +146,12 @@ const READS: &'static [Read] = &[
             sizes: &[2305843009213693951],
             bits: 64,
             components: 1,
-            signed: false,
+            is_signed: false,
             fill: &[1, 2, 3, 4, 5, 6, 7, 8],
         },
         stored: None,
-        asked: &[2305843009213693950..2305843009213693951],
-        ranges: &[18446744073709551600..18446744073709551608],
+        asked: Ranges(&[2305843009213693950..2305843009213693951]),
+        ranges: &[(18446744073709551600, 18446744073709551608)],
         elements: &[1, 2, 3, 4, 5, 6, 7, 8],
     },
     Read {
@@ -116,47 +165,40 @@ const READS: &'static [Read] = &[
             sizes: &[2],
             bits: 4,
             components: 1,
-            signed: true,
+            is_signed: true,
             fill: &[15],
         },
         stored: Some(&[59]),
-        asked: &[1..2],
-        ranges: &[0..1],
+        asked: Ranges(&[1..2]),
+        ranges: &[(0, 1)],
         elements: &[254],
     },
 ];
 
-fn is_range(rt: &impl Abort, about: &str, came: &ByteRange, wanted: &Range<u64>) {
-    let ends = (came.start(), came.end());
-    is(rt, about, &ends, &(wanted.start, wanted.end));
-}
+type Decoder = PackBitsPartialDecoder<MemoryHandle>;
 
-fn are_ranges(rt: &impl Abort, about: &str, came: &[ByteRange], wanted: &[Range<u64>]) {
-    is(rt, about, &came.len(), &wanted.len());
-    for (came, wanted) in came.iter().zip(wanted) {
-        is_range(rt, about, came, wanted);
-    }
-}
-
-pub(crate) type Decoder = PackBitsPartialDecoder<MemoryHandle>;
-
-pub(crate) fn handle(alloc: Global, stored: Option<&[u8]>) -> Result<MemoryHandle, CodecError> {
-    match stored {
-        Some(value) => Ok(MemoryHandle::with_value(value.to_vec(alloc)?)),
-        None => Ok(MemoryHandle::new()),
-    }
-}
-
-fn plans(
-    rt: &impl Abort,
+fn make_decoder(
     alloc: Global,
-    decoder: &Decoder,
-    asked: &Indexer,
-    row: &Read,
-) -> Result<(), CodecError> {
-    let planned = decoder.planned_ranges(alloc, asked)?;
-    are_ranges(rt, row.name, planned.as_slice(), row.ranges);
-    Ok(())
+    codec: PackBitsCodec,
+    form: &ChunkForm,
+    handle: MemoryHandle,
+) -> Result<Decoder, Refused<MemoryHandle>> {
+    let (shape, data_type, fill_value) = (&form.shape, &form.data_type, &form.fill_value);
+    codec.partial_decoder(alloc, handle, shape, data_type, fill_value)
+}
+
+/// A decoder of the row's chunk over its value, or over nothing.
+fn decoder(alloc: Global, row: &Read) -> Result<Decoder, CodecError> {
+    let form = chunk_form(alloc, &row.chunk)?;
+    match make_decoder(
+        alloc,
+        codec(&row.settings)?,
+        &form,
+        store(alloc, row.stored)?,
+    ) {
+        Ok(decoder) => Ok(decoder),
+        Err(refused) => Err(refused.error),
+    }
 }
 
 /// What a decoder reports without reading.
@@ -169,48 +211,35 @@ fn tells<D: ArrayPartialDecoderTraits>(rt: &impl Abort, decoder: &mut D, row: &R
     is(rt, row.name, &size, &Some(row.chunk.fill.len()));
 }
 
-fn reads<D: ArrayPartialDecoderTraits>(
-    rt: &impl Abort,
-    alloc: Global,
-    decoder: &mut D,
-    asked: &Indexer,
-    row: &Read,
-) -> Result<(), CodecError> {
-    let part = decoder.partial_decode(alloc, asked)?;
-    has_bytes(rt, row.name, &part, row.elements)
-}
-
 fn answers(
     rt: &impl Abort,
     alloc: Global,
     decoder: &mut Decoder,
+    asked: &Indexer,
     row: &Read,
 ) -> Result<(), CodecError> {
-    let asked = subset(alloc, row.asked)?;
-    plans(rt, alloc, decoder, &asked, row)?;
+    are_planned(
+        rt,
+        row.name,
+        decoder.planned_ranges(alloc, asked),
+        Ok(row.ranges),
+    )?;
     tells(rt, decoder, row);
-    reads(rt, alloc, decoder, &asked, row)
-}
-
-fn keeps(rt: &impl Abort, handle: &MemoryHandle, row: &Read) {
-    is(rt, row.name, &handle.value(), &row.stored);
+    is_part(
+        rt,
+        row.name,
+        decoder.partial_decode(alloc, asked),
+        Ok(row.elements),
+    )
 }
 
 /// A decoder answers, and hands its handle back.
-fn goes_through(
-    rt: &impl Abort,
-    alloc: Global,
-    codec: PackBitsCodec,
-    row: &Read,
-) -> Result<(), CodecError> {
-    let mut decoder = decoder(alloc, codec, &row.chunk, handle(alloc, row.stored)?)?;
-    answers(rt, alloc, &mut decoder, row)?;
-    keeps(rt, &decoder.into_handle(), row);
-    Ok(())
-}
-
 fn reads_row(rt: &impl Abort, alloc: Global, row: &Read) -> Result<(), CodecError> {
-    goes_through(rt, alloc, codec(&row.settings)?, row)
+    let asked = indexer(alloc, row.asked)?;
+    let mut decoder = decoder(alloc, row)?;
+    answers(rt, alloc, &mut decoder, &asked, row)?;
+    is(rt, row.name, &decoder.into_handle().value(), &row.stored);
+    Ok(())
 }
 
 #[test]

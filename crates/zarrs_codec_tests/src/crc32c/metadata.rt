@@ -50,12 +50,21 @@ fn make<M: BytesCodecMaker<Crc32cCodec>>(
     made.ok_or(PluginCreateError::UnknownName)
 }
 
+/// The codec that the metadata of a text makes.
+fn made(alloc: Global, text: &str) -> Result<Crc32cCodec, PluginCreateError> {
+    make(alloc, &Crc32cMaker, &metadata(alloc, text)?)
+}
+
+fn text(alloc: Global, metadata: &MetadataV3) -> Result<String, PluginCreateError> {
+    let tree = metadata.to_value(alloc)?;
+    Ok(tree.to_string(alloc)?)
+}
+
 /// The text of the codec that a metadata makes.
 fn write_again(alloc: Global, row: &Row) -> Result<String, PluginCreateError> {
-    let metadata = metadata(alloc, row.metadata)?;
-    let codec = make(alloc, &Crc32cMaker, &metadata)?;
-    let tree = BytesToBytesCodecTraits::metadata(&codec, alloc)?.to_value(alloc)?;
-    Ok(tree.to_string(alloc)?)
+    let codec = made(alloc, row.metadata)?;
+    let metadata = BytesToBytesCodecTraits::metadata(&codec, alloc)?;
+    text(alloc, &metadata)
 }
 
 /// The answer is the row's. Lack of memory is an error of the test.

@@ -1,5 +1,5 @@
 //! The codec, called as any bytes-to-bytes codec is, with bytes that are lent and with owned ones.
-use crate::checks::is;
+use crate::checks::{Answer, answers, is};
 use BytesRepresentation::{BoundedSize, FixedSize, UnboundedSize};
 use std::alloc::Global;
 use std::borrow::CowSlice;
@@ -12,25 +12,17 @@ use zarrs_codec::{
 };
 use zarrs_crc32c::Crc32cCodec;
 
-/// Bytes that come, or an error.
-type Answer<'a> = Result<&'a [u8], CodecError>;
-
-/// These bytes came, or this error. Lack of memory is an error of the test.
-fn answers(
+/// These bytes came, or this error.
+fn is_coded(
     rt: &impl Abort,
     name: &str,
-    came: &Result<ArrayBytesRaw<'_>, CodecError>,
+    came: Result<ArrayBytesRaw<'_>, CodecError>,
     wanted: Answer<'_>,
 ) -> Result<(), CodecError> {
-    let came = match came {
-        Ok(bytes) => Ok(bytes.as_slice()),
-        Err(error) => Err(*error),
-    };
-    if came == Err(CodecError::OutOfMemory) {
-        return Err(CodecError::OutOfMemory);
+    match came {
+        Ok(bytes) => answers(rt, name, Ok(bytes.as_slice()), wanted),
+        Err(cause) => answers(rt, name, Err(cause), wanted),
     }
-    is(rt, name, &came, &wanted);
-    Ok(())
 }
 
 /// Bytes that are lent, or owned ones.
@@ -81,13 +73,13 @@ fn codes<C: BytesToBytesCodecTraits>(
     is_owned: bool,
 ) -> Result<(), CodecError> {
     let encoded = codec.encode(alloc, make_raw(alloc, row.bytes, is_owned)?);
-    answers(rt, row.name, &encoded, Ok(row.encoded))?;
+    is_coded(rt, row.name, encoded, Ok(row.encoded))?;
     let decoded = codec.decode(
         alloc,
         make_raw(alloc, row.encoded, is_owned)?,
         &UnboundedSize,
     );
-    answers(rt, row.name, &decoded, Ok(row.bytes))
+    is_coded(rt, row.name, decoded, Ok(row.bytes))
 }
 
 #[test]
@@ -142,7 +134,7 @@ fn rejects(
 ) -> Result<(), CodecError> {
     let encoded = make_raw(alloc, row.encoded, is_owned)?;
     let decoded = BytesToBytesCodecTraits::decode(&Crc32cCodec, alloc, encoded, &UnboundedSize);
-    answers(rt, row.name, &decoded, Err(row.error))
+    is_coded(rt, row.name, decoded, Err(row.error))
 }
 
 #[test]
