@@ -8,6 +8,7 @@ use zarrs_chunk::{ChunkShape, CodecError};
 use zarrs_codec::{SampleBytesCodec, SampleMaker};
 use zarrs_data_type::{DataType, FillValue};
 use zarrs_json::{Refusal, data_type, tree};
+use zarrs_metadata::PluginCreateError;
 
 /// Texts behind their offsets, which have eight bytes each.
 pub(crate) const TEXTS: &'static str =
@@ -17,7 +18,7 @@ pub(crate) const TEXTS: &'static str =
 pub(crate) const OPTIONS: &'static str =
     r#"[{"name":"optional","configuration":{"mask_codecs":["bytes"],"data_codecs":["bytes"]}}]"#;
 
-pub(crate) type Chain = CodecChain<SampleBytesCodec>;
+type Chain = CodecChain<SampleBytesCodec>;
 
 /// A chunk: its sizes, the type of its elements, as JSON, and the bytes of its fill value.
 pub(crate) struct Chunk {
@@ -72,12 +73,22 @@ fn chunk_form(alloc: Global, chunk: &Chunk) -> Result<ChunkForm, Refusal> {
     })
 }
 
-/// Such a chain, and such a chunk.
-pub(crate) fn made(alloc: Global, codecs: &str, chunk: &Chunk) -> Result<Case, Refusal> {
+fn make(alloc: Global, codecs: &str, chunk: &Chunk) -> Result<Case, Refusal> {
     Ok(Case {
         chain: chain(alloc, codecs)?,
         form: chunk_form(alloc, chunk)?,
     })
+}
+
+/// Such a chain, and such a chunk, or a lack of memory. Another cause, which no row has, is any other
+/// error.
+pub(crate) fn made(alloc: Global, codecs: &str, chunk: &Chunk) -> Result<Case, CodecError> {
+    match make(alloc, codecs, chunk) {
+        Ok(case) => Ok(case),
+        Err(Refusal::Codec(cause)) => Err(cause),
+        Err(Refusal::Making(PluginCreateError::OutOfMemory)) => Err(CodecError::OutOfMemory),
+        Err(_) => Err(CodecError::ArrayBytesKind),
+    }
 }
 
 /// Elements as a container holds them: their bytes; where each text begins and the last one ends, or

@@ -1,13 +1,10 @@
-//! Chains made from lists of metadata in JSON, the lists that are written of them, and JSON that makes
-//! none.
+//! Chains made from lists of metadata in JSON, and the lists that are written of them.
 
 use crate::checks::is;
 use crate::forms::chain;
 use serde_json::Value;
 use std::alloc::Global;
 use std::process::Abort;
-use std::test::Fail;
-use zarrs_chain::ChainJsonError;
 use zarrs_json::Refusal;
 use zarrs_metadata::{MetadataV3, PluginCreateError};
 
@@ -44,6 +41,26 @@ const ROWS: &'static [Row] = &[
         list: r#"["sample.reverse",{"name":"optional","configuration":{"mask_codecs":["packbits"],"data_codecs":[{"name":"zarrs.optional","configuration":{"mask_codecs":["bytes"],"data_codecs":["sample.length","bytes"]}}]}}]"#,
         written: r#"[{"configuration":{"data_codecs":[{"configuration":{"data_codecs":[{"configuration":{},"name":"bytes"},"sample.length"],"mask_codecs":[{"configuration":{},"name":"bytes"}]},"name":"zarrs.optional"}],"mask_codecs":[{"configuration":{"first_bit":null,"last_bit":null,"padding_encoding":"none"},"name":"packbits"}]},"name":"zarrs.optional"},"sample.reverse"]"#,
     },
+    Row {
+        name: "reshape, and packbits of some bits",
+        list: r#"[{"name":"reshape","configuration":{"shape":[[0,1],-1,[],10]}},{"name":"packbits","configuration":{"padding_encoding":"first_byte","first_bit":3,"last_bit":3}}]"#,
+        written: r#"[{"configuration":{"shape":[[0,1],-1,[],10]},"name":"reshape"},{"configuration":{"first_bit":3,"last_bit":3,"padding_encoding":"first_byte"},"name":"packbits"}]"#,
+    },
+    Row {
+        name: "lengths before bytes",
+        list: r#"[{"name":"vlen-bytes","configuration":{"level":1}}]"#,
+        written: r#"[{"configuration":{},"name":"vlen-bytes"}]"#,
+    },
+    Row {
+        name: "inner chunks before their index where nothing is said",
+        list: r#"[{"name":"sharding_indexed","configuration":{"chunk_shape":[2,4],"codecs":["vlen-utf8","sample.length"],"index_codecs":["endian","sample.reverse"]}}]"#,
+        written: r#"[{"configuration":{"chunk_shape":[2,4],"codecs":[{"configuration":{},"name":"vlen-utf8"},"sample.length"],"index_codecs":[{"configuration":{},"name":"bytes"},"sample.reverse"],"index_location":"end"},"name":"sharding_indexed"}]"#,
+    },
+    Row {
+        name: "inner chunks behind their index",
+        list: r#"[{"name":"sharding_indexed","configuration":{"other":7,"index_location":"start","index_codecs":["bytes"],"codecs":["bytes"],"chunk_shape":[]}}]"#,
+        written: r#"[{"configuration":{"chunk_shape":[],"codecs":[{"configuration":{},"name":"bytes"}],"index_codecs":[{"configuration":{},"name":"bytes"}],"index_location":"start"},"name":"sharding_indexed"}]"#,
+    },
 ];
 
 fn trees(alloc: Global, list: &[MetadataV3]) -> Result<Vec<Value>, PluginCreateError> {
@@ -62,7 +79,7 @@ fn written(alloc: Global, list: &str) -> Result<Value, Refusal> {
 }
 
 /// The tree is shown as this text.
-pub(crate) fn is_shown(
+fn is_shown(
     rt: &impl Abort,
     about: &str,
     alloc: Global,
@@ -79,83 +96,8 @@ fn is_written(rt: &impl Abort, alloc: Global, row: &Row) -> Result<(), Refusal> 
     is_shown(rt, row.name, alloc, &written, row.written)
 }
 
-/// A text that makes no chain, and the cause.
-struct Rejected {
-    name: &'static str,
-    text: &'static str,
-    cause: ChainJsonError,
-}
-
-const REJECTED: &'static [Rejected] = &[
-    Rejected {
-        name: "a list without its end",
-        text: r#"["bytes""#,
-        cause: ChainJsonError::NotJson,
-    },
-    Rejected {
-        name: "a word behind the list",
-        text: r#"["bytes"] bytes"#,
-        cause: ChainJsonError::NotJson,
-    },
-    Rejected {
-        name: "a name alone",
-        text: r#""bytes""#,
-        cause: ChainJsonError::NotAList,
-    },
-    Rejected {
-        name: "the list as a member",
-        text: r#"{"codecs":["bytes"]}"#,
-        cause: ChainJsonError::NotAList,
-    },
-    Rejected {
-        name: "no metadata behind a codec that isn't known",
-        text: r#"["gzip",5]"#,
-        cause: ChainJsonError::Create(PluginCreateError::InvalidConfiguration),
-    },
-    Rejected {
-        name: "a float in a configuration",
-        text: r#"[{"name":"bytes","configuration":{"level":0.5}}]"#,
-        cause: ChainJsonError::Create(PluginCreateError::InvalidConfiguration),
-    },
-    Rejected {
-        name: "a codec that isn't known",
-        text: r#"["bytes","gzip"]"#,
-        cause: ChainJsonError::Create(PluginCreateError::UnknownName),
-    },
-    Rejected {
-        name: "no codec",
-        text: "[]",
-        cause: ChainJsonError::Create(PluginCreateError::MissingArrayToBytes),
-    },
-];
-
-/// Why a text makes no chain, if it makes none. Out of memory is an error of the test.
-fn cause(alloc: Global, text: &str) -> Result<Option<ChainJsonError>, ChainJsonError> {
-    match chain(alloc, text) {
-        Ok(_) => Ok(None),
-        Err(ChainJsonError::Create(PluginCreateError::OutOfMemory)) => {
-            Err(PluginCreateError::OutOfMemory.into())
-        }
-        Err(cause) => Ok(Some(cause)),
-    }
-}
-
-fn is_rejected(rt: &impl Abort, alloc: Global, row: &Rejected) -> Result<(), ChainJsonError> {
-    let cause = cause(alloc, row.text)?;
-    is(rt, row.name, &cause, &Some(row.cause));
-    Ok(())
-}
-
 #[test]
-fn other_json_makes_no_chain(rt: HostRuntime) -> Result<(), Fail> {
-    for row in REJECTED {
-        is_rejected(&rt, rt.alloc(), row)?;
-    }
-    Ok(())
-}
-
-#[test]
-fn lists_are_written_of_chains(rt: HostRuntime) -> Result<(), Fail> {
+fn lists_are_written_of_chains(rt: HostRuntime) -> Result<(), Refusal> {
     for row in ROWS {
         is_written(&rt, rt.alloc(), row)?;
     }

@@ -1,30 +1,39 @@
-//! Each call of an array-to-bytes codec: of `vlen`, `optional`, `sharding_indexed`, `vlen-utf8` and
-//! `vlen-bytes` by themselves, of the `ArrayToBytesCodec` that is one of them, and of the chain that
-//! has no other codec.
+//! Each call of an array-to-bytes codec: of each codec by itself, of the `ArrayToBytesCodec` that is
+//! one of them, and of the chain that has no other codec.
 
+use crate::checks::is;
 use crate::forms::{Case, ChunkForm, made};
 use crate::nested_rows::NESTED;
-use crate::parts::{is_capable, is_whole};
-use crate::targets::{Into, is_compacted, is_decoded_into};
+use crate::plain_rows::PLAIN;
+use crate::targets::{Into, is_decoded_into, isnt_compacted};
 use crate::whole::is_coded;
 use crate::whole_rows::Row;
 use std::alloc::Global;
 use std::process::Abort;
-use std::test::Fail;
 use zarrs_chain::ArrayToBytesCodec;
-use zarrs_chunk::CodecError;
+use zarrs_chunk::{ChunkShape, CodecError};
 use zarrs_codec::{ArrayCodecTraits, ArrayToBytesCodecTraits, SampleBytesCodec};
-use zarrs_json::Refusal;
 
-/// What is coded, whether it is read in part, and what comes of decoding the value into a target.
+/// What is coded, and what comes of decoding the value into a target.
 pub(crate) struct Nested {
     pub(crate) row: Row,
-    pub(crate) reads: bool,
     pub(crate) into: Into,
 }
 
-/// Such a codec writes nothing in part, reads in part where it is a plain `vlen` or
-/// `sharding_indexed`, and makes no value shorter.
+/// What is best decoded together of a chunk is all of it.
+fn is_whole<C: ArrayCodecTraits>(
+    rt: &impl Abort,
+    alloc: Global,
+    about: &str,
+    codec: &C,
+    shape: &ChunkShape,
+) -> Result<(), CodecError> {
+    let together = codec.partial_decode_granularity(alloc, shape)?;
+    is(rt, about, &together, shape);
+    Ok(())
+}
+
+/// All calls of such a codec for a chunk.
 fn answers<C: ArrayToBytesCodecTraits + ArrayCodecTraits>(
     rt: &impl Abort,
     alloc: Global,
@@ -34,9 +43,8 @@ fn answers<C: ArrayToBytesCodecTraits + ArrayCodecTraits>(
 ) -> Result<(), CodecError> {
     let row = &nested.row;
     is_coded(rt, alloc, codec, form, row)?;
-    is_compacted(rt, alloc, codec, form, row.name, row.value, &Ok(false))?;
+    isnt_compacted(rt, alloc, codec, form, row.name, row.value)?;
     is_decoded_into(rt, alloc, codec, form, row.name, row.value, &nested.into)?;
-    is_capable(rt, row.name, codec, nested.reads, false);
     is_whole(rt, alloc, row.name, codec, &form.shape)
 }
 
@@ -49,11 +57,12 @@ fn alone_answers(
     nested: &Nested,
 ) -> Result<(), CodecError> {
     match codec {
+        ArrayToBytesCodec::Bytes(codec) => answers(rt, alloc, codec, form, nested),
+        ArrayToBytesCodec::PackBits(codec) => answers(rt, alloc, codec, form, nested),
         ArrayToBytesCodec::Vlen(codec) => answers(rt, alloc, codec, form, nested),
         ArrayToBytesCodec::Optional(codec) => answers(rt, alloc, codec, form, nested),
         ArrayToBytesCodec::VlenV2(codec) => answers(rt, alloc, codec, form, nested),
         ArrayToBytesCodec::Sharding(codec) => answers(rt, alloc, codec, form, nested),
-        _ => Err(CodecError::ArrayBytesKind),
     }
 }
 
@@ -70,13 +79,21 @@ fn all_answer(
     answers(rt, alloc, &case.chain, &case.form, nested)
 }
 
-fn each_answers(rt: &impl Abort, alloc: Global, nested: &Nested) -> Result<(), Refusal> {
+fn each_answers(rt: &impl Abort, alloc: Global, nested: &Nested) -> Result<(), CodecError> {
     let case = made(alloc, nested.row.codecs, &nested.row.chunk)?;
-    Ok(all_answer(rt, alloc, &case, nested)?)
+    all_answer(rt, alloc, &case, nested)
 }
 
 #[test]
-fn codecs_of_texts_options_and_shards_answer_each_call(rt: HostRuntime) -> Result<(), Fail> {
+fn codecs_of_elements_of_one_size_answer_each_call(rt: HostRuntime) -> Result<(), CodecError> {
+    for nested in PLAIN {
+        each_answers(&rt, rt.alloc(), nested)?;
+    }
+    Ok(())
+}
+
+#[test]
+fn codecs_of_texts_options_and_shards_answer_each_call(rt: HostRuntime) -> Result<(), CodecError> {
     for nested in NESTED {
         each_answers(&rt, rt.alloc(), nested)?;
     }

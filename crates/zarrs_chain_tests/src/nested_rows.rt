@@ -89,7 +89,6 @@ pub(crate) const NESTED: &'static [Nested] = &[
                 masks: &[],
             }),
         },
-        reads: true,
         into: NOT_FOR_TEXTS,
     },
     Nested {
@@ -115,7 +114,6 @@ pub(crate) const NESTED: &'static [Nested] = &[
                 masks: &[],
             }),
         },
-        reads: true,
         into: NOT_FOR_TEXTS,
     },
     Nested {
@@ -141,7 +139,6 @@ pub(crate) const NESTED: &'static [Nested] = &[
                 masks: &[&[1, 0, 1]],
             }),
         },
-        reads: false,
         into: Into {
             sizes: &[6],
             ranges: &[1..4],
@@ -174,7 +171,6 @@ pub(crate) const NESTED: &'static [Nested] = &[
                 masks: &[&[1, 0, 0], &[1, 1, 0]],
             }),
         },
-        reads: false,
         into: NOT_FOR_ITS_LEVELS,
     },
     Nested {
@@ -200,7 +196,6 @@ pub(crate) const NESTED: &'static [Nested] = &[
                 masks: &[&[0, 0, 0, 0]],
             }),
         },
-        reads: false,
         into: NOT_FOR_ITS_LEVELS,
     },
     Nested {
@@ -226,7 +221,6 @@ pub(crate) const NESTED: &'static [Nested] = &[
                 masks: &[&[1, 0]],
             }),
         },
-        reads: false,
         into: NOT_FOR_TEXTS,
     },
     Nested {
@@ -252,7 +246,6 @@ pub(crate) const NESTED: &'static [Nested] = &[
                 masks: &[&[1, 0, 0], &[1, 0, 1]],
             }),
         },
-        reads: false,
         into: NOT_FOR_TEXTS,
     },
     Nested {
@@ -278,7 +271,6 @@ pub(crate) const NESTED: &'static [Nested] = &[
                 masks: &[],
             }),
         },
-        reads: false,
         into: NOT_FOR_TEXTS,
     },
     Nested {
@@ -304,7 +296,6 @@ pub(crate) const NESTED: &'static [Nested] = &[
                 masks: &[],
             }),
         },
-        reads: false,
         into: NOT_FOR_TEXTS,
     },
     Nested {
@@ -330,7 +321,6 @@ pub(crate) const NESTED: &'static [Nested] = &[
                 masks: &[],
             }),
         },
-        reads: true,
         into: NOT_FOR_TEXTS,
     },
 ];

@@ -1,17 +1,15 @@
-//! Chunks that chains decode into a target, and values that they are asked to make shorter.
+//! Chunks that are decoded into a target, and values that are asked to be made shorter.
 
-use crate::checks::{answers, are};
+use crate::checks::{answers, are, is};
 use crate::forms::{Chunk, ChunkForm, PAIR, made, shape};
 use std::alloc::Global;
 use std::borrow::CowSlice;
 use std::ops::Range;
 use std::process::Abort;
-use std::test::Fail;
 use zarrs_array_bytes::{ArrayBytesDecodeIntoTarget, ArrayBytesFixedView};
-use zarrs_chunk::CodecError::{BytesCodec, InvalidBytesLength, TargetMismatch};
+use zarrs_chunk::CodecError::{InvalidBytesLength, TargetMismatch};
 use zarrs_chunk::{ArraySubset, CodecError};
 use zarrs_codec::ArrayToBytesCodecTraits;
-use zarrs_json::Refusal;
 
 /// The view of these ranges of an array of single bytes.
 fn view<'a>(
@@ -226,7 +224,7 @@ pub(crate) fn is_decoded_into<C: ArrayToBytesCodecTraits>(
     is_decoded_there(rt, alloc, codec, form, about, value, into, &mut target)
 }
 
-fn chain_decodes_into(rt: &impl Abort, alloc: Global, row: &Row) -> Result<(), Refusal> {
+fn chain_decodes_into(rt: &impl Abort, alloc: Global, row: &Row) -> Result<(), CodecError> {
     let case = made(alloc, row.codecs, &row.chunk)?;
     is_decoded_into(
         rt,
@@ -236,48 +234,16 @@ fn chain_decodes_into(rt: &impl Abort, alloc: Global, row: &Row) -> Result<(), R
         row.name,
         row.value,
         &row.into,
-    )?;
-    Ok(())
+    )
 }
 
 #[test]
-fn chains_decode_into_the_places_of_a_subset(rt: HostRuntime) -> Result<(), Fail> {
+fn chains_decode_into_the_places_of_a_subset(rt: HostRuntime) -> Result<(), CodecError> {
     for row in ROWS {
         chain_decodes_into(&rt, rt.alloc(), row)?;
     }
     Ok(())
 }
-
-/// A chain of two elements of one byte, a value, and whether a shorter one is made of it, or the
-/// error.
-struct Compacted {
-    name: &'static str,
-    codecs: &'static str,
-    value: &'static [u8],
-    shorter: Result<bool, CodecError>,
-}
-
-/// Only the bytes-to-bytes codecs look at the value.
-const COMPACTED: &'static [Compacted] = &[
-    Compacted {
-        name: "a good value",
-        codecs: r#"["bytes","sample.length"]"#,
-        value: &[2, 0, 0, 0, 0, 0, 0, 0, 1, 2],
-        shorter: Ok(false),
-    },
-    Compacted {
-        name: "one element too many",
-        codecs: r#"["bytes"]"#,
-        value: &[1, 2, 3],
-        shorter: Ok(false),
-    },
-    Compacted {
-        name: "a length that isn't that of the bytes",
-        codecs: r#"["bytes","sample.length"]"#,
-        value: &[3, 0, 0, 0, 0, 0, 0, 0, 1, 2],
-        shorter: Err(BytesCodec(2)),
-    },
-];
 
 fn compact<C: ArrayToBytesCodecTraits>(
     alloc: Global,
@@ -295,38 +261,15 @@ fn compact<C: ArrayToBytesCodecTraits>(
     Ok(shorter.is_some())
 }
 
-/// A shorter value is made of this one, or not, or this error is returned.
-pub(crate) fn is_compacted<C: ArrayToBytesCodecTraits>(
+/// No shorter value is made of this one.
+pub(crate) fn isnt_compacted<C: ArrayToBytesCodecTraits>(
     rt: &impl Abort,
     alloc: Global,
     codec: &C,
     form: &ChunkForm,
     about: &str,
     value: &[u8],
-    wanted: &Result<bool, CodecError>,
 ) -> Result<(), CodecError> {
-    let shorter = compact(alloc, codec, form, value);
-    answers(rt, about, &shorter, wanted)
-}
-
-fn chain_compacts(rt: &impl Abort, alloc: Global, row: &Compacted) -> Result<(), Refusal> {
-    let case = made(alloc, row.codecs, &PAIR)?;
-    is_compacted(
-        rt,
-        alloc,
-        &case.chain,
-        &case.form,
-        row.name,
-        row.value,
-        &row.shorter,
-    )?;
-    Ok(())
-}
-
-#[test]
-fn chains_make_no_value_shorter(rt: HostRuntime) -> Result<(), Fail> {
-    for row in COMPACTED {
-        chain_compacts(&rt, rt.alloc(), row)?;
-    }
+    is(rt, about, &compact(alloc, codec, form, value)?, &false);
     Ok(())
 }

@@ -1,17 +1,11 @@
 //! What is answered, and writers that fail in a write or in the flush.
+use crate::checks::is;
 use crate::tool::sent::{SENT, Sent, run_over};
 use std::alloc::{AllocError, Global};
-use std::fmt::Debug;
 use std::io;
-use std::io::{BufWriter, ErrorKind, Write};
+use std::io::{ErrorKind, Write};
 use std::process::Abort;
-use std::test::Fail;
 use zarrs_tool_lines::run::{RunEnd, StreamFault};
-
-/// What came is what is wanted.
-fn is<T: PartialEq + Debug>(rt: &impl Abort, about: &str, came: &T, wanted: &T) {
-    assert_eq!(rt; *came, *wanted, "{about}");
-}
 
 /// What came of two runs is the same, except where an allocation failed in one of them: that ends a
 /// test, and isn't compared with what is expected.
@@ -51,7 +45,7 @@ impl Write for FakeWriter {
     }
 }
 
-fn is_answered(rt: &impl Abort, alloc: Global, row: &Sent) -> Result<(), Fail> {
+fn is_answered(rt: &impl Abort, alloc: Global, row: &Sent) -> Result<(), AllocError> {
     let mut written = Vec::new(alloc);
     let end = run_over(alloc, row, &mut written)?;
     let mut again = Vec::new(alloc);
@@ -63,7 +57,7 @@ fn is_answered(rt: &impl Abort, alloc: Global, row: &Sent) -> Result<(), Fail> {
 }
 
 #[test]
-fn that_take_all(rt: HostRuntime) -> Result<(), Fail> {
+fn that_take_all(rt: HostRuntime) -> Result<(), AllocError> {
     for row in SENT.iter() {
         is_answered(&rt, rt.alloc(), row)?;
     }
@@ -80,7 +74,7 @@ fn end_over(
     row: &Sent,
     writes: usize,
     can_flush: bool,
-) -> io::Result<(RunEnd, usize, bool)> {
+) -> Result<(RunEnd, usize, bool), AllocError> {
     let mut writer = FakeWriter {
         writes_left: writes,
         can_flush,
@@ -99,7 +93,7 @@ fn ends(
     writes: usize,
     can_flush: bool,
     end: RunEnd,
-) -> Result<usize, Fail> {
+) -> Result<usize, AllocError> {
     let came = end_over(alloc, row, writes, can_flush)?;
     agree(&came, &end_over(alloc, row, writes, can_flush)?)?;
     let (ended, left, is_held_back) = came;
@@ -117,7 +111,7 @@ fn unwritten(row: &Sent) -> RunEnd {
 
 /// With fewer writes than a run needs it ends as the writer's fault, and so where the flush fails: the
 /// disk may be full when the last bytes go out.
-fn needs_each_write(rt: &impl Abort, alloc: Global, row: &Sent) -> Result<(), Fail> {
+fn needs_each_write(rt: &impl Abort, alloc: Global, row: &Sent) -> Result<(), AllocError> {
     ends(rt, alloc, row, MANY, false, unwritten(row))?;
     let left = ends(rt, alloc, row, MANY, true, row.end)?;
     let needed = MANY.saturating_sub(left);
@@ -136,41 +130,9 @@ fn needs_each_write(rt: &impl Abort, alloc: Global, row: &Sent) -> Result<(), Fa
 }
 
 #[test]
-fn that_fail_in_a_write_or_in_the_flush(rt: HostRuntime) -> Result<(), Fail> {
+fn that_fail_in_a_write_or_in_the_flush(rt: HostRuntime) -> Result<(), AllocError> {
     for row in SENT.iter() {
         needs_each_write(&rt, rt.alloc(), row)?;
-    }
-    Ok(())
-}
-
-/// How a run ends over the program's own writer before one that takes nothing.
-fn end_held_back(alloc: Global, row: &Sent) -> io::Result<RunEnd> {
-    let full = FakeWriter {
-        writes_left: 0,
-        can_flush: true,
-        unflushed: 0,
-    };
-    let mut writer = BufWriter::new(alloc, full)?;
-    run_over(alloc, row, &mut writer)
-}
-
-/// The program's own writer holds all answers back, up to the flush, which fails where there are some.
-fn holds_back(rt: &impl Abort, alloc: Global, row: &Sent) -> Result<(), Fail> {
-    let came = end_held_back(alloc, row)?;
-    agree(&came, &end_held_back(alloc, row)?)?;
-    let end = if row.answers.is_empty() {
-        row.end
-    } else {
-        unwritten(row)
-    };
-    is(rt, row.name, &came, &end);
-    Ok(())
-}
-
-#[test]
-fn that_hold_answers_back(rt: HostRuntime) -> Result<(), Fail> {
-    for row in SENT.iter() {
-        holds_back(&rt, rt.alloc(), row)?;
     }
     Ok(())
 }
