@@ -3,10 +3,11 @@
 use serde_json::Value;
 use std::alloc::Global;
 use zarrs_chain::CodecChain;
-use zarrs_chunk::ChunkShape;
+use zarrs_chunk::{ChunkShape, CodecError};
 use zarrs_codec::{SampleBytesCodec, SampleMaker};
 use zarrs_data_type::{DataType, FillValue};
 use zarrs_json::{Refusal, data_type, hex_bytes, member, numbers, object, read_edit, tree};
+use zarrs_metadata::PluginCreateError;
 
 /// Four bytes.
 pub(crate) const BYTES: &'static str =
@@ -128,21 +129,39 @@ fn chunk_among(alloc: Global, header: &Value) -> Result<Chunk, Refusal> {
     Ok(Chunk { form, chain })
 }
 
-/// The chunk of a header.
-pub(crate) fn chunk_of(alloc: Global, header: &str) -> Result<Chunk, Refusal> {
+fn read_chunk(alloc: Global, header: &str) -> Result<Chunk, Refusal> {
     let header = tree(alloc, header.as_bytes())?;
     chunk_among(alloc, &header)
 }
 
-/// The chunk of a header, and the part of it that a writing line names.
-pub(crate) fn case_of(alloc: Global, header: &str, part: &str) -> Result<Case, Refusal> {
-    let chunk = chunk_of(alloc, header)?;
-    let part = part_of(alloc, &chunk, part)?;
-    Ok(Case { chunk, part })
+fn read_part(alloc: Global, chunk: &Chunk, text: &str) -> Result<Part, Refusal> {
+    let part = tree(alloc, text.as_bytes())?;
+    read_edit(alloc, &chunk.form.data_type, &part)
+}
+
+/// What is read of a text, or a lack of memory. Another cause, which no row has, is any other error.
+fn made<T>(answer: Result<T, Refusal>) -> Result<T, CodecError> {
+    match answer {
+        Ok(made) => Ok(made),
+        Err(Refusal::Codec(cause)) => Err(cause),
+        Err(Refusal::Making(PluginCreateError::OutOfMemory)) => Err(CodecError::OutOfMemory),
+        Err(_) => Err(CodecError::ArrayBytesKind),
+    }
+}
+
+/// The chunk of a header.
+pub(crate) fn chunk_of(alloc: Global, header: &str) -> Result<Chunk, CodecError> {
+    made(read_chunk(alloc, header))
 }
 
 /// The part of a chunk that a writing line names.
-pub(crate) fn part_of(alloc: Global, chunk: &Chunk, text: &str) -> Result<Part, Refusal> {
-    let part = tree(alloc, text.as_bytes())?;
-    read_edit(alloc, &chunk.form.data_type, &part)
+pub(crate) fn part_of(alloc: Global, chunk: &Chunk, text: &str) -> Result<Part, CodecError> {
+    made(read_part(alloc, chunk, text))
+}
+
+/// The chunk of a header, and the part of it that a writing line names.
+pub(crate) fn case_of(alloc: Global, header: &str, part: &str) -> Result<Case, CodecError> {
+    let chunk = chunk_of(alloc, header)?;
+    let part = part_of(alloc, &chunk, part)?;
+    Ok(Case { chunk, part })
 }

@@ -1,12 +1,11 @@
-//! Encoders, decoders of `vlen`, and coders that fail or are never made, with what they answer.
+//! Encoders, and coders that fail or are never made, with what they answer.
 
 use crate::chunks::{
-    A_AND_BC, BYTES, FIRST_OF_TWO, FOUR_BITS, HALF_BYTES, ORDERLESS, SHARD, TEXTS, WITH_LENGTH,
+    A_AND_BC, BYTES, FIRST_OF_TWO, FOUR_BITS, ORDERLESS, SHARD, TEXTS, WITH_LENGTH,
 };
 use crate::coders::Kind;
 use crate::rows::{FIRST, NONE, Row, SECOND};
 use zarrs_chunk::CodecError;
-use zarrs_codec_chain::VLEN;
 
 /// Encoders keep what their handles do.
 pub(crate) const ENCODERS: &'static [Row] = &[
@@ -69,119 +68,6 @@ pub(crate) const ENCODERS: &'static [Row] = &[
         in_part: true,
         planned: Some(&[(0, 1)]),
         size_held: 0,
-    },
-];
-
-/// The decoder of a `vlen` codec looks at the places first, and then reads the value each time: of a
-/// plain one in part.
-pub(crate) const OF_VLEN: &'static [Row] = &[
-    Row {
-        name: "one of two texts",
-        coder: Kind::OfVlen,
-        chunk: TEXTS,
-        value: Some(A_AND_BC),
-        fails_at: 0,
-        part: r#"{"at":{"ranges":[[1,2]]},"data":["6263"]}"#,
-        refusals: NONE,
-        in_part: true,
-        planned: None,
-        size_held: 35,
-    },
-    Row {
-        name: "none of two texts",
-        coder: Kind::OfVlen,
-        chunk: TEXTS,
-        value: Some(A_AND_BC),
-        fails_at: 0,
-        part: r#"{"at":{"ranges":[[1,1]]},"data":[]}"#,
-        refusals: NONE,
-        in_part: true,
-        planned: None,
-        size_held: 35,
-    },
-    Row {
-        name: "both texts",
-        coder: Kind::OfVlen,
-        chunk: TEXTS,
-        value: Some(A_AND_BC),
-        fails_at: 0,
-        part: r#"{"at":{"ranges":[[0,2]]},"data":["61","6263"]}"#,
-        refusals: NONE,
-        in_part: true,
-        planned: None,
-        size_held: 35,
-    },
-    Row {
-        name: "a text of half bytes",
-        coder: Kind::OfVlen,
-        chunk: HALF_BYTES,
-        value: Some(b"\x18\0\0\0\0\0\0\0\0\0\0\0\0\0\0\0\x01\0\0\0\0\0\0\0\x02\0\0\0\0\0\0\0\x21"),
-        fails_at: 0,
-        part: r#"{"at":{"ranges":[[1,2]]},"data":["02"]}"#,
-        refusals: NONE,
-        in_part: false,
-        planned: None,
-        size_held: 33,
-    },
-    Row {
-        name: "texts where nothing is stored",
-        coder: Kind::OfVlen,
-        chunk: TEXTS,
-        value: None,
-        fails_at: 0,
-        part: r#"{"at":{"ranges":[[0,2]]},"data":["",""]}"#,
-        refusals: NONE,
-        in_part: true,
-        planned: None,
-        size_held: 0,
-    },
-    Row {
-        name: "a value that stands for no texts",
-        coder: Kind::OfVlen,
-        chunk: TEXTS,
-        value: Some(b"\xff\xff\xff\xff\xff\xff\xff\xff"),
-        fails_at: 0,
-        part: r#"{"at":{"ranges":[[0,1]]},"data":[]}"#,
-        refusals: [
-            None,
-            Some(CodecError::IndexLength),
-            Some(CodecError::IndexLength),
-        ],
-        in_part: true,
-        planned: None,
-        size_held: 8,
-    },
-    Row {
-        name: "places past the end, before such a value",
-        coder: Kind::OfVlen,
-        chunk: TEXTS,
-        value: Some(b"\xff\xff\xff\xff\xff\xff\xff\xff"),
-        fails_at: 0,
-        part: r#"{"at":{"ranges":[[0,3]]},"data":[]}"#,
-        refusals: [
-            None,
-            Some(CodecError::OutOfBounds),
-            Some(CodecError::OutOfBounds),
-        ],
-        in_part: true,
-        planned: None,
-        size_held: 8,
-    },
-    Row {
-        name: "places with two axes, before such a value",
-        coder: Kind::OfVlen,
-        chunk: TEXTS,
-        value: Some(b"\xff\xff\xff\xff\xff\xff\xff\xff"),
-        fails_at: 0,
-        part: r#"{"at":{"ranges":[[0,1],[0,1]]},"data":[]}"#,
-        refusals: [
-            None,
-            Some(CodecError::IncompatibleDimensionality),
-            Some(CodecError::IncompatibleDimensionality),
-        ],
-        in_part: true,
-        planned: None,
-        size_held: 8,
     },
 ];
 
@@ -260,18 +146,6 @@ pub(crate) const NEVER_MADE: &'static [Row] = &[
         fails_at: 0,
         part: r#"{"at":{"ranges":[[1,2]]},"data":[]}"#,
         refusals: [Some(CodecError::BytesCodec(2)), None, None],
-        in_part: false,
-        planned: None,
-        size_held: 0,
-    },
-    Row {
-        name: "bytes, which a vlen codec doesn't take",
-        coder: Kind::OfVlen,
-        chunk: r#"{"shape":[4],"data_type":"uint8","fill_value":"00","codecs":[{"name":"zarrs.vlen","configuration":{"index_codecs":[{"name":"bytes","configuration":{"endian":"little"}}],"data_codecs":["bytes"],"index_data_type":"uint64"}}]}"#,
-        value: Some(b"\x07"),
-        fails_at: 0,
-        part: r#"{"at":{"ranges":[[1,2]]},"data":[]}"#,
-        refusals: [Some(CodecError::UnsupportedDataType(VLEN)), None, None],
         in_part: false,
         planned: None,
         size_held: 0,

@@ -1,30 +1,22 @@
-//! Coders of chunks over handles of tests: the decoders and encoders of chains, and the decoder of a
-//! `vlen` codec by itself.
+//! Coders of chunks over handles of tests: the decoders and encoders of chains.
 
 use crate::chunks::{Chunk, Form};
 use std::alloc::{AllocError, Global};
-use zarrs_chain::VlenCodec;
 use zarrs_codec::testing::FailingHandle;
 use zarrs_codec::{
     BytesPartialDecoderTraits, BytesPartialEncoderTraits, Refused, SampleBytesCodec,
 };
-use zarrs_codec_chain::{
-    ArrayPartialDecoder, ArrayPartialEncoder, CodecChainPartialTraits, VlenCodecPartialTraits,
-    VlenPartialDecoder,
-};
+use zarrs_codec_chain::{ArrayPartialDecoder, ArrayPartialEncoder, CodecChainPartialTraits};
 
-/// Whose coder it is: a chain's decoder or encoder, or the decoder of the chain's `vlen` codec.
+/// Which coder of a chain it is.
 pub(crate) enum Kind {
     Decoder,
     Encoder,
-    OfVlen,
 }
 
 pub(crate) type Decoder<'a, H> = ArrayPartialDecoder<'a, H, SampleBytesCodec>;
 
 pub(crate) type Encoder<'a, H> = ArrayPartialEncoder<'a, H, SampleBytesCodec>;
-
-pub(crate) type VlenDecoder<'a> = VlenPartialDecoder<'a, FailingHandle, SampleBytesCodec>;
 
 /// The bytes that a handle is to keep, or nothing.
 pub(crate) fn stored(alloc: Global, value: Option<&[u8]>) -> Result<Option<Vec<u8>>, AllocError> {
@@ -71,18 +63,4 @@ pub(crate) fn encoder<'a, H: BytesPartialEncoderTraits>(
     chunk
         .chain
         .partial_encoder(alloc, handle, shape, data_type, fill_value)
-}
-
-pub(crate) fn vlen_decoder<'a>(
-    alloc: Global,
-    codec: &'a VlenCodec<SampleBytesCodec>,
-    form: &Form,
-    handle: FailingHandle,
-) -> Result<VlenDecoder<'a>, Refused<FailingHandle>> {
-    let Form {
-        shape,
-        data_type,
-        fill_value,
-    } = form;
-    codec.partial_decoder(alloc, handle, shape, data_type, fill_value)
 }

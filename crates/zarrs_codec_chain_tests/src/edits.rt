@@ -6,12 +6,10 @@ use crate::chunks::{BYTES, Chunk, WITH_LENGTH, chunk_of, part_of};
 use crate::coders::{Encoder, encoder};
 use std::alloc::Global;
 use std::process::Abort;
-use std::test::Fail;
 use zarrs_chunk::{CodecError, StorageError};
 use zarrs_codec::BytesPartialEncoderTraits;
 use zarrs_codec::testing::{FailingHandle, TornHandle};
 use zarrs_codec_chain::{Edit, EditOutcome, run_edits};
-use zarrs_json::Refusal;
 
 /// Where elements are written and which, or nothing where all is erased. The fourth edit has an element
 /// too many.
@@ -76,7 +74,7 @@ const ROWS: &'static [Row] = &[
     },
 ];
 
-fn edit(alloc: Global, chunk: &Chunk, text: &Option<&str>) -> Result<Edit<'static>, Refusal> {
+fn edit(alloc: Global, chunk: &Chunk, text: &Option<&str>) -> Result<Edit<'static>, CodecError> {
     match text {
         None => Ok(Edit::Erase),
         Some(text) => {
@@ -92,11 +90,11 @@ fn add(
     chunk: &Chunk,
     all: &mut Vec<Edit<'static>>,
     text: &Option<&str>,
-) -> Result<(), Refusal> {
+) -> Result<(), CodecError> {
     Ok(all.push(edit(alloc, chunk, text)?)?)
 }
 
-fn edits(alloc: Global, chunk: &Chunk) -> Result<Vec<Edit<'static>>, Refusal> {
+fn edits(alloc: Global, chunk: &Chunk) -> Result<Vec<Edit<'static>>, CodecError> {
     let mut all = Vec::new(alloc);
     for text in LIST.iter() {
         add(alloc, chunk, &mut all, text)?;
@@ -245,14 +243,18 @@ fn fails_at_each(
     Ok(())
 }
 
-fn fails_row(rt: &impl Abort, alloc: Global, row: &Row) -> Result<(), Refusal> {
+fn fails_chunk(rt: &impl Abort, alloc: Global, chunk: &Chunk, row: &Row) -> Result<(), CodecError> {
+    let edits = edits(alloc, chunk)?;
+    fails_at_each(rt, alloc, chunk, edits.as_slice(), row)
+}
+
+fn fails_row(rt: &impl Abort, alloc: Global, row: &Row) -> Result<(), CodecError> {
     let chunk = chunk_of(alloc, row.chunk)?;
-    let edits = edits(alloc, &chunk)?;
-    Ok(fails_at_each(rt, alloc, &chunk, edits.as_slice(), row)?)
+    fails_chunk(rt, alloc, &chunk, row)
 }
 
 #[test]
-fn edits_end_at_the_first_refusal(rt: HostRuntime) -> Result<(), Fail> {
+fn edits_end_at_the_first_refusal(rt: HostRuntime) -> Result<(), CodecError> {
     for row in ROWS.iter() {
         fails_row(&rt, rt.alloc(), row)?;
     }

@@ -3,9 +3,9 @@
 //!
 //! What is read, what is written, what is stored afterwards and why a line fails stands in the
 //! transcripts of `zarrs_transcripts`. Here is what no line of the tool shows: which bytes are
-//! planned and how many are kept, which bytes a read asks for, how often a handle is written, what
-//! a failed construction hands back, edits and reads over handles that fail, tear their value or
-//! hold back bytes, the decoder of a `vlen` codec by itself, and the traits of coders.
+//! planned and how many are kept, which bytes a read asks for, what a failed construction hands back,
+//! edits and reads over handles that fail, tear their value or hold back bytes, the decoder of a
+//! `vlen` codec by itself, and the traits of coders.
 //!
 //! Chunks, values, indexers and elements are the texts that the tool takes. Answers are written by
 //! hand. Out of memory ends a test with that error and is never compared.
@@ -35,5 +35,3 @@ mod rows;
 mod shards;
 #[cfg(test)]
 mod uses;
-#[cfg(test)]
-mod writes;

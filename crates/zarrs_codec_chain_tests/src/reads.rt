@@ -3,18 +3,15 @@
 
 use crate::checks::{is, is_cause, is_plan};
 use crate::chunks::{Chunk, Part, case_of};
-use crate::coder_rows::{ENCODERS, FAILING, NEVER_MADE, OF_VLEN};
-use crate::coders::{Decoder, Encoder, Kind, VlenDecoder, decoder, encoder, failing, vlen_decoder};
+use crate::coder_rows::{ENCODERS, FAILING, NEVER_MADE};
+use crate::coders::{Decoder, Encoder, Kind, decoder, encoder, failing};
 use crate::rows::{Row, WITH_CACHE, WITHOUT_CACHE};
 use std::alloc::Global;
 use std::process::Abort;
-use std::test::Fail;
 use zarrs_array_bytes::ArrayBytes;
-use zarrs_chain::{ArrayToBytesCodec, VlenCodec};
 use zarrs_chunk::{CodecError, StorageError};
 use zarrs_codec::testing::FailingHandle;
-use zarrs_codec::{ArrayPartialDecoderTraits, ByteRange, Refused, SampleBytesCodec};
-use zarrs_json::Refusal;
+use zarrs_codec::{ArrayPartialDecoderTraits, ByteRange, Refused};
 
 /// What was read is what is wanted.
 pub(crate) fn is_read(
@@ -204,48 +201,6 @@ fn by_encoder(
     }
 }
 
-/// The decoder of a `vlen` codec has no plans.
-fn decodes_by_vlen(
-    rt: &impl Abort,
-    alloc: Global,
-    mut decoder: VlenDecoder<'_>,
-    chunk: &Chunk,
-    part: &Part,
-    row: &Row,
-) -> Result<(), CodecError> {
-    let done = answers(rt, alloc, &mut decoder, chunk, part, row);
-    is_kept(rt, done, &decoder.into_handle(), row)
-}
-
-fn by_vlen(
-    rt: &impl Abort,
-    alloc: Global,
-    codec: &VlenCodec<SampleBytesCodec>,
-    chunk: &Chunk,
-    part: &Part,
-    row: &Row,
-) -> Result<(), CodecError> {
-    let handle = failing(alloc, row.value, row.fails_at)?;
-    match vlen_decoder(alloc, codec, &chunk.form, handle) {
-        Ok(decoder) => decodes_by_vlen(rt, alloc, decoder, chunk, part, row),
-        Err(refused) => is_refused(rt, refused, row),
-    }
-}
-
-/// The chain's array-to-bytes codec has to be `vlen`.
-fn by_codec(
-    rt: &impl Abort,
-    alloc: Global,
-    chunk: &Chunk,
-    part: &Part,
-    row: &Row,
-) -> Result<(), CodecError> {
-    match chunk.chain.array_to_bytes_codec() {
-        ArrayToBytesCodec::Vlen(codec) => by_vlen(rt, alloc, codec, chunk, part, row),
-        _ => Err(CodecError::DataMismatch),
-    }
-}
-
 fn reads_of(
     rt: &impl Abort,
     alloc: Global,
@@ -256,16 +211,15 @@ fn reads_of(
     match &row.coder {
         Kind::Decoder => by_decoder(rt, alloc, chunk, part, row),
         Kind::Encoder => by_encoder(rt, alloc, chunk, part, row),
-        Kind::OfVlen => by_codec(rt, alloc, chunk, part, row),
     }
 }
 
-fn reads_row(rt: &impl Abort, alloc: Global, row: &Row) -> Result<(), Refusal> {
+fn reads_row(rt: &impl Abort, alloc: Global, row: &Row) -> Result<(), CodecError> {
     let case = case_of(alloc, row.chunk, row.part)?;
-    Ok(reads_of(rt, alloc, &case.chunk, &case.part, row)?)
+    reads_of(rt, alloc, &case.chunk, &case.part, row)
 }
 
-fn reads_rows(rt: &impl Abort, alloc: Global, rows: &[Row]) -> Result<(), Refusal> {
+fn reads_rows(rt: &impl Abort, alloc: Global, rows: &[Row]) -> Result<(), CodecError> {
     for row in rows.iter() {
         reads_row(rt, alloc, row)?;
     }
@@ -273,31 +227,26 @@ fn reads_rows(rt: &impl Abort, alloc: Global, rows: &[Row]) -> Result<(), Refusa
 }
 
 #[test]
-fn decoders_without_a_cache(rt: HostRuntime) -> Result<(), Fail> {
-    Ok(reads_rows(&rt, rt.alloc(), WITHOUT_CACHE)?)
+fn decoders_without_a_cache(rt: HostRuntime) -> Result<(), CodecError> {
+    reads_rows(&rt, rt.alloc(), WITHOUT_CACHE)
 }
 
 #[test]
-fn decoders_with_a_cache(rt: HostRuntime) -> Result<(), Fail> {
-    Ok(reads_rows(&rt, rt.alloc(), WITH_CACHE)?)
+fn decoders_with_a_cache(rt: HostRuntime) -> Result<(), CodecError> {
+    reads_rows(&rt, rt.alloc(), WITH_CACHE)
 }
 
 #[test]
-fn encoders(rt: HostRuntime) -> Result<(), Fail> {
-    Ok(reads_rows(&rt, rt.alloc(), ENCODERS)?)
+fn encoders(rt: HostRuntime) -> Result<(), CodecError> {
+    reads_rows(&rt, rt.alloc(), ENCODERS)
 }
 
 #[test]
-fn decoders_of_vlen_codecs(rt: HostRuntime) -> Result<(), Fail> {
-    Ok(reads_rows(&rt, rt.alloc(), OF_VLEN)?)
+fn over_handles_that_fail(rt: HostRuntime) -> Result<(), CodecError> {
+    reads_rows(&rt, rt.alloc(), FAILING)
 }
 
 #[test]
-fn over_handles_that_fail(rt: HostRuntime) -> Result<(), Fail> {
-    Ok(reads_rows(&rt, rt.alloc(), FAILING)?)
-}
-
-#[test]
-fn that_are_never_made(rt: HostRuntime) -> Result<(), Fail> {
-    Ok(reads_rows(&rt, rt.alloc(), NEVER_MADE)?)
+fn that_are_never_made(rt: HostRuntime) -> Result<(), CodecError> {
+    reads_rows(&rt, rt.alloc(), NEVER_MADE)
 }

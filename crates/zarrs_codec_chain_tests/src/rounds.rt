@@ -7,10 +7,8 @@ use crate::reads::is_read;
 use crate::shards::{INNER_FLAGS, INNER_SIZED, TURNED_INSIDE};
 use std::alloc::Global;
 use std::process::Abort;
-use std::test::Fail;
 use zarrs_chunk::CodecError;
 use zarrs_codec::{ByteRange, Refused, StorageError};
-use zarrs_json::Refusal;
 use zarrs_lent_handles::{Piece, PiecesHandle, join_ranges};
 
 /// A chunk and its value, a part and its elements, and where the ranges start and end that each
@@ -155,15 +153,17 @@ fn next_ranges(
     join_ranges(alloc, ranges)
 }
 
-/// The ranges that the handle's last read lacked are the wanted ones; those of the next round.
+/// Once a read is done, the ranges that it lacked are the wanted ones; those of the next round.
 fn gets(
     rt: &impl Abort,
     alloc: Global,
+    done: Result<(), CodecError>,
     row: &Row,
     handle: &PiecesHandle<'_>,
     got: &[ByteRange],
     wanted: &[(u64, u64)],
 ) -> Result<Vec<ByteRange>, CodecError> {
+    done?;
     are_ranges(rt, row.name, handle.lacking(), wanted);
     next_ranges(alloc, got, handle.lacking())
 }
@@ -195,8 +195,8 @@ fn decodes(
     got: &[ByteRange],
     wanted: &[(u64, u64)],
 ) -> Result<Vec<ByteRange>, CodecError> {
-    reads(rt, alloc, &mut decoder, case, row, wanted)?;
-    gets(rt, alloc, row, &decoder.into_handle(), got, wanted)
+    let done = reads(rt, alloc, &mut decoder, case, row, wanted);
+    gets(rt, alloc, done, row, &decoder.into_handle(), got, wanted)
 }
 
 /// A decoder that keeps the chunk isn't made where bytes are lacking.
@@ -212,7 +212,7 @@ fn is_refused(
         return Err(CodecError::OutOfMemory);
     }
     is(rt, row.name, "refusal", &refused.error, &LACKING);
-    gets(rt, alloc, row, &refused.handle, got, wanted)
+    gets(rt, alloc, Ok(()), row, &refused.handle, got, wanted)
 }
 
 /// A round over the ranges that were got: it lacks the wanted ones; or none are wanted, and the part is
@@ -245,12 +245,12 @@ fn reads_in_rounds(
     Ok(())
 }
 
-fn reads_row(rt: &impl Abort, alloc: Global, row: &Row) -> Result<(), Refusal> {
+fn reads_row(rt: &impl Abort, alloc: Global, row: &Row) -> Result<(), CodecError> {
     let case = case_of(alloc, row.chunk, row.part)?;
-    Ok(reads_in_rounds(rt, alloc, &case, row)?)
+    reads_in_rounds(rt, alloc, &case, row)
 }
 
-fn reads_all(rt: &impl Abort, alloc: Global, rows: &[Row]) -> Result<(), Refusal> {
+fn reads_all(rt: &impl Abort, alloc: Global, rows: &[Row]) -> Result<(), CodecError> {
     for row in rows.iter() {
         reads_row(rt, alloc, row)?;
     }
@@ -258,6 +258,6 @@ fn reads_all(rt: &impl Abort, alloc: Global, rows: &[Row]) -> Result<(), Refusal
 }
 
 #[test]
-fn reads_in_rounds_get_what_they_lack(rt: HostRuntime) -> Result<(), Fail> {
-    Ok(reads_all(&rt, rt.alloc(), ROWS)?)
+fn reads_in_rounds_get_what_they_lack(rt: HostRuntime) -> Result<(), CodecError> {
+    reads_all(&rt, rt.alloc(), ROWS)
 }

@@ -3,7 +3,6 @@
 
 use crate::chunks::{FIRST_OF_TWO, SHARD};
 use crate::fenced::{FENCED, Row, all_through_chains};
-use std::test::Fail;
 use zarrs_chunk::CodecError;
 
 /// Four rows of four bytes, two rows in each inner chunk, with the index before them.
@@ -334,11 +333,11 @@ const OF_CHAINS: &'static [Row] = &[
 ];
 
 #[test]
-fn reads_of_shards_ask_for_the_index_and_inner_bytes(rt: HostRuntime) -> Result<(), Fail> {
-    Ok(all_through_chains(&rt, rt.alloc(), OF_BYTES)?)
+fn reads_of_shards_ask_for_the_index_and_inner_bytes(rt: HostRuntime) -> Result<(), CodecError> {
+    all_through_chains(&rt, rt.alloc(), OF_BYTES)
 }
 
 #[test]
-fn and_inner_chains_for_what_they_rest_on(rt: HostRuntime) -> Result<(), Fail> {
-    Ok(all_through_chains(&rt, rt.alloc(), OF_CHAINS)?)
+fn and_inner_chains_for_what_they_rest_on(rt: HostRuntime) -> Result<(), CodecError> {
+    all_through_chains(&rt, rt.alloc(), OF_CHAINS)
 }

@@ -7,7 +7,6 @@ use crate::chunks::{BYTES, Chunk, TWO_BYTES, TWO_BYTES_WITH_LENGTH, chunk_of};
 use std::alloc::Global;
 use std::borrow::CowSlice;
 use std::process::Abort;
-use std::test::Fail;
 use zarrs_array_bytes::ArrayBytes;
 use zarrs_chunk::{ArraySubset, CodecError};
 use zarrs_codec::{MemoryHandle, SampleBytesCodec};
@@ -169,39 +168,53 @@ fn comes_back(rt: &impl Abort, alloc: Global, chunk: &Chunk) -> Result<(), Codec
     is_read(rt, "back", &back, &[7, 9, 9, 4])
 }
 
-#[test]
-fn windows_are_read(rt: HostRuntime) -> Result<(), Fail> {
-    let alloc = rt.alloc();
-    let chunk = chunk_of(alloc, COLUMNS)?;
-    reads_window(&rt, alloc, &chunk)?;
-    agrees(&rt, alloc, &chunk)?;
-    Ok(())
+fn windows(rt: &impl Abort, alloc: Global, chunk: &Chunk) -> Result<(), CodecError> {
+    reads_window(rt, alloc, chunk)?;
+    agrees(rt, alloc, chunk)
 }
 
 #[test]
-fn chunks_are_cached(rt: HostRuntime) -> Result<(), Fail> {
-    let alloc = rt.alloc();
-    let chunk = chunk_of(alloc, TWO_BYTES)?;
+fn windows_are_read(rt: HostRuntime) -> Result<(), CodecError> {
+    let chunk = chunk_of(rt.alloc(), COLUMNS)?;
+    windows(&rt, rt.alloc(), &chunk)
+}
+
+fn caches_two(rt: &impl Abort, alloc: Global, chunk: &Chunk) -> Result<(), CodecError> {
     let values = two_values(alloc)?;
-    caches(&rt, alloc, &chunk, &values)?;
-    Ok(())
+    caches(rt, alloc, chunk, &values)
 }
 
 #[test]
-fn bytes_are_encoded_as_deltas(rt: HostRuntime) -> Result<(), Fail> {
-    let alloc = rt.alloc();
-    let chunk = chunk_of(alloc, BYTES)?;
+fn chunks_are_cached(rt: HostRuntime) -> Result<(), CodecError> {
+    let chunk = chunk_of(rt.alloc(), TWO_BYTES)?;
+    caches_two(&rt, rt.alloc(), &chunk)
+}
+
+/// The deltas, by a chain that is made by itself.
+fn deltas_by_chain(rt: &impl Abort, alloc: Global, chunk: &Chunk) -> Result<(), CodecError> {
     let chain = delta_chain(alloc, None)?;
-    deltas(&rt, alloc, &chain, &chunk)?;
-    comes_back(&rt, alloc, &chunk)?;
-    Ok(())
+    deltas(rt, alloc, &chain, chunk)
+}
+
+fn goes_and_comes(rt: &impl Abort, alloc: Global, chunk: &Chunk) -> Result<(), CodecError> {
+    deltas_by_chain(rt, alloc, chunk)?;
+    comes_back(rt, alloc, chunk)
 }
 
 #[test]
-fn values_are_converted(rt: HostRuntime) -> Result<(), Fail> {
-    let alloc = rt.alloc();
-    let from = chunk_of(alloc, TWO_BYTES)?;
+fn bytes_are_encoded_as_deltas(rt: HostRuntime) -> Result<(), CodecError> {
+    let chunk = chunk_of(rt.alloc(), BYTES)?;
+    goes_and_comes(&rt, rt.alloc(), &chunk)
+}
+
+/// Two bytes to another chain.
+fn converts(rt: &impl Abort, alloc: Global, from: &Chunk) -> Result<(), CodecError> {
     let to = chunk_of(alloc, TWO_BYTES_WITH_LENGTH)?;
-    keeps(&rt, alloc, &from, &to)?;
-    Ok(())
+    keeps(rt, alloc, from, &to)
+}
+
+#[test]
+fn values_are_converted(rt: HostRuntime) -> Result<(), CodecError> {
+    let from = chunk_of(rt.alloc(), TWO_BYTES)?;
+    converts(&rt, rt.alloc(), &from)
 }
