@@ -26,8 +26,6 @@ mod many_reads;
 mod names;
 mod one_write_handle;
 mod part_reads;
-#[cfg(test)]
-mod part_tests;
 mod part_writes;
 mod plan;
 mod planned_ranges;
@@ -36,18 +34,12 @@ mod read_many;
 mod read_pieces;
 mod reencode;
 mod representation;
-#[cfg(test)]
-mod round_tests;
 mod rounds;
 mod selection;
 mod sizes;
 mod tell;
 mod tell_many;
-#[cfg(test)]
-mod tests;
 mod write;
-#[cfg(test)]
-mod write_tests;
 mod written;
 
 pub use check::zarrs_check;

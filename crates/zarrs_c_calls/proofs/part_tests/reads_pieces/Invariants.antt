@@ -1,5 +1,0 @@
-use Rattle.std.proofs.Common.{[]}
-use Rattle.zarrs_c_calls.proofs.part_tests.reads_pieces.Given as goal
-
-abbrev pub ghost-zarrs_read_pieces : goal.ghost-zarrs_read_pieces
-ghost-zarrs_read_pieces g a = []
