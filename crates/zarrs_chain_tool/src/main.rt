@@ -1,22 +1,25 @@
 //! Encodes, decodes, re-encodes, reads and writes one chunk, by commands on the standard input.
 //!
 //! The first line is the header, a JSON object with the chunk's `shape`, `data_type`, `fill_value`
-//! and `codecs`. Each line after it is a command, which one line answers. The argument `--help` asks
-//! what the program takes, and `--version` which version it is.
+//! and `codecs`. Each line after it is a command, which one line answers. As the first argument
+//! `--help` asks what the program takes, and `--version` which version it is; all other arguments are
+//! passed over.
 #![tactic(auto)]
 
+use std::io;
 use std::io::{BufReader, BufWriter};
 use std::process::ExitCode;
 use std::rt::Env;
-use std::{env, io};
 use zarrs_tool_lines::arguments::{HELP, Request, VERSION, request_of};
 use zarrs_tool_lines::run::{RunEnd, run};
 use zarrs_tool_lines::streams::{StreamReader, StreamWriter};
 
-/// What the arguments behind the program's name ask for.
-fn request<R: Env + AllocGlobal>(rt: &R) -> io::Result<Request> {
-    let words: Vec<String> = env::args(rt)?.skip(1).collect(rt.alloc())?;
-    Ok(request_of(&words))
+/// What the first argument behind the program's name asks for. One that has no room here is longer
+/// than each that asks for something, and is as none.
+fn request<R: Env>(rt: &R) -> Request {
+    let mut word = [0u8; 16];
+    let len = rt.arg(1, &mut word).unwrap_or(0);
+    request_of(&word[..len])
 }
 
 /// Answers the lines of the standard input, and returns how that ended.
@@ -41,16 +44,12 @@ fn print_text<R: Print>(rt: &R, text: &str) -> io::Result<ExitCode> {
     Ok(ExitCode::SUCCESS)
 }
 
-/// Does what the arguments ask for.
+/// Does what the first argument asks for.
 fn answer<R: Env + Input + Print + Eprint + AllocGlobal>(rt: &R) -> io::Result<ExitCode> {
-    match request(rt)? {
+    match request(rt) {
         Request::Lines => answer_lines(rt),
         Request::Help => print_text(rt, HELP),
         Request::Version => print_text(rt, VERSION),
-        Request::Unknown => {
-            eprintln!(rt; "zarrs_chain_tool takes no argument but --help or --version")?;
-            Ok(ExitCode::from(2))
-        }
     }
 }
 

@@ -1,18 +1,12 @@
--- What the tool's arguments ask for.
-use Rattle.std.specs.Prelude.{ℕ, List, [], ◌∷◌, codes, if◌then◌else◌}
+-- What the tool's first argument asks for.
+use Rattle.std.specs.Prelude.{ℕ, List, codes, if◌then◌else◌}
 use Rattle.std.specs.Str.{bytes_eq}
 use Rattle.zarrs_tool_lines.specs.declared.arguments.Request.{Request}
-use Rattle.zarrs_tool_lines.specs.declared.arguments.Request.TheVariants.{Lines, Help, Version, Unknown}
+use Rattle.zarrs_tool_lines.specs.declared.arguments.Request.TheVariants.{Lines, Help, Version}
 
--- what one argument asks for
-abbrev pub request_named : List ℕ → Request
-request_named word =
+-- what this word asks for as the first argument: the help, the version, or that the lines are answered, as where there is none
+abbrev pub request_of : List ℕ → Request
+request_of word =
     if bytes_eq word (codes "--help") then Help
     else if bytes_eq word (codes "--version") then Version
-    else Unknown
-
--- what the arguments behind the program's name ask for: with none the lines are answered, and there is one at most
-abbrev pub request_of : List (List ℕ) → Request
-request_of [] = Lines
-request_of (word ∷ []) = request_named word
-request_of (word ∷ other ∷ words) = Unknown
+    else Lines

@@ -1,6 +1,6 @@
-//! What the tool's arguments ask for, and what it prints about itself.
-ghost use Rattle.std.specs.Prelude.{◌≡◌, map, string_bytes};
-ghost use Rattle.zarrs_tool_lines.specs.Arguments.{request_named, request_of as request_of_words};
+//! What the tool's first argument asks for, and what it prints about itself.
+ghost use Rattle.std.specs.Prelude.{◌≡◌};
+ghost use Rattle.zarrs_tool_lines.specs.Arguments.{request_of as request_of_word};
 
 /// The answer to `--version`, a line.
 pub const VERSION: &'static str = "zarrs_chain_tool 0.1.0\n";
@@ -32,13 +32,13 @@ An answer is ok and JSON, ok none where nothing is stored, or error and its name
         'encode ["0a","0b"]' 'value' | zarrs_chain_tool
 
 prints ok "0a0b" and ok none. The exit status is 0 at the end, 1 where reading or writing failed,
-and 2 after a bad header or an argument that isn't one of these:
+and 2 after a bad header. Arguments are passed over, but for one of these as the first:
 
     --help       shows this
     --version    shows the version
 "#;
 
-/// What the tool's arguments ask for.
+/// What the tool's first argument asks for.
 #[derive(Clone, Copy, Debug, PartialEq, Eq)]
 pub enum Request {
     /// The lines of the standard input are to be answered.
@@ -47,27 +47,17 @@ pub enum Request {
     Help,
     /// The version is to be printed.
     Version,
-    /// The arguments ask for nothing that the tool has.
-    Unknown,
 }
 
-fn request_by_name(word: &str) -> Request
-    ensures value { result ≡ request_named word.now }
+/// What the first argument behind the program's name asks for. Where there is none, it is empty.
+pub fn request_of(word: &[u8]) -> Request
+    ensures value { result ≡ request_of_word word.now }
 {
-    match word {
-        "--help" => Request::Help,
-        "--version" => Request::Version,
-        _ => Request::Unknown,
-    }
-}
-
-/// What the arguments behind the program's name ask for: lines to be answered where there is none.
-pub fn request_of(arguments: &[String]) -> Request
-    ensures value { result ≡ request_of_words (map string_bytes arguments.now) }
-{
-    match arguments {
-        [] => Request::Lines,
-        [word] => request_by_name(word.as_str()),
-        _ => Request::Unknown,
+    if word == b"--help".as_slice() {
+        Request::Help
+    } else if word == b"--version".as_slice() {
+        Request::Version
+    } else {
+        Request::Lines
     }
 }
