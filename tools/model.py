@@ -1082,7 +1082,7 @@ def runs_of(text):
     """The runs of a transcript: what is sent, the answers that have to come, and how the run has to end."""
     for part in text.split("\n\n"):
         sent, wanted, end = "", [], 0
-        for line in part.splitlines():
+        for line in part.split("\n"):
             if line.startswith(">| "):
                 sent += line[3:]
             elif line.startswith(">"):
@@ -1099,7 +1099,7 @@ def play(folder):
     """Prints where the transcripts of a folder differ, and how many runs there are: whether there was one, and none differs."""
     count, differing = 0, 0
     for path in sorted(pathlib.Path(folder).glob("*.txt")):
-        for sent, *wanted in runs_of(path.read_text()):
+        for sent, *wanted in runs_of(path.read_bytes().decode()):
             count += 1
             came = [*answers_to(sent.encode())]
             if came != wanted:

@@ -2,7 +2,8 @@
 //! in the folder that the program is run in.
 //!
 //! A transcript is a file NAME.txt that reads like a page of a manual: lines that are sent, and below
-//! each the line that has to come back. How its lines begin:
+//! each the line that has to come back. Its lines end in LF, and a CR is a byte of its line, as for the
+//! tool. How they begin:
 //!
 //! - `> ` sends what stands behind it, `>` alone an empty line, and `>| ` a last line that has no end.
 //! - `#` is a remark.

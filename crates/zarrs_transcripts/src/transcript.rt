@@ -1,6 +1,6 @@
 //! A transcript's runs: what is sent, what has to come back, and what does.
 use std::alloc::{AllocError, Global};
-use std::str::Lines;
+use std::str::Split;
 use zarrs_tool_lines::run::{RunEnd, run};
 use zarrs_tool_lines::streams::{StreamReader, StreamWriter};
 
@@ -111,7 +111,7 @@ impl<'t> Script<'t> {
 /// What the lines of a run say, the first of which is the file's line of this number.
 fn read_script(alloc: Global, first: usize, lines: &str) -> Result<Script<'_>, AllocError> {
     let mut script = Script::new(alloc);
-    for (index, line) in lines.lines().enumerate() {
+    for (index, line) in lines.split('\n').enumerate() {
         script.read_line(first.saturating_add(index), line)?;
     }
     Ok(script)
@@ -146,7 +146,7 @@ fn play(alloc: Global, input: &str) -> Result<Reply, AllocError> {
 
 impl<'t> Exchange<'t> {
     /// What came back: the next answer, or nothing for an empty line.
-    fn answer<'r>(&self, answers: &mut Lines<'r>) -> &'r str {
+    fn answer<'r>(&self, answers: &mut Split<'r, char>) -> &'r str {
         if self.sent.is_empty() {
             ""
         } else {
@@ -158,7 +158,7 @@ impl<'t> Exchange<'t> {
 /// The first line that was answered otherwise than wanted, and what came back to it.
 fn first_other<'t, 'r>(
     exchanges: &[Exchange<'t>],
-    answers: &mut Lines<'r>,
+    answers: &mut Split<'r, char>,
 ) -> Option<(Exchange<'t>, &'r str)> {
     for exchange in exchanges {
         let came = exchange.answer(answers);
@@ -213,7 +213,7 @@ fn check_run(
 ) -> Result<Option<Difference<'_>>, AllocError> {
     let script = read_script(alloc, first, lines)?;
     let reply = play(alloc, script.input.as_str())?;
-    let mut answers = reply.answers.lines();
+    let mut answers = reply.answers.split('\n');
     if let Some((exchange, came)) = first_other(&script.exchanges, &mut answers) {
         return compare(alloc, &exchange, exchange.wanted, came);
     }
@@ -233,7 +233,7 @@ pub fn first_difference(
             return Ok(found);
         }
         number = lines
-            .lines()
+            .split('\n')
             .count()
             .saturating_add(1)
             .saturating_add(number);
