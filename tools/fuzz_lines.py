@@ -24,7 +24,7 @@ JUNK = (None, True, False, 0, 1, 2, 7, -1, -2, 2**32, 2**63, 2**64 - 1, "", "x",
 ODD = ("0.5", "1e3", "1.0", "-0", "18446744073709551616", "-9223372036854775809", "NaN", "01", "1e999", '"\\ud800"', '"\\u0041"', "[1,]", "nul")
 LINES = (
     b"", b" ", b"sing", b"value ", b"Value", b"decode []", b"erase x", b"encode", b"read", b"write {}", b"load", b"load \"0\"", b"load \"0G\"",
-    b"load \"AB\" ", b"load  \"cd\"", b"load \"00\" 1", b"value\r", b"\xff", b"load \"\xc3\x28\"", b"load \"\xed\xa0\x80\"", b"reencode",
+    b"load \"AB\" ", b"load  \"cd\"", b"load \"00\" 1", b"value\r", b"\r", b"\xff", b"load \"\xc3\x28\"", b"load \"\xed\xa0\x80\"", b"reencode",
     b"reencode []", b"reencode {}", b"load \"00", b"read {}", b"read {\"places\":[]}", b"encode null", b"\tvalue", b"load\t\"00\"", b"load \"00\"\t\r",
     b"load \"\\u0030\\u0030\"", b"encode " + b"[" * 130 + b"]" * 130, b"encode " + b"[" * 127 + b"]" * 127, b"load [1.5]", b"load 1e400", b"\x00",
     b"\xef\xbb\xbfvalue", b"read {\"ranges\":[[0,1]],\"ranges\":[]}", b"write {\"at\":{\"indices\":[]},\"data\":[],\"data\":[]}",

@@ -1059,7 +1059,7 @@ def text_of(line):
 
 def answers_to(sent):
     """The answers to all that is sent, and the exit status."""
-    lines = [line for line in (it.removesuffix(b"\r") for it in sent.split(b"\n")) if line]
+    lines = [line for line in sent.split(b"\n") if line]
     if not lines:
         return [], 0
     try:

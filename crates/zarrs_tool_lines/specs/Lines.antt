@@ -1,6 +1,5 @@
 -- The lines of an input.
-use Rattle.std.specs.Prelude.{ℕ, ◌<◌, Bool, true, false, List, [], ◌∷◌, ◌==◌, if◌then◌else◌, filter, map, ◌≡◌, Option, Some, IfSome, MatchBool, Vec, Result, IfOk}
-use Rattle.std.specs.Io.BufRead.{strip_last}
+use Rattle.std.specs.Prelude.{ℕ, ◌<◌, Bool, true, false, List, [], ◌∷◌, ◌==◌, if◌then◌else◌, filter, ◌≡◌, Option, Some, IfSome, MatchBool, Vec, Result, IfOk}
 use Rattle.std.specs.declared.alloc.Global.{Global}
 
 -- a byte at the front of the first line
@@ -18,9 +17,9 @@ abbrev pub line_is_filled : List ℕ → Bool
 line_is_filled [] = false
 line_is_filled (b ∷ bs) = true
 
--- the lines that aren't empty, each without the byte 13 at its end, if it has one
+-- the lines that aren't empty
 abbrev pub filled_lines : List ℕ → List (List ℕ)
-filled_lines input = filter line_is_filled (map (strip_last 13) (lines_of input))
+filled_lines input = filter line_is_filled (lines_of input)
 
 -- ---- reading, by the bytes that the reader had and has left, where those are known
 

@@ -6,18 +6,17 @@ ghost use Rattle.zarrs_tool_lines.specs.Lines.{LeavesFewer, TakesNext, filled_li
 ghost use Rattle.zarrs_tool_lines.specs.Run.{output_line, refusal_line, Outputs};
 
 use crate::run::StreamFault;
-use crate::streams::{ReadLines, WriteLines, drop_last};
+use crate::streams::{ReadLines, WriteLines};
 use std::io;
 use zarrs_json::Refusal;
 
-/// Reads lines until one isn't empty without the CR at its end, or answers `false` where none is left.
+/// Reads lines until one isn't empty, or answers `false` where none is left.
 fn read_filled_line<R: ReadLines>(reader: &mut R, line: &mut Vec<u8>) -> io::Result<bool>
     ensures next { TakesNext filled_lines R.remaining reader.old reader.new line.new result }
     ensures fewer { LeavesFewer R.lines_left reader.old reader.new result }
     ensures counted { R.faults reader.new ≡ count_if (is_err result) (R.faults reader.old) }
 {
     'lines: while reader.next_line(line)? {
-        drop_last(line, b'\r');
         if !line.is_empty() {
             return Ok(true);
         }

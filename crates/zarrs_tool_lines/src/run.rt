@@ -126,7 +126,7 @@ fn run_and_flush<R: ReadLines, W: WriteLines>(
 }
 
 /// Answers the lines of a reader up to its end, or its header alone where that is bad. Lines end in
-/// LF or CR LF, which the last one may lack; empty ones are passed over. The first of the others is the
+/// LF alone, which the last one may lack; empty ones are passed over. The first of the others is the
 /// header, and each one after it is a command that has one answer line. The writer is flushed in
 /// every ending. The run ends as a fault exactly where a stream failed in it, the flush included: the
 /// reader's, where both did.

@@ -60,12 +60,12 @@ pub trait WriteLines {
         ensures counted { faults self.new ≡ count_if (is_err result) (faults self.old) };
 }
 
-/// Drops a line's last byte, where it is this one.
-pub(crate) fn drop_last(line: &mut Vec<u8>, byte: u8)
-    ensures written { line.new.items ≡ strip_last byte line.old.items }
+/// Drops the LF that ends a line, if one does.
+fn drop_end(line: &mut Vec<u8>)
+    ensures written { line.new.items ≡ strip_last 10 line.old.items }
 {
     let len = line.len();
-    if len > 0 && line[len - 1] == byte {
+    if len > 0 && line[len - 1] == b'\n' {
         line.truncate(len - 1);
     }
 }
@@ -78,7 +78,7 @@ fn read_line<R: BufRead>(reader: &mut R, line: &mut Vec<u8>) -> io::Result<bool>
     if reader.read_until(b'\n', line)? == 0 {
         return Ok(false);
     }
-    drop_last(line, b'\n');
+    drop_end(line);
     Ok(true)
 }
 

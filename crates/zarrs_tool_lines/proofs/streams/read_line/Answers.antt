@@ -12,4 +12,4 @@ read (Some xs) after empty held line none got rest some is =
     (drop_through 10 xs, rest, lines-step xs (take_through_nonempty 10 xs (omega (arith, some, ap length whole))) ∙ ap (λ l. l ∷ lines_of (drop_through 10 xs)) (sym (is ∙ ap (strip_last 10) whole)))
 
 pub returns : goal.returns
-returns g c = record { next = read (g.R.Read.remaining c.args.reader.now) (g.R.Read.remaining c.read_until.new.self) c.clear.new.self.items c.read_until.new.buf.items c.drop_last.new.line.items c.clear.ensures.items c.in_ok-read_until.ensures.bytes c.in_ok-read_until.ensures.rest (omega (arith, c.if-branch-eq0.false, c.in_ok-read_until.ensures.ok, c.read_until.new.buf.ok.0)) c.drop_last.ensures.written }
+returns g c = record { next = read (g.R.Read.remaining c.args.reader.now) (g.R.Read.remaining c.read_until.new.self) c.clear.new.self.items c.read_until.new.buf.items c.drop_end.new.line.items c.clear.ensures.items c.in_ok-read_until.ensures.bytes c.in_ok-read_until.ensures.rest (omega (arith, c.if-branch-eq0.false, c.in_ok-read_until.ensures.ok, c.read_until.new.buf.ok.0)) c.drop_end.ensures.written }
