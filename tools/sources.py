@@ -1,6 +1,6 @@
 """Reads the sources of the crates for the scripts beside it, once in a run: crates.txt; specs/ and proofs/, item by item, with
-their lines, remarks and imports; code, with its functions, their comments and the clauses of their contracts; and the items that
-a text cites. A script ends by `run`, so that tools/check can call it too.
+their lines, remarks and imports; code, with its functions, their comments and the clauses of their contracts; the items that a
+text cites; and the edits that have to fail. A script ends by `run`, so that tools/check can call it too.
 """
 import functools
 import pathlib
@@ -21,6 +21,7 @@ FUNCTION = re.compile(r"( *)(pub(?:\([^)]*\))? )?(?:(?:const|final|unsafe|extern
 CLAUSE = re.compile(r"\s*(requires|ensures)\b")
 LABELLED = re.compile(r"\s*(?:requires|ensures)\b[ \t]*(\w*)\s*\{[\s(]*([^\s(){}\[\],;|]+)?")
 MEMBER = re.compile(r"    ghost (\w+: |Value = )\{")
+TOGETHER = "must-fail-together"
 BLOCK = re.compile(r"(pub trait|impl [\w:]+\s+for|impl)\s+(?:&\s*)?(?:mut )?(\w+)")
 
 # -- The crates and their files --------------------------------------------------------------------------------------
@@ -352,6 +353,47 @@ def code(crate):
 
 
 # -- The run of a script ---------------------------------------------------------------------------------------------
+
+
+# -- Edits that have to fail -----------------------------------------------------------------------------------------
+
+
+class Edit:
+    """An edit of a crate: pairs of an old and a new text, each for a file; and, where it is tried together with others, the goal
+    that the prover has to leave open."""
+
+    def __init__(self, path):
+        self.path, self.name, self.folder = path, path.stem, path.parent.parent
+        self.is_together, self.pairs, self.goal = path.parent.name == TOGETHER, [], None
+        file, old = "", ""
+        for line in path.read_text().split("\n"):
+            word, _, rest = line.partition(":")
+            rest = rest.removeprefix(" ")
+            if word == "file":
+                file = rest.strip()
+            elif word == "old":
+                old = rest
+            elif word == "new":
+                self.pairs.append((file, old, rest))
+            elif word == "goal":
+                self.goal = rest.strip()
+
+    def applied(self, texts):
+        """The files' texts with this edit, over those of others, and the first old text that doesn't stand once there."""
+        texts = dict(texts)
+        for file, old, new in self.pairs:
+            path = self.folder / file
+            text = texts.get(file) or (text_of(path) if path.is_file() else "")
+            if not old or text.count(old) != 1:
+                return texts, f"{text.count(old) if old else 0} times in {file or 'no file'}: {old}"
+            texts[file] = text.replace(old, new)
+        return texts, None
+
+
+@functools.cache
+def edits(crate):
+    """The edits of a crate: those that rt ci tries one by one, and those that are tried together."""
+    return [Edit(path) for folder in ("must-fail", TOGETHER) for path in sorted((CRATES / crate / folder).glob("*.edit"))]
 
 
 def tell(lines):
