@@ -26,7 +26,8 @@ class Step(NamedTuple):
 
     def points(self, box: Box) -> tuple[Any, ...]:
         """The elements' places on each axis of the array, to be broadcast."""
-        inside, found = iter(self.inside), []
+        inside = iter(self.inside)
+        found: list[Any] = []
         for entry in self.place:
             if entry is None:
                 next(inside)

@@ -19,7 +19,7 @@ from ._bytes_codecs import hint, split
 from ._data_types import DataType
 from ._data_types import data_type as data_type_of
 from ._data_types import zarrs_own
-from ._elements import empty, given, held, put, spread, takes, told, told_into, told_many
+from ._elements import empty, given, held, put, shape_of, spread, takes, told, told_into, told_many
 from ._files import PART_BYTES, File, Source
 from ._header import Header, copied, json_of
 from ._library import SHORT, EditSize, checked, library
@@ -314,8 +314,8 @@ class Chain:
         >>> Chain(["packbits"], (9,), "bool").encode([True] * 9)
         array([255,   1], dtype=uint8)
         """
-        if np.shape(array) != self.shape:
-            raise ValueError(f"an array of shape {np.shape(array)}, where {self.shape} is due")
+        if shape_of(array) != self.shape:
+            raise ValueError(f"an array of shape {shape_of(array)}, where {self.shape} is due")
         return self._encode(held(self._type, array))
 
     @_naming
