@@ -2,6 +2,7 @@
 
 import copy
 import json
+import threading
 from collections.abc import Iterator, MutableMapping
 from typing import Any
 
@@ -10,6 +11,10 @@ import numpy as np
 from ._metadata import metadata_of
 from ._stores import Folder
 from .refusals import InvalidMetadata
+
+
+# Held while a `zarr.json` is read and replaced, so that threads keep what others set.
+_TURN = threading.Lock()
 
 
 def bytes_of(metadata: dict[str, Any]) -> np.ndarray[Any, np.dtype[np.uint8]]:
@@ -25,8 +30,9 @@ class Attributes(MutableMapping[str, Any]):
     """Attributes by their names, in the `zarr.json` of an array.
 
     What is read is what the file said when it was read last. A name that is set or deleted is so in the file at
-    once, beside what others have written there meanwhile. A value that is changed itself isn't: values come out
-    as copies. Raises `InvalidMetadata` where a value has no JSON.
+    once, beside what others have written there meanwhile: threads take turns, and processes that set attributes of one
+    array at a time must, as for chunks. A value that is changed itself isn't: values come out as copies. Raises
+    `InvalidMetadata` where a value has no JSON.
     """
 
     def __init__(self, files: Folder, root: str, metadata: dict[str, Any]) -> None:
@@ -64,6 +70,10 @@ class Attributes(MutableMapping[str, Any]):
 
     def _replace(self, set_all: dict[str, Any] | None = None, without: str | None = None) -> None:
         self._files.check_written()
+        with _TURN:
+            self._replace_in_turn(set_all, without)
+
+    def _replace_in_turn(self, set_all: dict[str, Any] | None, without: str | None) -> None:
         metadata = metadata_of(self._files, self._root).said
         attributes = {**metadata.get("attributes", {}), **(set_all or {})}
         attributes.pop(without, None)

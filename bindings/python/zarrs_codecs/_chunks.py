@@ -19,6 +19,8 @@ from .chain import Chain
 from .refusals import InvalidBytesLength, Refused
 
 
+# So many times a file is read that is replaced meanwhile.
+_MOST_TRIES = 4
 # A chunk of so many bytes is read at once, where all of it is needed or its reads aren't planned.
 _SMALL = 1 << 16
 
@@ -120,18 +122,26 @@ class Chunks:
         return found
 
     def read(self, chunk: Shape, selection: Any, out: AnyArray | None = None) -> Any:
-        """The elements of a selection of a chunk, in `out` where it is given; None where no file is there."""
+        """The elements of a selection of a chunk, in `out` where it is given; None where no file is there. Of one that was
+        replaced while it was read it is read anew."""
         path = self.path(chunk)
-        try:
-            source = self._files.open(path)
-        except FileNotFoundError:
-            self.check_folder()
-            return None
-        try:
-            with _naming(path):
-                return self._read(path, source, selection, out)
-        finally:
-            source.close()
+        for _ in range(_MOST_TRIES):
+            try:
+                source = self._files.open(path)
+            except FileNotFoundError:
+                self.check_folder()
+                return None
+            try:
+                with _naming(path):
+                    found = self._read(path, source, selection, out)
+                if source.is_same():
+                    return found
+            except (Refused, EOFError):
+                if source.is_same(was_refused=True):
+                    raise
+            finally:
+                source.close()
+        raise OSError(f"the file was replaced each time that it was read, in {path}")
 
     def _read(self, path: str, source: Source, selection: Any, out: AnyArray | None) -> Any:
         """The same of the chunk's open file."""

@@ -39,6 +39,9 @@ def _descriptor(file: Any) -> int | None:
 class Source:
     """Where a value's bytes are."""
 
+    # from how many moments what was read of it is, where each call looks it up anew
+    parts = 0
+
     @property
     def part_bytes(self) -> int | None:
         """How many bytes are fetched at a time, where a read needs more; None where all are."""
@@ -55,6 +58,11 @@ class Source:
     def state(self) -> State | None:
         """What it is, by which a later change is seen; None where one might not be."""
         return None
+
+    def is_same(self, was_refused: bool = False) -> bool:
+        """Whether all that was read is of one value, or may be so; of what was refused, whether it is still the one that
+        was begun with."""
+        return True
 
     def close(self) -> None:
         """Ends what was begun to read it."""
