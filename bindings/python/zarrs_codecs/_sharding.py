@@ -293,6 +293,37 @@ class ShardedChain(Chain):
             raise _refusal(InvalidByteRange, f"inner chunk {number} ends at {begin + size}, behind {length} bytes")
         return begin, begin + size
 
+    def _numbers(self, chosen: Selection) -> AnyArray:
+        """The numbers of the inner chunks with elements of a selection, in order."""
+        if isinstance(chosen, Rows):
+            grid = chosen.rows.astype(np.int64) // np.array(self._chunk_shape, np.int64)
+            each: AnyArray = np.ravel_multi_index(tuple(grid.T), self._grid) if self._grid else np.zeros(1, np.int64)
+            return np.unique(each)
+        numbers: AnyArray = np.zeros(1, np.int64)
+        for one, size, count in zip(chosen.on_axes, self._chunk_shape, self._grid, strict=True):
+            places = np.unique(np.arange(one.start, one.stop, one.step, dtype=np.int64) // size)
+            numbers = (numbers[:, np.newaxis] * count + places).ravel()
+        return numbers
+
+    def _ranges(self, entries: AnyArray, numbers: AnyArray, length: int) -> tuple[AnyArray, AnyArray]:
+        """The bytes of those of these inner chunks that are stored, rows of a start and an end, and which of the numbers'
+        entries are behind the end of a value of so many bytes."""
+        begins, sizes = entries[numbers].T
+        is_there = (begins != np.uint64(_ABSENT)) | (sizes != np.uint64(_ABSENT))
+        is_behind = is_there & ((sizes > length) | (begins > np.uint64(length) - np.minimum(sizes, np.uint64(length))))
+        is_right = is_there & ~is_behind
+        rows = np.column_stack((begins[is_right], begins[is_right] + sizes[is_right]))
+        return rows, is_behind
+
+    def _whole_ranges(self, fetched: Fetched, chosen: Selection) -> AnyArray:
+        """The bytes of all inner chunks with elements of a selection, in the order of their first ones, of a value whose
+        index was fetched."""
+        entries = self._entries(fetched.there(*self._index_range(fetched.length)))
+        rows, _ = self._ranges(entries, self._numbers(chosen), fetched.length)
+        rows = rows[rows[:, 0] < rows[:, 1]]
+        in_order: AnyArray = rows[np.argsort(rows[:, 0], kind="stable")]
+        return in_order
+
     def _stored(self, value: Any) -> list[Any]:
         """The stored bytes of each inner chunk of a value, None of those that aren't there."""
         view = memoryview(value).cast("B")

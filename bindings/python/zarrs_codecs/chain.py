@@ -3,7 +3,6 @@
 import contextlib
 import copy
 import ctypes
-import itertools
 import math
 import reprlib
 from collections.abc import Callable, Iterable, Iterator, Sequence
@@ -19,9 +18,11 @@ from ._bytes_codecs import hint, split
 from ._data_types import DataType
 from ._data_types import data_type as data_type_of
 from ._data_types import zarrs_own
+from ._dense import is_dense, taken
 from ._elements import empty, given, held, put, shape_of, spread, takes, told, told_into, told_many
 from ._files import PART_BYTES, File, Source
 from ._header import Header, copied, json_of
+from ._lacking import lacking_in_round
 from ._library import SHORT, EditSize, checked, library
 from ._locating import OF_CODECS, OF_VALUES, locate, locate_stored
 from ._rounds import Fetched, at_hand, behind_transpositions, has_shards_inside, layout_of, told_ranges, with_whole_inside
@@ -42,13 +43,6 @@ _GAP_BYTES = 1 << 14
 _FEW_APART = 1 << 12
 # The numbers that a first try at a plan has room for.
 _PLAN_NUMBERS = 1 << 17
-# So many rounds fetch what they lack alone, and one more all that isn't there, of a shard the inner chunks that are
-# needed: each round reads again what those before it have read.
-_MOST_ROUNDS = 8
-# Behind so many the inner chunks of a shard are fetched whole that are needed.
-_FEW_ROUNDS = 2
-# Of so many ranges the library tells all, however short they are.
-_TOLD_AT_ONCE = 1 << 10
 # How many bytes a value has of which is asked what a read takes of it.
 _LONG = 1 << 40
 _REPRESENTATIONS = ("fixed", "bounded", "unbounded")
@@ -437,9 +431,20 @@ class Chain:
         """
         return self._read_inner(self._inner(value), selection, out)
 
+    def _read_dense(self, inner: Any, meant: Selection, out: AnyArray | None) -> AnyArray:
+        """The same of a value that is decoded whole."""
+        call, length = self._decoding(inner)
+        elements = taken(told(self._type, call, self.shape, length + 64), meant)
+        return put(elements if meant.after is None else elements[meant.after], out)
+
     def _read_inner(self, inner: Any, selection: Any, out: AnyArray | None = None) -> AnyArray:
         """The same of the library's value."""
-        chosen = self._near(select(selection, self.shape), is_at_hand=True)
+        meant = select(selection, self.shape)
+        if inner is not None and is_dense(self, meant, memoryview(inner).nbytes, is_at_hand=True):
+            # of what is refused so another part may be what is damaged
+            with contextlib.suppress(Refused):
+                return self._read_dense(inner, meant, out)
+        chosen = self._near(meant, is_at_hand=True)
         with self._saying_inner_chunk(at_hand(inner), selection, partial(self._read, inner)):
             if chosen.after is None:
                 return self._read(inner, chosen, out)
@@ -674,7 +679,14 @@ class Chain:
 
     def _read_in_rounds(self, fetched: Fetched, selection: Any, out: AnyArray | None) -> AnyArray:
         """The elements of a selection, by as many rounds as it takes, up to a number."""
-        chosen = self._near(select(selection, self.shape))
+        meant = select(selection, self.shape)
+        if is_dense(self, meant, fetched.length):
+            missing = fetched.missing()
+            if missing.size:
+                fetched.fetch(missing)
+            with contextlib.suppress(Refused):
+                return self._read_dense(fetched.there(0, fetched.length), meant, out)
+        chosen = self._near(meant)
         read = partial(self._read_round_by_round, fetched)
         with self._saying_inner_chunk(fetched, selection, read):
             elements = read(chosen)
@@ -688,7 +700,7 @@ class Chain:
             # the ranges of rows that stand together are one
             asked, back = asked.in_order(self._layout[0])
         while True:
-            lacking = self._lacking_in_round(rounds, fetched, asked)
+            lacking = lacking_in_round(self, rounds, fetched, asked)
             if lacking.size:
                 fetched.fetch(lacking)
             arguments = *fetched.arguments(), *asked.arguments()
@@ -709,6 +721,13 @@ class Chain:
         return None if codecs is None else self._said.text(json_of(codecs))
 
     @cached_property
+    def _finest(self) -> tuple[Shape, int] | None:
+        """The sizes of the innermost inner chunks and how many there are; None where these aren't known, or there are
+        none."""
+        sizes = layout_of(self._inner_list, len(self.shape), is_finest=True)[1] if self._whole_inside else None
+        return None if sizes is None else (sizes, math.prod(-(-one // size) for one, size in zip(self.shape, sizes)))
+
+    @cached_property
     def _cut(self) -> "tuple[tuple[int, ...], ShardedChain] | None":
         """The order of the axes behind transpositions, and the shard behind these as Python cuts it; None where there is
         another codec."""
@@ -723,43 +742,6 @@ class Chain:
     def _has_shards_inside(self) -> bool:
         """Whether a codec is a shard whose inner chunks are shards."""
         return has_shards_inside(self._inner_list)
-
-    @property
-    def _most_rounds(self) -> int:
-        """How many rounds fetch what they lack, before one that fetches the inner chunks that are needed, or all that isn't
-        there."""
-        return _MOST_ROUNDS if self._whole_inside is None or self._has_shards_inside else _FEW_ROUNDS
-
-    def _lacking_in_round(self, rounds: int, fetched: Fetched, chosen: Selection) -> npt.NDArray[np.uint64]:
-        """What a round fetches, behind so many: what the read lacks, of all inner chunks that it lacks something of."""
-        lacking = self._lacking(fetched.arguments(), chosen.arguments())
-        if not lacking.size:
-            return lacking
-        # what is refused so may be read by itself
-        with contextlib.suppress(Refused):
-            together = self._lacking_together(rounds, fetched, chosen)
-            if together is not None and together.size:
-                return together
-        return fetched.missing() if rounds >= self._most_rounds else lacking
-
-    def _lacking_together(
-        self, rounds: int, fetched: Fetched, chosen: Selection
-    ) -> npt.NDArray[np.uint64] | None:
-        """What the read lacks of all inner chunks at once; None where the library tells that by itself. It tells one inner
-        chunk after the other where these hold shards or texts, or so many short ranges are needed of them: then
-        what the shards inside are asked for, or what it lacks if inner chunks are read whole."""
-        if self._has_shards_inside and self._cut is not None and rounds < self._most_rounds:
-            from ._nested import lacking_inside
-
-            return lacking_inside(self._cut, chosen, fetched)
-        if self._whole_inside is None or self._type.is_plain and rounds < self._most_rounds:
-            return None
-        if rounds < self._most_rounds:
-            return self._lacking(fetched.arguments(), chosen.arguments(), self._whole_inside)
-        # over a thousand inner chunks of a few bytes each lack one after the other, so each part of them is asked for
-        parts = (part.arguments() for part in chosen.parts(_TOLD_AT_ONCE))
-        asked = [self._lacking(fetched.arguments(), part, self._whole_inside).tolist() for part in parts]
-        return fetched.without(np.array(sorted(itertools.chain(*asked)), np.uint64).reshape(-1, 2))
 
     def _lacking(
         self, given_pieces: tuple[Any, ...], numbers: tuple[Any, ...], header: bytes | None = None
