@@ -7,7 +7,7 @@ import pytest
 from samples import LITTLE, VLEN, RecordingFile, optional, same, same_masked, some_texts, transpose
 from test_sharding import sharded
 
-from zarrs_codecs import Chain, InvalidBytesLength, InvalidByteRange
+from zarrs_codecs import Chain, InvalidByteRange, InvalidBytesLength, Refused
 
 SIDE = 128
 SELECTIONS = [np.s_[:], np.s_[::3, ::-2], np.s_[1:, 5:-7], np.s_[:, 3], "points"]
@@ -89,3 +89,29 @@ def test_damage_elsewhere_and_there(rng):
     for read in (chain.read, lambda stored, index: chain.read_from(io.BytesIO(stored), index)):
         with pytest.raises((InvalidByteRange, InvalidBytesLength), match=f"inner chunk {SIDE * SIDE - 1}"):
             read(value, np.s_[:])
+
+
+@pytest.mark.parametrize("place", [-1, 3])
+def test_which_inner_chunk_is_damaged_is_found_soon(place, rng, monkeypatch):
+    """The last entry of an index of 16,384 is seen in the index, the first inner chunk by reads of ever smaller parts."""
+    array = rng.integers(1, 200, (SIDE, SIDE)).astype("u1")
+    chain = Chain(sharded([1, 1], ["bytes", "crc32c"]), array.shape, "uint8", 0)
+    value = chain.encode(array)
+    value[place] ^= 255
+    read_elements, read = [], Chain._read
+
+    def counted(self, inner, chosen, *more):
+        read_elements.append(np.prod(chosen.shape))
+        return read(self, inner, chosen, *more)
+
+    monkeypatch.setattr(Chain, "_read", counted)
+    calls = calls_of(monkeypatch)
+    named = f"inner chunk {0 if place == 3 else SIDE * SIDE - 1}\\b"
+    for refused in (chain.decode, lambda stored: chain.read(stored, ...), lambda stored: chain.read(stored, np.s_[:, ::-1])):
+        read_elements.clear()
+        with pytest.raises(Refused, match=named):
+            refused(value)
+        assert sum(read_elements) <= (3 if place == 3 else 1) * array.size
+    with pytest.raises(Refused, match=named):
+        chain.read_from(io.BytesIO(value), ...)
+    assert len(calls) <= 60

@@ -86,31 +86,34 @@ def array_chain(codecs: Any, shape: Sequence[int], data_type: Any, fill_value: A
 def say_inner_chunk(
     error: Refused, chain: Chain, fetched: Fetched, selection: Any, read: Callable[[Selection], Any]
 ) -> None:
-    """Puts into the library's refusal of a read which inner chunk it is of, where the value is a shard: Python reads a part
-    of the same, inner chunk by inner chunk. The library reads parts by the call that is given."""
+    """Puts into the library's refusal of a read which inner chunk it is of, where the value is a shard: Python looks at the
+    index, and then reads a part of the same, inner chunk by inner chunk. The library reads parts by the call that is
+    given."""
     try:
         if chain._cut is None:
             return
         order, parts = chain._cut
-        chosen = _narrowed(error, select(selection, chain.shape), read)
-        parts._read_fetched(fetched.anew(), chosen.moved(order), None)
+        chosen = select(selection, chain.shape)
+        if type(error) is InvalidByteRange:
+            parts._check_index(fetched.anew(), chosen.moved(order))
+        parts._read_fetched(fetched.anew(), _narrowed(error, chosen, read).moved(order), None)
     except Refused as found:
         if type(found) is type(error):
             error.args, error.codec, error.inner = found.args, (len(chain._inner_list) - 1, NAME), found.inner
 
 
 def _narrowed(error: Refused, chosen: Selection, read: Callable[[Selection], Any]) -> Selection:
-    """A part of a selection whose read is refused alike, found by halves: one of few elements, where there is one."""
+    """A part of a selection whose read is refused alike, found by halves: one of few elements, where there is one. The last
+    half is the one where the others aren't refused."""
     while (count := math.prod(chosen.shape)) > _FEW_ELEMENTS:
-        for part in chosen.parts(-(-count // 2)):
+        *others, chosen = chosen.parts(-(-count // 2))
+        for part in others:
             try:
                 read(part)
             except Refused as found:
                 if type(found) is type(error):
                     chosen = part
                     break
-        else:
-            break
     return chosen
 
 
@@ -305,9 +308,16 @@ class ShardedChain(Chain):
             numbers = (numbers[:, np.newaxis] * count + places).ravel()
         return numbers
 
+    def _check_index(self, fetched: Fetched, chosen: Selection) -> None:
+        """Raises the refusal of the first entry of an inner chunk with elements of a selection that is behind the value."""
+        numbers, length = self._numbers(chosen), fetched.length
+        entries = self._entries(fetched.index(*self._index_range(length)))
+        for place in np.flatnonzero(self._ranges(entries, numbers, length)[1])[:1]:
+            self._range(entries, int(numbers[place]), length)
+
     def _ranges(self, entries: AnyArray, numbers: AnyArray, length: int) -> tuple[AnyArray, AnyArray]:
-        """The bytes of those of these inner chunks that are stored, rows of a start and an end, and which of the numbers'
-        entries are behind the end of a value of so many bytes."""
+        """The bytes of those of these inner chunks that are stored, rows of a start and an end, and which of all are behind
+        the end of a value of so many bytes."""
         begins, sizes = entries[numbers].T
         is_there = (begins != np.uint64(_ABSENT)) | (sizes != np.uint64(_ABSENT))
         is_behind = is_there & ((sizes > length) | (begins > np.uint64(length) - np.minimum(sizes, np.uint64(length))))
