@@ -5,6 +5,7 @@ import importlib.util
 import json
 import pickle
 import threading
+import zlib
 import time
 
 import numpy as np
@@ -127,14 +128,14 @@ class Opened:
 
     def __init__(self, monkeypatch):
         self.count, self._lock = 0, threading.Lock()
-        decompress = gzip.decompress
+        opened = zlib.decompressobj
 
-        def counted(value):
+        def counted(bits):
             with self._lock:
                 self.count += 1
-            return decompress(value)
+            return opened(bits)
 
-        monkeypatch.setattr(gzip, "decompress", counted)
+        monkeypatch.setattr(zlib, "decompressobj", counted)
 
 
 def settled(monkeypatch):

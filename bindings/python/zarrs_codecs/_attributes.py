@@ -17,10 +17,11 @@ from .refusals import InvalidMetadata
 _TURN = threading.Lock()
 
 
-def bytes_of(metadata: dict[str, Any]) -> np.ndarray[Any, np.dtype[np.uint8]]:
-    """The bytes of a `zarr.json`. Raises `InvalidMetadata` where there is no JSON of it."""
+def bytes_of(metadata: dict[str, Any], has_nan: bool = False) -> np.ndarray[Any, np.dtype[np.uint8]]:
+    """The bytes of a `zarr.json`, in which NaN and infinite numbers are where others have written them. Raises
+    `InvalidMetadata` where there is no JSON of it."""
     try:
-        text = json.dumps(metadata, indent=2, allow_nan=False)
+        text = json.dumps(metadata, indent=2, allow_nan=has_nan)
     except (TypeError, ValueError, RecursionError) as error:
         raise InvalidMetadata(f"what zarr.json would say has no JSON: {error}") from error
     return np.frombuffer(text.encode(), np.uint8)
@@ -80,6 +81,7 @@ class Attributes(MutableMapping[str, Any]):
         for name in attributes:
             if not isinstance(name, str):
                 raise InvalidMetadata(f"an attribute is named by {name!r}, which is no text")
-        whole = bytes_of({**metadata, "attributes": attributes})
+        bytes_of(set_all or {})
+        whole = bytes_of({**metadata, "attributes": attributes}, has_nan=True)
         self._files.replace(f"{self._root}zarr.json", whole)
         self._metadata["attributes"] = json.loads(whole.tobytes())["attributes"]

@@ -1,6 +1,7 @@
 """The files of an array's chunks."""
 
 import contextlib
+import threading
 from collections.abc import Callable, Iterable, Iterator
 from concurrent.futures import ThreadPoolExecutor
 from pathlib import Path
@@ -80,19 +81,34 @@ class Chunks:
         return self._root + self._keys.key(chunk)
 
     def each(self, call: Callable[..., None], parts: Iterable[tuple[Any, ...]]) -> None:
-        """Calls with the arguments of each part, each of another chunk. The first exception is raised, when all
-        calls that were begun have ended."""
+        """Calls with the arguments of each part, each of another chunk. The exception of the first part that has one is
+        raised, when all calls that were begun have ended."""
         if self._threads == 1:
             one_by_one(call, parts)
             return
+        turn, numbered = threading.Lock(), enumerate(parts)
+        failed: list[tuple[int, BaseException]] = []
+
+        def work() -> None:
+            while not failed:
+                with turn:
+                    number, arguments = next(numbered, (-1, None))
+                if arguments is None:
+                    return
+                try:
+                    call(*arguments)
+                except BaseException as error:
+                    failed.append((number, error))
+
         with ThreadPoolExecutor(self._threads) as pool:
-            begun = [pool.submit(call, *arguments) for arguments in parts]
+            workers = [pool.submit(work) for _ in range(self._threads)]
             try:
-                for one in begun:
+                for one in workers:
                     one.result()
-            except BaseException:
-                pool.shutdown(cancel_futures=True)
-                raise
+            except BaseException as error:
+                failed.append((-1, error))
+        if failed:
+            raise min(failed, key=lambda one: one[0])[1]
 
     def check_folder(self) -> None:
         """Raises `FileNotFoundError` where the array isn't there any more."""

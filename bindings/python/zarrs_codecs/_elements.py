@@ -17,7 +17,7 @@ from ._library import SHORT, Sizes, checked
 from ._pythons import as_objects, is_pythons, plain
 from ._texts import joined, parted
 from ._types import AnyArray
-from .refusals import InvalidElement, InvalidText
+from .refusals import InvalidElement, InvalidText, OutOfMemory
 
 _ma: Any = np.ma  # numpy says no types of it
 _NONE: tuple[Any, int] = (None, 0)
@@ -193,9 +193,9 @@ def given(kind: DataType, array: AnyArray) -> tuple[Any, ...]:
     return *masks, start(offsets), offsets.size, *lent(whole)
 
 
-def _told_texts(kind: DataType, call: Callable[..., Any], masks: tuple[Any, ...], count: int, room: int) -> AnyArray:
-    """The texts that a call tells, whose bytes are as many as `room` or not."""
-    offsets, whole, sizes = np.empty(count + 1, np.uint64), np.empty(room, np.uint8), Sizes()
+def _told_texts(kind: DataType, call: Callable[..., Any], masks: tuple[Any, ...], count: int, size: int) -> AnyArray:
+    """The texts that a call tells, whose bytes are as many as `size` or not."""
+    offsets, whole, sizes = room((count + 1,), np.dtype(np.uint64)), np.empty(size, np.uint8), Sizes()
     code = call(*masks, start(offsets), offsets.size, start(whole), whole.size, byref(sizes))
     if code == SHORT:
         whole = np.empty(sizes.bytes, np.uint8)
@@ -209,19 +209,32 @@ def told_into(array: AnyArray, call: Callable[..., Any]) -> None:
     checked(call(None, 0, None, 0, start(array), array.nbytes, byref(Sizes())))
 
 
-def told(kind: DataType, call: Callable[..., Any], shape: tuple[int, ...], room: int = 0) -> AnyArray:
+def room(shape: tuple[int, ...], dtype: np.dtype[Any]) -> AnyArray:
+    """An array whose elements are still to be written. Raises `OutOfMemory` where there is none of this size, and numpy's
+    `ValueError` of more axes than it has."""
+    try:
+        return np.empty(shape, dtype)
+    except (MemoryError, OverflowError) as error:
+        raise OutOfMemory(str(error)) from error
+    except ValueError as error:
+        if math.prod(max(size, 1) for size in shape) * max(dtype.itemsize, 1) < 1 << 63:
+            raise
+        raise OutOfMemory(str(error)) from error
+
+
+def told(kind: DataType, call: Callable[..., Any], shape: tuple[int, ...], size: int = 0) -> AnyArray:
     """The elements that a call tells, which takes three buffers and their sizes last."""
     if kind.is_plain:
-        array = np.empty(shape, kind.dtype)
+        array = room(shape, kind.dtype)
         told_into(array, call)
         return array
     count = math.prod(shape)
-    present = np.empty(count if kind.is_optional else 0, bool)
+    present = room((count if kind.is_optional else 0,), np.dtype(bool))
     masks = (start(present), present.size)
     if kind.is_variable:
-        array = _told_texts(kind, call, masks, count, room).reshape(shape)
+        array = _told_texts(kind, call, masks, count, size).reshape(shape)
     else:
-        array = np.empty(shape, kind.dtype)
+        array = room(shape, kind.dtype)
         checked(call(*masks, None, 0, start(array), array.nbytes, byref(Sizes())))
     if not kind.is_optional:
         return array
@@ -261,7 +274,7 @@ def empty(kind: DataType, shape: tuple[int, ...]) -> AnyArray:
     """An array of such elements, whose values are still to be written; absent ones, over blanks, where the
     type is an optional one."""
     if not kind.is_optional:
-        return np.empty(shape, kind.dtype)
+        return room(shape, kind.dtype)
     return masked(np.full(shape, _blank(kind, kind.dtype), kind.dtype), True)
 
 

@@ -28,6 +28,7 @@ from .refusals import (
     InvalidFillValue,
     NotInPlace,
     Refused,
+    Syntax,
     ZeroSize,
 )
 
@@ -61,13 +62,21 @@ def is_sharded(codecs: Sequence[Any]) -> bool:
 
 
 def has_pythons(codecs: Any) -> bool:
-    """Whether these codecs are `sharding_indexed` alone, and its inner chunks have codecs that Python runs."""
+    """Whether these codecs are `sharding_indexed` alone, and its inner chunks have codecs that Python runs. Raises `Syntax`
+    where they are nested too deeply."""
+    try:
+        return _has_pythons(codecs)
+    except RecursionError as error:
+        raise Syntax("codecs are nested too deeply") from error
+
+
+def _has_pythons(codecs: Any) -> bool:
     if not isinstance(codecs, (list, tuple)) or not is_sharded(codecs):
         return False
     said = codecs[0].get("configuration")
     inner = said.get("codecs") if isinstance(said, dict) else None
     try:
-        return isinstance(inner, (list, tuple)) and (bool(split(list(inner))[1]) or has_pythons(inner))
+        return isinstance(inner, (list, tuple)) and (bool(split(list(inner))[1]) or _has_pythons(inner))
     except Refused:
         # one of them, with a key that is wrong
         return True

@@ -3,6 +3,7 @@
 import io
 import os
 import re
+import reprlib
 import time
 from collections.abc import Iterator
 from contextlib import closing, contextmanager
@@ -13,7 +14,7 @@ from typing import Any
 import numpy as np
 
 from ._cache import State
-from ._files import File, Source, joined, replace
+from ._files import File, Source, bytes_of, counted, joined, opened, replace
 from ._types import AnyArray, listed
 
 # Words of `info` that tell of a change, in whatever case: tags, of which each value has its own, and times.
@@ -32,11 +33,11 @@ class Folder:
 
     def open(self, path: str) -> Source:
         """The value of a file. Raises `FileNotFoundError`."""
-        return _Own(os.open(path, os.O_RDONLY | os.O_CLOEXEC))
+        return _Own(opened(path))
 
     def read(self, path: str) -> bytes:
         """All bytes of a file. Raises `FileNotFoundError`."""
-        with open(path, "rb") as file:
+        with open(opened(path), "rb") as file:
             return file.read()
 
     def check(self, path: str) -> None:
@@ -67,8 +68,7 @@ class Store(Folder):
 
     def read(self, path: str) -> bytes:
         with _named(path), closing(self._store.open(path)) as file:
-            found: bytes = file.read()
-            return found
+            return bytes(bytes_of(file.read()))
 
     def check(self, path: str) -> None:
         self.open(path).close()
@@ -143,7 +143,7 @@ class _Ranged(Source):
         return None
 
     def length(self) -> int:
-        return int(self._info["size"])
+        return counted(self._info["size"])
 
     def state(self) -> State | None:
         times = [_moment(value) for name, value in self._info.items() if _TIME.search(name) and value]
@@ -168,9 +168,11 @@ class _Ranged(Source):
         self.parts += 1
         begins, ends = (listed(column) for column in joined(ranges).T)
         parts = self._store.cat_ranges([self._path] * len(begins), begins, ends)
+        if not isinstance(parts, (list, tuple)) or len(parts) != len(begins):
+            raise OSError(f"a store answered {reprlib.repr(parts)}, where {len(begins)} parts are due")
         for part, begin, end in zip(parts, begins, ends, strict=True):
             if isinstance(part, BaseException):
                 raise part
-            if len(part) != end - begin:
+            if len(bytes_of(part, end - begin)) < end - begin:
                 raise EOFError("the file ended while it was read")
         return np.frombuffer(bytearray().join(parts), np.uint8)

@@ -16,7 +16,7 @@ from ._chunks import Chunks, Each, one_by_one
 from ._data_types import data_type as data_type_of
 from ._data_types import zarrs_own
 from ._elements import empty, held, spread
-from ._files import replace
+from ._files import UNFINISHED, replace
 from ._fill_values import fill_json
 from ._indexing import Outer, Points, Step, is_list
 from ._metadata import made, metadata_of, parsed, usual_codecs
@@ -172,7 +172,7 @@ class Array:
         whole = bytes_of(metadata)
         parsed(metadata)
         os.makedirs(folder, exist_ok=True)
-        if any(os.scandir(folder)):
+        if not all(UNFINISHED.fullmatch(entry.name) for entry in os.scandir(folder)):
             raise FileExistsError(f"{os.fspath(folder)} isn't empty")
         replace(os.path.join(os.path.abspath(folder), "zarr.json"), whole)
         return cls(folder, cache=cache, threads=threads)
@@ -277,6 +277,9 @@ class Array:
         return Path(self._chunks.path(chunk))
 
     def _parts(self, on_axes: list[range]) -> Iterator[Part]:
+        """The parts of a basic index, one of each chunk that has some of it."""
+        if not all(on_axes):
+            return
         touched = [_on_axis(on_axis, size) for on_axis, size in zip(on_axes, self.chunks)]
         for each in itertools.product(*touched):
             numbers, inside, there = zip(*each) if each else ((), (), ())

@@ -14,7 +14,7 @@ import numpy.typing as npt
 from numpy.typing import ArrayLike
 
 from ._buffers import counted, lent, overlaps, start
-from ._bytes_codecs import hint, split
+from ._bytes_codecs import hint, most_of_each, split
 from ._data_types import DataType
 from ._data_types import data_type as data_type_of
 from ._data_types import zarrs_own
@@ -274,11 +274,16 @@ class Chain:
             stored = self._run(number, "decode", stored)
         return stored
 
+    @cached_property
+    def _most(self) -> list[int | None]:
+        """How many bytes each of the codecs that Python runs opens to at most."""
+        return most_of_each(self._outer, self.representation.size)
+
     def _run(self, number: int, way: str, value: Any) -> Bytes:
         """What one of the codecs that Python runs makes of a value; a refusal says that it is this one's."""
         codec = self._outer[number]
         try:
-            return codec.decode(value) if way == "decode" else codec.encode(value)
+            return codec.decode(value, self._most[number]) if way == "decode" else codec.encode(value)
         except Refused as error:
             error.codec = len(self._inner_list) + number, codec.name
             raise
@@ -334,8 +339,11 @@ class Chain:
         """
         inner = self._inner(value)
         call, length = self._decoding(inner)
+        kind, size = self.representation
+        # for a value of another length than is due, which is refused, no memory is taken
+        shape = self.shape if kind != "fixed" or length == size else (0,)
         with self._saying_inner_chunk(at_hand(inner), ..., partial(self._read, inner)):
-            return self._told(call, self.shape, inner, length, out)
+            return self._told(call, shape, inner, length, out)
 
     def _decoding(self, inner: Any) -> tuple[Callable[..., int], int]:
         """C's call that decodes the library's value, and how many bytes that has."""
