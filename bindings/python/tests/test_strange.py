@@ -146,11 +146,11 @@ class Answering(io.BytesIO):
 class Reading:
     """The same with `read` alone."""
 
-    def __init__(self, answer):
-        self.answer = answer
+    def __init__(self, answer, end=72):
+        self.answer, self.end = answer, end
 
     def seek(self, place, whence=0):
-        return 72 if whence else place
+        return self.end if whence else place
 
     def read(self, count=-1):
         return self.answer(count)
@@ -174,7 +174,7 @@ def test_a_file_that_reads_strange_things(answer, array):
 
     class Store(Opening):
         def open(self, path):
-            return Reading(answer) if path.endswith("0/0") else super().open(path)
+            return Reading(answer, 124) if path.endswith("0/0") else super().open(path)
 
     lent = Array("bucket/a", store=Store(files_of(array.folder)))
     with pytest.raises(OSError, match="in bucket/a/c/0/0"):
