@@ -1,0 +1,36 @@
+"""Which program a seed makes."""
+
+import random
+
+import array_programs
+import damage_programs
+import list_programs
+import whole_programs
+
+# Each program, and how often it comes.
+PROGRAMS = {
+    "whole": (whole_programs.whole, 10),
+    "parts": (whole_programs.parts, 20),
+    "writes": (whole_programs.writes, 15),
+    "lists": (list_programs.lists, 4),
+    "mixed": (list_programs.mixed, 4),
+    "wrong-elements": (list_programs.wrong_elements, 4),
+    "arrays": (array_programs.arrays, 20),
+    "created": (array_programs.created, 4),
+    "threads": (array_programs.threads, 4),
+    "wrong-indices": (array_programs.wrong_indices, 8),
+    "damaged": (damage_programs.damaged, 15),
+    "broken-files": (damage_programs.broken_files, 5),
+}
+
+
+def chosen_of(names):
+    """The call that chooses the program of a seed, among those of these names, or all."""
+    among = {name: PROGRAMS[name] for name in names or PROGRAMS}
+
+    def chosen(seed):
+        # by another source than the program's own choices
+        name = random.Random(f"program {seed}").choices(list(among), [weight for _, weight in among.values()])[0]
+        return name, among[name][0]
+
+    return chosen
