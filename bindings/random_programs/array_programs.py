@@ -7,7 +7,7 @@ import numpy as np
 from built import Built, metadata_of
 from forms import some_form
 from formats import same
-from indices import is_wrong, outer_of, some_basic, some_outer, some_points, some_with_list, some_wrong
+from indices import is_wrong, outer_of, some_basic, some_mask, some_outer, some_points, some_with_list, some_wrong
 from judge import OF_INDICES, check, refusing, require
 from kinds import fill_json, full, some_chunk
 from zarrs_codecs import Array
@@ -32,7 +32,7 @@ class Access:
             self.lens, self.index = "oindex", some_outer(draws, shape)
             self.numpys, self.form = outer_of(self.index, shape)
         else:
-            self.index = self.numpys = np.array([bool(draws.below(2)) for _ in range(int(np.prod(shape)))], bool).reshape(shape)
+            self.index = self.numpys = some_mask(draws, shape)
             if len(shape) == 1 and draws.chance(2):
                 self.index = self.index.tolist()
 

@@ -89,7 +89,7 @@ class Built:
         """The elements of a chunk."""
         return self.stored.get(numbers) or full(self.kind, self.chunks, self.fill)
 
-    def _places(self, numbers):
+    def places(self, numbers):
         """Where a chunk is in the array, and what of it is."""
         there = tuple(slice(n * part, min((n + 1) * part, size)) for n, part, size in zip(numbers, self.chunks, self.shape))
         return there, tuple(slice(0, one.stop - one.start) for one in there)
@@ -98,14 +98,14 @@ class Built:
         """All elements."""
         whole = full(self.kind, self.shape, self.fill)
         for numbers in self.grid():
-            there, inside = self._places(numbers)
+            there, inside = self.places(numbers)
             whole.put((*there, ...), self.chunk(numbers).at((*inside, ...)))
         return whole
 
     def write(self, whole, wanted):
         """Takes over elements that were written at places."""
         for numbers in self.grid():
-            there, inside = self._places(numbers)
+            there, inside = self.places(numbers)
             if wanted[there].any():
                 chunk = self.chunk(numbers).copy()
                 chunk.put((*inside, ...), whole.at((*there, ...)))

@@ -159,3 +159,21 @@ def edits_in_place(codecs):
     """Whether a value is edited where it stands: array-to-array codecs and `bytes` alone."""
     before, codec, behind = parted(codecs)
     return not behind and named(codec)[0] == "bytes" and all(named(one)[0] in TO_ARRAY for one in before)
+
+
+class Loose:
+    """Has shards encoded as another writer may: inner chunks in any order, with gaps between them."""
+
+    def __init__(self, draws):
+        self._draws = draws
+
+    def __call__(self, value, what):
+        return value
+
+    def order(self, numbers):
+        """The numbers of inner chunks, as they are stored."""
+        return self._draws.order(numbers)
+
+    def gap(self):
+        """Bytes that are of no inner chunk."""
+        return bytes(self._draws.below(3))

@@ -95,7 +95,7 @@ def run(program, seed, given, room):
         label = line[1:] if line[:1] == "F" else label
     if os.WIFSIGNALED(status):
         label = f"ended by {signal.Signals(os.WTERMSIG(status)).name}"
-        text = [f"{SECONDS} processor seconds are over" if "XCPU" in label or "KILL" in label else label]
+        text = [f"{used.ru_utime + used.ru_stime:.1f} processor seconds are over" if "XCPU" in label or "KILL" in label else label]
     choices = made(kept)
     return Ended(label, "\n".join(text), choices, [line[1:] for line in lines if line[:1] == "L"], used.ru_utime + used.ru_stime)
 

@@ -270,20 +270,22 @@ def index_length(keys, shape):
 
 
 def sharding_encoded(keys, chunk, fill, touch):
-    inner, parts, index = tuple(keys["chunk_shape"]), [], []
-    at = index_length(keys, chunk.shape) if keys.get("index_location") == "start" else 0
-    for place in _inner_places(chunk.shape, inner):
-        part = chunk.at((*place, ...))
-        if same(part, full(chunk.kind, inner, fill)):
-            index.append((ABSENT, ABSENT))
-            continue
-        parts.append(encoded(keys["codecs"], part, fill, touch))
-        index.append((at, len(parts[-1])))
-        at += len(parts[-1])
+    inner, is_start = tuple(keys["chunk_shape"]), keys.get("index_location") == "start"
+    places = [*_inner_places(chunk.shape, inner)]
+    index, joined = [(ABSENT, ABSENT)] * len(places), b""
+    before = index_length(keys, chunk.shape) if is_start else 0
+    # a writer may store them in any order, and leave gaps
+    for number in getattr(touch, "order", list)(range(len(places))):
+        part = chunk.at((*places[number], ...))
+        if not same(part, full(chunk.kind, inner, fill)):
+            joined += getattr(touch, "gap", bytes)()
+            value = encoded(keys["codecs"], part, fill, touch)
+            index[number] = before + len(joined), len(value)
+            joined += value
     numbers = np.array(index, "<u8").reshape(_index_shape(chunk.shape, inner))
     numbers = np.frombuffer(touch(numbers.tobytes(), "numbers of an index"), "<u8").reshape(numbers.shape)
     stored = encoded(keys["index_codecs"], Chunk(UINT64, numbers), zero(UINT64), touch)
-    return b"".join([stored, *parts] if keys.get("index_location") == "start" else [*parts, stored])
+    return stored + joined if is_start else joined + stored
 
 
 def index_of(keys, value, shape):

@@ -1,5 +1,7 @@
 """Random indices of numpy's kinds, right and wrong."""
 
+import math
+
 import numpy as np
 
 
@@ -53,11 +55,18 @@ def some_rows(draws, shape):
     return (array % np.array(shape)).astype(np.uint64) if draws.chance(3) else rows, numpys
 
 
+def some_mask(draws, shape):
+    """A mask of an axis, or of all."""
+    count = math.prod(shape)
+    if count > 100:
+        return draws.numbers().integers(0, 2, shape) == 1
+    return np.array([bool(draws.below(2)) for _ in range(count)], bool).reshape(shape)
+
+
 def some_list(draws, size):
     """Places on an axis in a list, in an array, or by a mask."""
     if draws.chance(3):
-        mask = [bool(draws.below(2)) for _ in range(size)]
-        return np.array(mask, bool)
+        return some_mask(draws, (size,))
     count = draws.below(6) if size else 0
     places = [draws.between(-size, size - 1) for _ in range(count)]
     if draws.chance(2):

@@ -166,18 +166,11 @@ def _texts(rng, kind, count):
     return data
 
 
-def tame(rng, kind, count):
-    """Elements that Python's own numbers have just so."""
-    if kind.dtype.kind in "fc":
-        return rng.integers(-100, 100, count).astype(kind.dtype)
-    return _texts(rng, kind, count) if kind.is_variable else _fixed(rng, kind, count)
-
-
-def some_chunk(draws, kind, shape, fill=None, is_tame=False):
+def some_chunk(draws, kind, shape, fill=None):
     """A chunk of random elements, some of which are fill values."""
     rng, count = draws.numbers(), math.prod(shape)
     make = _texts if kind.is_variable else _fixed
-    data = (tame if is_tame else make)(rng, kind, count)
+    data = make(rng, kind, count)
     absent = rng.integers(0, 3, count) == 0 if kind.is_optional else None
     if absent is not None and draws.chance(4):
         absent[...] = draws.chance(2)

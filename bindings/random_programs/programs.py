@@ -3,8 +3,10 @@
 import random
 
 import array_programs
+import bounded_programs
 import damage_programs
 import list_programs
+import store_programs
 import whole_programs
 
 # Each program, and how often it comes.
@@ -19,6 +21,17 @@ PROGRAMS = {
     "created": (array_programs.created, 4),
     "threads": (array_programs.threads, 4),
     "wrong-indices": (array_programs.wrong_indices, 8),
+    "stores": (store_programs.stores, 10),
+    "broken-stores": (store_programs.broken_stores, 5),
+    "replaced": (store_programs.replaced, 8),
+    "young": (store_programs.young, 4),
+    "attributes": (store_programs.attributes, 3),
+    "empties": (bounded_programs.empties, 3),
+    "steps": (bounded_programs.steps, 2),
+    "damaged-shards": (bounded_programs.damaged_shards, 2),
+    "long-lists": (bounded_programs.long_lists, 2),
+    "sizes": (bounded_programs.sizes, 2),
+    "bombs": (bounded_programs.bombs, 2),
     "damaged": (damage_programs.damaged, 15),
     "broken-files": (damage_programs.broken_files, 5),
 }

@@ -3,7 +3,7 @@
 import json
 
 import numpy as np
-from chains import edits_in_place, names_in, some_codecs
+from chains import Loose, edits_in_place, names_in, some_codecs
 from files import CountingFile
 from forms import some_form
 from formats import decoded, encoded
@@ -26,7 +26,7 @@ def some_shape(draws, most=6):
 class Made:
     """A chain of the package's, what it is of, and a value of it that the formats give."""
 
-    def __init__(self, draws, say, is_tame=False, pythons=True):
+    def __init__(self, draws, say, pythons=True, is_loose=False):
         self.draws, self.say = draws, say
         self.kind = some_kind(draws)
         self.shape = some_shape(draws)
@@ -36,8 +36,8 @@ class Made:
         said = (self.codecs, self.shape, self.kind.name, self.json)
         say(f"chain = Chain({self.codecs!r}, {self.shape}, {self.kind.name!r}, {self.json!r})")
         self.chain = Chain(*json.loads(json.dumps(said)))
-        self.chunk = some_chunk(draws, self.kind, self.shape, self.fill, is_tame)
-        self.value = encoded(self.codecs, self.chunk, self.fill)
+        self.chunk = some_chunk(draws, self.kind, self.shape, self.fill)
+        self.value = encoded(self.codecs, self.chunk, self.fill, *[Loose(draws)] * is_loose)
         # as it is kept
         self.kept = decoded(self.codecs, self.value, self.kind, self.shape, self.fill)
 
@@ -92,7 +92,7 @@ def whole(draws, say, room):
 
 def parts(draws, say, room):
     """Reads of parts agree with the whole, however they are made."""
-    made = Made(draws, say)
+    made = Made(draws, say, is_loose=draws.chance(3))
     indices = [some_index(made) for _ in range(draws.between(1, 3))]
     for index, numpys in indices:
         due = made.kept.at(numpys)
