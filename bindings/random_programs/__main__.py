@@ -7,6 +7,7 @@ bindings/random --seed S             of the seeds from S on
 bindings/random --show SEED          runs one program, made no smaller, and prints its lines
 bindings/random --only NAME,..       programs of these names alone
 bindings/random --most F             ends where F programs have failed: 5 where nothing is said, 0 for never
+bindings/random --tries T            makes a program that fails smaller by T tries at most; 400 where nothing is said
 bindings/random --package FOLDER     the package in this folder, and not the one beside this script
 
 A program makes chains, values, arrays or stores at random, by its seed, and holds what the package does to numpy and to
@@ -33,6 +34,7 @@ def _asked():
     parser.add_argument("--show", type=int)
     parser.add_argument("--only", default="")
     parser.add_argument("--most", type=int, default=5)
+    parser.add_argument("--tries", type=int, default=400)
     parser.add_argument("--package", default=str(pathlib.Path(__file__).resolve().parent.parent / "python"))
     return parser.parse_args()
 
@@ -48,11 +50,11 @@ def main():
         sys.exit(f"bindings/random: {unknown[0]} is none of the programs {', '.join(programs.PROGRAMS)}")
     chosen = programs.chosen_of(names)
     if asked.show is not None:
-        counts = driver.run_all(chosen, [asked.show], 1, is_small=False, is_shown=True)
+        counts = driver.run_all(chosen, [asked.show], 1, 0, is_shown=True)
         return 1 if counts.failed else 0
     until = None if asked.minutes is None else time.time() + 60 * asked.minutes
     count = asked.programs or (2000 if until is None else 1 << 62)
-    counts = driver.run_all(chosen, range(asked.seed, asked.seed + count), asked.most, until=until)
+    counts = driver.run_all(chosen, range(asked.seed, asked.seed + count), asked.most, asked.tries, until=until)
     last = asked.seed + sum(counts.programs.values()) - 1
     print(f"seeds {asked.seed} to {last}: {counts.line()}")
     return 1 if counts.failed else 0

@@ -199,7 +199,7 @@ def _gzip_bomb(draws, megabytes):
 def bombs(draws, say, room):
     """A compressed value that opens to more than is due is refused before it is opened whole."""
     name = draws.one_of(["gzip", "zstd", "blosc"] if HAS_NUMCODECS else ["gzip"])
-    megabytes = draws.one_of([128, 256])
+    megabytes = draws.one_of([96, 128])
     if name == "gzip":
         value, codec = _gzip_bomb(draws, megabytes), {"name": "gzip", "configuration": {"level": 1}}
     else:

@@ -150,11 +150,6 @@ def names_in(codecs):
                 yield from names_in(inner)
 
 
-def is_lossless(codecs):
-    """Whether each element is kept with all its bits."""
-    return all(not isinstance(codec, dict) or "first_bit" not in (codec.get("configuration") or {}) for codec in codecs)
-
-
 def edits_in_place(codecs):
     """Whether a value is edited where it stands: array-to-array codecs and `bytes` alone."""
     before, codec, behind = parted(codecs)

@@ -18,8 +18,8 @@ from draws import Draws, made, smaller
 
 # Processor seconds of a program, and how much memory it may take more than there is when it begins.
 SECONDS, ROOM = 20, 3 << 29
-# So many tries make a failing program smaller, within so many processor seconds.
-TRIES, TRYING = 400, 20
+# Within so many processor seconds a failing program is made smaller.
+TRYING = 20
 _CHOICES = 1 << 16
 
 
@@ -100,14 +100,14 @@ def run(program, seed, given, room):
     return Ended(label, "\n".join(text), choices, [line[1:] for line in lines if line[:1] == "L"], used.ru_utime + used.ru_stime)
 
 
-def made_small(program, ended, room):
-    """The smallest program that fails in the same way, of those that are tried."""
+def made_small(program, ended, room, most):
+    """The smallest program that fails in the same way, of those that are tried, so many at most."""
     tries, seconds = 0, 0.0
     found = True
     while found:
         found = False
         for choices in smaller(ended.choices):
-            if tries == TRIES or seconds > TRYING:
+            if tries >= most or seconds > TRYING:
                 return ended
             tries += 1
             came = run(program, 0, choices, room)
@@ -138,8 +138,8 @@ class Counts:
         return f"{sum(self.programs.values())} programs, {len(self.failed)} fail, {sum(self.seconds.values()):.0f} processor seconds: {each}"
 
 
-def run_all(chosen, seeds, most, is_small=True, until=None, is_shown=False):
-    """Runs the program of each seed, up to as many that fail, or until a time."""
+def run_all(chosen, seeds, most, tries, until=None, is_shown=False):
+    """Runs the program of each seed, up to as many that fail, or until a time; one that fails is made smaller."""
     counts = Counts({}, {}, [])
     began = time.time()
     at = "/dev/shm" if os.access("/dev/shm", os.W_OK) else None
@@ -155,8 +155,7 @@ def run_all(chosen, seeds, most, is_small=True, until=None, is_shown=False):
                 print(told(name, seed, ended))
             if not ended.is_well:
                 counts.failed.append(seed)
-                if is_small:
-                    ended = made_small(program, ended, room)
+                ended = made_small(program, ended, room, tries)
                 print(told(name, seed, ended), flush=True)
                 if len(counts.failed) == most:
                     break

@@ -153,6 +153,6 @@ def _is_wrong_entry(entry, size):
         return True
     try:
         np.empty(size, np.uint8)[entry]
-    except (IndexError, TypeError, ValueError):
+    except (IndexError, TypeError, ValueError, OverflowError):
         return True
     return False

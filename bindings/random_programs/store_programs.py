@@ -9,7 +9,7 @@ from typing import Any
 import numpy as np
 from array_programs import Access
 from built import Built, metadata_of
-from chains import LITTLE, Loose, some_codecs
+from chains import LITTLE, Loose, names_in, some_codecs
 from formats import decoded, encoded, same
 from judge import as_chunk, attempt, check, require, told
 from kinds import PLAIN, TEXT, fill_json, some_chunk
@@ -68,14 +68,20 @@ def _check_fetches(built, store, access):
         if wanted[built.places(numbers)[0]].any():
             path = f"a/{built.path(numbers).relative_to(built.folder)}"
             allowed[path] = len(store.objects.found[path][0]) if path in store.objects.found else 0
-    fetched = {}
-    for path, begin, end in store.fetches:
-        fetched[path] = fetched.get(path, 0) + end - begin
-    for path, count in fetched.items():
-        if path.endswith("zarr.json"):
-            continue
+    for path in {path for path, *_ in store.fetches}:
         require(path in allowed, f"{path} is fetched, and has no element of the answer")
+        fetched = [one for one in store.fetches if one[0] == path]
+        count, rounds = sum(end - begin for _, begin, end, _ in fetched), len({one[-1] for one in fetched})
         require(count <= allowed[path], f"{count} bytes of {path} are fetched, which has {allowed[path]}")
+        require(rounds <= _most_rounds(built.codecs), f"{rounds} requests are made of {path}")
+
+
+def _most_rounds(codecs):
+    """In how many rounds a chunk is read at most: an index and elements, or offsets before them, and one for each level of shards
+    in shards; where these stand behind a change of axes, eight and a last one."""
+    names = [*names_in(codecs)]
+    levels = names.count("sharding_indexed")
+    return 9 if levels > 1 and {"reshape", "zarrs.squeeze"} & {*names} else 3 + max(levels - 1, 0)
 
 
 def broken_stores(draws, say, room):
@@ -107,9 +113,9 @@ class Versions:
     values: list
 
 
-def _versions(draws, say, count):
+def _versions(draws, say, count, may_be_long):
     """Some contents of one chunk, mostly a shard that is read in rounds: a long one, or one that Python cuts."""
-    is_long = draws.chance(2)
+    is_long = may_be_long and draws.chance(2)
     kind = draws.one_of(PLAIN[:8] if is_long else [*PLAIN[:8], TEXT])
     sizes = draws.one_of([(1 << 17,), (512, 256)]) if is_long else tuple(draws.one_of([4, 8, 16]) for _ in range(draws.between(1, 2)))
     fill = some_chunk(draws, kind, ())
@@ -145,7 +151,7 @@ def _chunk_path(versions):
 
 def replaced(draws, say, room):
     """A chunk that is replaced as a whole while it is read is answered as it was or as it is, or refused."""
-    versions = _versions(draws, say, 3)
+    versions = _versions(draws, say, 3, True)
     objects, path = _stored(versions, 1_600_000_000), _chunk_path(versions)
     tells = draws.one_of([name for name in TELLS if name not in OF_SECONDS and name != "nothing"])
     store = Ranged(objects, tells) if draws.below(5) else Opening(objects)
@@ -171,7 +177,7 @@ def replaced(draws, say, room):
 
 def young(draws, say, room):
     """Of a store that tells times in whole seconds a chunk that was written just before isn't kept."""
-    versions = _versions(draws, say, 3)
+    versions = _versions(draws, say, 3, False)
     objects, path = _stored(versions), _chunk_path(versions)
     tells = draws.one_of(OF_SECONDS)
     say(f"info tells {tells}")

@@ -91,7 +91,7 @@ class Ranged(Opening):
         found = []
         for path, begin, end in zip(paths, starts, ends):
             value = self.objects.get(path)[0]
-            self.fetches.append((path, begin, end))
+            self.fetches.append((path, begin, end, self.requests))
             self.asked += end - begin
             found.append(value[begin:end])
         if self.requests == self._raises:
