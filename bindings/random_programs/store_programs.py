@@ -10,7 +10,7 @@ import numpy as np
 from array_programs import Access
 from built import Built, metadata_of
 from chains import LITTLE, Loose, names_in, some_codecs
-from formats import decoded, encoded, same
+from formats import decoded, encoded, same, untouched
 from judge import as_chunk, attempt, check, require, told
 from kinds import PLAIN, TEXT, fill_json, some_chunk
 from stores import OF_SECONDS, TELLS, Objects, Opening, Raised, Ranged
@@ -114,7 +114,8 @@ class Versions:
 
 
 def _versions(draws, say, count, may_be_long):
-    """Some contents of one chunk, mostly a shard that is read in rounds: a long one, or one that Python cuts."""
+    """Some contents of one chunk, mostly a shard that is read in rounds: a long one, whose inner chunks stand elsewhere each time,
+    or one that Python cuts. Where none may be long, values are of one length, mostly."""
     is_long = may_be_long and draws.chance(2)
     kind = draws.one_of(PLAIN[:8] if is_long else [*PLAIN[:8], TEXT])
     sizes = draws.one_of([(1 << 17,), (512, 256)]) if is_long else tuple(draws.one_of([4, 8, 16]) for _ in range(draws.between(1, 2)))
@@ -122,7 +123,8 @@ def _versions(draws, say, count, may_be_long):
     codecs = _sharded(draws, kind, sizes, is_long) if is_long or draws.below(4) else some_codecs(draws, kind, sizes)
     metadata = metadata_of(sizes, sizes, kind.name, fill_json(kind, fill), codecs, {"name": "default"})
     say(f"zarr.json: {json.dumps(metadata)}")
-    values = [encoded(codecs, some_chunk(draws, kind, sizes, fill), fill, Loose(draws)) for _ in range(count)]
+    others = (fill, Loose(draws)) if may_be_long else (None, untouched)
+    values = [encoded(codecs, some_chunk(draws, kind, sizes, others[0]), fill, others[1]) for _ in range(count)]
     return Versions(kind, metadata, [decoded(codecs, value, kind, sizes, fill) for value in values], values)
 
 
