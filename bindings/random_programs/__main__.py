@@ -24,6 +24,7 @@ import time
 for _name in ("OPENBLAS_NUM_THREADS", "OMP_NUM_THREADS"):
     os.environ[_name] = "1"
 sys.dont_write_bytecode = True
+BINDINGS = pathlib.Path(__file__).resolve().parent.parent
 
 
 def _asked():
@@ -35,12 +36,13 @@ def _asked():
     parser.add_argument("--only", default="")
     parser.add_argument("--most", type=int, default=5)
     parser.add_argument("--tries", type=int, default=400)
-    parser.add_argument("--package", default=str(pathlib.Path(__file__).resolve().parent.parent / "python"))
+    parser.add_argument("--package", default=str(BINDINGS / "python"))
     return parser.parse_args()
 
 
 def main():
     asked = _asked()
+    os.environ.setdefault("ZARRS_CODECS_LIBRARY", str(BINDINGS / "out/libzarrs_codecs.so"))
     sys.path.insert(0, asked.package)
     import driver
     import programs

@@ -5,7 +5,7 @@ import threading
 
 import numpy as np
 from built import Built, metadata_of
-from forms import some_form
+from forms import some_array, some_form
 from formats import same
 from indices import is_wrong, outer_of, some_basic, some_mask, some_outer, some_points, some_with_list, some_wrong
 from judge import OF_INDICES, check, refusing, require
@@ -145,6 +145,38 @@ def threads(draws, say, room):
         raise failed[0]
 
 
+def writers(draws, say, room):
+    """Threads that write chunks of their own through one array lose nothing of each other's."""
+    built = Built(draws, say, room / "array")
+    array, grid = Array(built.folder, **_settings(draws)), [*built.grid()]
+    news = {numbers: some_chunk(draws, built.kind, built.region(numbers), built.fill) for numbers in grid}
+    say(f"three threads write {len(grid)} chunks")
+    due, failed = built.whole(), []
+    for numbers in grid:
+        due.put((*built.places(numbers)[0], ...), news[numbers])
+    built.write(due, np.ones(built.shape, bool))
+    # as it is kept
+    due = built.whole()
+
+    def write(first):
+        try:
+            for numbers in grid[first::3]:
+                there, _ = built.places(numbers)
+                array[(*there, ...)] = some_array(news[numbers])
+                check(built.kind, array[(*there, ...)], due.at((*there, ...)), f"chunk {numbers} behind its write")
+        except BaseException as error:
+            failed.append(error)
+
+    begun = [threading.Thread(target=write, args=(n,)) for n in range(3)]
+    for one in begun:
+        one.start()
+    for one in begun:
+        one.join()
+    if failed:
+        raise failed[0]
+    check(built.kind, array[...], due, "all of it behind the writes")
+
+
 def wrong_indices(draws, say, room):
     """An index with an entry that is none is refused, also beside a list without a place."""
     shape = tuple(draws.between(1, 5) for _ in range(draws.between(1, 3)))
@@ -180,4 +212,6 @@ def created(draws, say, room):
         built.write(new, np.ones(built.shape, bool))
         whole = built.whole()
     check(built.kind, Array(room / "array")[...], whole, "read again")
+    fill = Array(room / "array").fill_value
+    require((fill is None) == (built.kind.is_optional and bool(built.fill.absent)), f"the fill value is {fill!r}")
     require(dict(array.attrs) == {"a": [1]}, f"attributes are {dict(array.attrs)}")

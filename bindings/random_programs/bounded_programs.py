@@ -91,6 +91,19 @@ def empties(draws, say, room):
     require(error is not None or np.shape(found)[axis] == 0, f"an answer of shape {np.shape(found)}")
 
 
+def many_chunks(draws, say, room):
+    """Threads that read many chunks hold a few at a time."""
+    count = 1 << 14
+    _array(room / "array", [count], [1], "int8", 7, ["bytes"])
+    threads = draws.one_of([2, 4])
+    say(f"{threads} threads read {count} chunks, of which none is stored")
+    array = Array(room / "array", threads=threads)
+    array[:100]
+    with costing(8 * SECONDS, 10 << 20, "a read of many chunks"):
+        found = array[...]
+    require((found == 7).all(), "other fill values")
+
+
 def _plain_shard(data, inner):
     """The value of a shard that has all its inner chunks, and its codecs."""
     axes, grid = data.ndim, [size // part for size, part in zip(data.shape, inner)]

@@ -102,6 +102,10 @@ class Built:
             whole.put((*there, ...), self.chunk(numbers).at((*inside, ...)))
         return whole
 
+    def region(self, numbers):
+        """The sizes of what of a chunk is in the array."""
+        return tuple(one.stop - one.start for one in self.places(numbers)[0])
+
     def write(self, whole, wanted):
         """Takes over elements that were written at places."""
         for numbers in self.grid():

@@ -71,7 +71,7 @@ def damaged(draws, say, room):
     say(f"damaged {what}: value = bytes.fromhex({value.hex()!r})")
     due, is_one = _judged(decoded, made.codecs, value, made.kind, made.shape, made.fill)
     found, error = attempt(OF_VALUES, made.chain.decode, value)
-    require(is_one or error is not None, f"decode: {found!r}, of a value that stands for no chunk")
+    require(is_one or error is not None, "decode: no error, of a value that stands for no chunk")
     require(not is_one or error is None, f"decode: {error!r}, of a value that stands for a chunk")
     if is_one:
         check(made.kind, found, due, "decode")
@@ -99,7 +99,7 @@ def _read_parts(made, value, whole, index, numpys):
             require(whole is None, f"{name}: {error!r}, of a value that stands for a chunk")
             continue
         if is_partial(made.codecs):
-            require(is_one, f"{name}: {found!r}, of a value whose bytes there aren't right")
+            require(is_one, f"{name}: no error, of a value whose bytes there aren't right")
         if due is not None:
             check(made.kind, found, due.at(numpys), name)
 

@@ -368,7 +368,10 @@ def _unpacked(codec, value):
         return _checked(value)
     if name == "gzip":
         return _opened(value)
-    return bytes(_numcodecs(name, keys).decode(value))
+    try:
+        return bytes(_numcodecs(name, keys).decode(value))
+    except (RuntimeError, ValueError) as error:
+        raise Damaged(name) from error
 
 
 # -- chains ----------------------------------------------------------------------------------------------------------

@@ -17,7 +17,8 @@ def _listed(chunk):
     return objects.tolist()
 
 
-def _array(chunk):
+def some_array(chunk):
+    """The chunk as numpy has it."""
     return chunk.data if chunk.absent is None else np.ma.MaskedArray(chunk.data, chunk.absent)
 
 
@@ -53,9 +54,9 @@ def some_form(draws, chunk):
             objects[chunk.absent] = None
         return objects, f"the object array {objects.tolist()!r}"
     if sort == 3:
-        return _array(_swapped(chunk)), f"of the other byte order {_array(chunk).tolist()!r}"
+        return some_array(_swapped(chunk)), f"of the other byte order {some_array(chunk).tolist()!r}"
     if sort == 4:
-        return _array(_strided(chunk)), f"in pieces {_array(chunk).tolist()!r}"
-    return _array(chunk), f"the array {_array(chunk).tolist()!r}"
+        return some_array(_strided(chunk)), f"in pieces {some_array(chunk).tolist()!r}"
+    return some_array(chunk), f"the array {some_array(chunk).tolist()!r}"
 
 

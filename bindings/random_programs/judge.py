@@ -42,6 +42,9 @@ def as_chunk(kind, found):
         one[()] = data
         data = one
     require(data.dtype == kind.dtype or absent is not None and bool(np.all(absent)), f"elements of {data.dtype}, where {kind.dtype} is due")
+    if data.dtype == bool:
+        # of a foreign value each byte but 0 is true
+        data = np.asarray(data).view(np.uint8) != 0
     return Chunk(kind, data, absent)
 
 

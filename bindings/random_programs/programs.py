@@ -20,6 +20,7 @@ PROGRAMS = {
     "arrays": (array_programs.arrays, 20),
     "created": (array_programs.created, 4),
     "threads": (array_programs.threads, 4),
+    "writers": (array_programs.writers, 4),
     "wrong-indices": (array_programs.wrong_indices, 8),
     "stores": (store_programs.stores, 10),
     "broken-stores": (store_programs.broken_stores, 5),
@@ -32,6 +33,7 @@ PROGRAMS = {
     "long-lists": (bounded_programs.long_lists, 2),
     "sizes": (bounded_programs.sizes, 2),
     "bombs": (bounded_programs.bombs, 2),
+    "many-chunks": (bounded_programs.many_chunks, 1),
     "damaged": (damage_programs.damaged, 15),
     "broken-files": (damage_programs.broken_files, 5),
 }

@@ -162,8 +162,12 @@ def _in_place(made, mine, edits, due):
         return
     made.say("write_many with out")
     if edits_in_place(made.codecs) and made.kind.is_plain:
+        again = bytearray(mine)
         require(made.chain.write_many(mine, edits, out=mine) is mine, "write_many returns another value")
         made.check_value(mine, due, "write_many in place")
+        for index, form in edits:
+            require(made.chain.write(again, index, form, out=again) is again, "write returns another value")
+        made.check_value(again, due, "write in place")
         return
     before = bytes(mine)
     with refusing((NotInPlace,), "write_many in place"):
