@@ -198,9 +198,8 @@ def created(draws, say, room):
     built = Built(draws, say, room / "other")
     name = built.kind.name
     say("Array.create of the same")
-    array = Array.create(
-        room / "array", built.shape, built.chunks, name, codecs=built.codecs, fill_value=fill_json(built.kind, built.fill), attributes={"a": [1]}
-    )
+    said = {"codecs": built.codecs, "fill_value": fill_json(built.kind, built.fill), "attributes": {"a": [1]}}
+    array = Array.create(room / "array", built.shape, built.chunks, name, **said)
     due = metadata_of(built.shape, built.chunks, name, None, built.codecs, None)
     for key in ("shape", "chunk_grid", "zarr_format", "node_type"):
         require(array.metadata[key] == due[key], f"{key} is {array.metadata[key]}")

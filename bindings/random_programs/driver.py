@@ -135,7 +135,8 @@ class Counts:
     def line(self):
         """All of it in a line."""
         each = ", ".join(f"{name} {count}" for name, count in sorted(self.programs.items()))
-        return f"{sum(self.programs.values())} programs, {len(self.failed)} fail, {sum(self.seconds.values()):.0f} processor seconds: {each}"
+        seconds = sum(self.seconds.values())
+        return f"{sum(self.programs.values())} programs, {len(self.failed)} fail, {seconds:.0f} processor seconds: {each}"
 
 
 def run_all(chosen, seeds, most, tries, until=None, is_shown=False):

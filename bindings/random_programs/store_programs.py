@@ -173,8 +173,9 @@ def replaced(draws, say, room):
         found, error = attempt((OSError, EOFError, Refused), access.read, array)
         if error is not None:
             continue
+        answer = as_chunk(versions.kind, found)
         dues = [access.due(versions.chunks[it % len(versions.values)]) for it in range(before, current[0] + 1)]
-        require(any(same(as_chunk(versions.kind, found), due) for due in dues), f"an answer of no version: {told(as_chunk(versions.kind, found))}")
+        require(any(same(answer, due) for due in dues), f"an answer of no version: {told(answer)}")
 
 
 def young(draws, say, room):

@@ -9,7 +9,7 @@ from forms import some_form
 from formats import decoded, encoded
 from indices import some_basic, some_rows
 from judge import check, refusing, require
-from kinds import Chunk, fill_json, some_chunk, some_kind
+from kinds import fill_json, full, some_chunk, some_kind
 from places import closed_of, rests_on, wanted_of
 from zarrs_codecs import Chain
 from zarrs_codecs.refusals import NotInPlace
@@ -98,16 +98,16 @@ def parts(draws, say, room):
         due = made.kept.at(numpys)
         say(f"chain.read(value, {index!r})")
         check(made.kind, made.chain.read(made.value, index), due, "read")
-        due_of_nothing = Chunk(made.kind, np.broadcast_to(made.fill.data, made.shape), _fill_mask(made)).at(numpys)
-        check(made.kind, made.chain.read(None, index), due_of_nothing, "read of nothing")
+        check(made.kind, made.chain.read(None, index), _nothing(made).at(numpys), "read of nothing")
         _read_from(made, index, numpys, due)
     say(f"chain.read_many(value, {[index for index, _ in indices]!r})")
     for found, (_, numpys) in zip(made.chain.read_many(made.value, [index for index, _ in indices]), indices):
         check(made.kind, found, made.kept.at(numpys), "read_many")
 
 
-def _fill_mask(made):
-    return np.broadcast_to(made.fill.absent, made.shape) if made.kind.is_optional else None
+def _nothing(made):
+    """The chunk of which nothing is stored."""
+    return full(made.kind, made.shape, made.fill)
 
 
 def _read_from(made, index, numpys, due):
@@ -137,8 +137,7 @@ def writes(draws, say, room):
     due, edits, value = made.kept.copy(), [], made.value
     is_nothing = draws.chance(4)
     if is_nothing:
-        value = None
-        due = Chunk(made.kind, np.broadcast_to(made.fill.data, made.shape).copy(), None if _fill_mask(made) is None else _fill_mask(made).copy())
+        value, due = None, _nothing(made)
     for _ in range(draws.between(1, 3)):
         index, numpys = some_index(made)
         new = some_chunk(draws, made.kind, due.at(numpys).shape if not draws.chance(4) else (), made.fill)
