@@ -6,6 +6,7 @@ import array_programs
 import bounded_programs
 import damage_programs
 import list_programs
+import metadata_programs
 import store_programs
 import whole_programs
 
@@ -21,6 +22,8 @@ PROGRAMS = {
     "created": (array_programs.created, 4),
     "threads": (array_programs.threads, 4),
     "writers": (array_programs.writers, 4),
+    "metadata": (metadata_programs.metadata, 8),
+    "lists-of-codecs": (metadata_programs.lists_of_codecs, 4),
     "wrong-indices": (array_programs.wrong_indices, 8),
     "stores": (store_programs.stores, 10),
     "broken-stores": (store_programs.broken_stores, 5),
