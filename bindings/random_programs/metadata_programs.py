@@ -15,7 +15,8 @@ MARK = "nested"
 SHARD = '{"name":"sharding_indexed","configuration":{"chunk_shape":[1],"codecs":['
 # What stands in a place where something else is due.
 STRANGE = [0, 1, -1, None, True, "", [], {}, 1.5, -0.0, 1 << 31, 1 << 63, (1 << 64) - 1, 1 << 64, 10**40, "NaN", "x", [0], {"name": "x"}]
-NAMES = ["r16", "r0", "r7", "r" + "9" * 5000, "r\u0661\u0666", "int\u0668", "int128", "float8", "string", "bytes", "bool", "uint2", "\u00e9", "r-8", "complex0"]
+NAMES = ["r16", "r0", "r7", "r" + "9" * 5000, "r\u0661\u0666", "int\u0668"]
+NAMES += ["int128", "float8", "string", "bytes", "bool", "uint2", "\u00e9", "r-8", "complex0"]
 
 
 def _places(tree, path=()):
@@ -51,7 +52,8 @@ def _changed(draws, tree):
     if sort == 0:
         del whole[path[-1]]
     elif sort == 1:
-        whole[path[-1]] = draws.one_of(NAMES)
+        named = tree if isinstance(tree, dict) and draws.below(2) == 0 else whole
+        named["data_type" if named is tree else path[-1]] = draws.one_of(NAMES)
     elif sort == 2 and isinstance(whole, list):
         whole.insert(path[-1], copy.deepcopy(whole[path[-1]]))
     elif sort == 3:
