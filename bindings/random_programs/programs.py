@@ -5,6 +5,7 @@ import random
 import array_programs
 import bounded_programs
 import damage_programs
+import far_programs
 import list_programs
 import metadata_programs
 import store_programs
@@ -24,6 +25,8 @@ PROGRAMS = {
     "writers": (array_programs.writers, 4),
     "metadata": (metadata_programs.metadata, 8),
     "lists-of-codecs": (metadata_programs.lists_of_codecs, 4),
+    "far": (far_programs.far, 3),
+    "rewritten": (far_programs.rewritten, 4),
     "wrong-indices": (array_programs.wrong_indices, 8),
     "stores": (store_programs.stores, 10),
     "broken-stores": (store_programs.broken_stores, 5),
