@@ -100,9 +100,26 @@ def parts(draws, say, room):
         check(made.kind, made.chain.read(made.value, index), due, "read")
         check(made.kind, made.chain.read(None, index), _nothing(made).at(numpys), "read of nothing")
         _read_from(made, index, numpys, due)
+        if draws.chance(3):
+            _read_otherwise(made, index, due, room / "value")
     say(f"chain.read_many(value, {[index for index, _ in indices]!r})")
     for found, (_, numpys) in zip(made.chain.read_many(made.value, [index for index, _ in indices]), indices):
         check(made.kind, found, made.kept.at(numpys), "read_many")
+
+
+def _read_otherwise(made, index, due, path):
+    """The same of a file of the system's, and into an array."""
+    path.write_bytes(made.value)
+    made.say(f"read_from a file of the system's, and its number; into an array, {index!r}")
+    with open(path, "rb") as file:
+        check(made.kind, made.chain.read_from(file, index), due, "read_from a file")
+        check(made.kind, made.chain.read_from(file.fileno(), index), due, "read_from a file's number")
+        if made.kind.is_optional:
+            return
+        for name, read in (("read", made.chain.read), ("read_from", made.chain.read_from)):
+            out = np.empty(due.shape, made.kind.dtype)
+            require(read(made.value if name == "read" else file, index, out) is out, f"{name} returns another array")
+            check(made.kind, out, due, f"{name} into an array")
 
 
 def _nothing(made):
