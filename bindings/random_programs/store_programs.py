@@ -120,7 +120,7 @@ def _versions(draws, say, count, may_be_long):
     kind = draws.one_of(PLAIN[:8] if is_long else [*PLAIN[:8], TEXT])
     sizes = draws.one_of([(1 << 17,), (512, 256)]) if is_long else tuple(draws.one_of([4, 8, 16]) for _ in range(draws.between(1, 2)))
     fill = some_chunk(draws, kind, ())
-    codecs = _sharded(draws, kind, sizes, is_long) if is_long or draws.below(4) else some_codecs(draws, kind, sizes)
+    codecs = _sharded(draws, kind, sizes, is_long, may_be_long) if is_long or draws.below(4) else some_codecs(draws, kind, sizes)
     metadata = metadata_of(sizes, sizes, kind.name, fill_json(kind, fill), codecs, {"name": "default"})
     say(f"zarr.json: {json.dumps(metadata)}")
     others = (fill, Loose(draws)) if may_be_long else (None, untouched)
@@ -128,9 +128,9 @@ def _versions(draws, say, count, may_be_long):
     return Versions(kind, metadata, [decoded(codecs, value, kind, sizes, fill) for value in values], values)
 
 
-def _sharded(draws, kind, sizes, is_long):
+def _sharded(draws, kind, sizes, is_long, may_be_long):
     inner = ["vlen-utf8" if kind.is_text else draws.one_of([LITTLE, "packbits"])]
-    if not is_long and draws.chance(2):
+    if not is_long and (may_be_long or draws.chance(2)):
         inner.append({"name": "gzip", "configuration": {"level": 1}})
     part = [draws.one_of([size // 4, size // 2]) for size in sizes]
     keys = {"chunk_shape": part, "codecs": inner, "index_codecs": [LITTLE], "index_location": draws.one_of(["end", "start"])}
@@ -164,8 +164,8 @@ def replaced(draws, say, room):
         current[0] += 1
         objects.put(path, versions.values[current[0] % len(versions.values)], 1_600_000_000 + current[0])
 
-    for number in range(draws.between(1, 3)):
-        first = objects.calls + draws.one_of([4, 3, 5, 2, 1, 6])
+    for number in range(draws.between(2, 4)):
+        first = objects.calls + draws.one_of([4, 4, 4, 3, 5, 2, 1, 6])
         objects.turns = {first: replace, **({first + draws.between(1, 3): replace} if draws.chance(3) else {})}
         before = current[0]
         access = Access(draws, versions.chunks[0].shape)
