@@ -79,7 +79,10 @@ def far(draws, say, room):
             places = [before + one * stride for before in places for one in found]
     say(f"a chunk of {shape} bytes, read_from of {index!r}")
     due = np.array([_byte(place) for place in places], np.uint8).reshape(sizes)
-    found, error = attempt((Refused, MemoryError, EOFError), chain.read_from, file, index)
+    found, error = attempt((Refused, MemoryError, EOFError, IndexError), chain.read_from, file, index)
+    if isinstance(error, IndexError) and isinstance(index, list) and np.asarray(index).dtype.kind not in "iu":
+        # numpy has other numbers for them
+        return
     require(error is None, f"{error!r}")
     check(UINT8, found, Chunk(UINT8, due), "read_from")
 

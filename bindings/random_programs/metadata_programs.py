@@ -52,8 +52,8 @@ def _changed(draws, tree):
     if sort == 0:
         del whole[path[-1]]
     elif sort == 1:
-        named = tree if isinstance(tree, dict) and draws.below(2) == 0 else whole
-        named["data_type" if named is tree else path[-1]] = draws.one_of(NAMES)
+        is_type = isinstance(tree, dict) and draws.below(2) == 0
+        (tree if is_type else whole)["data_type" if is_type else path[-1]] = draws.one_of(NAMES)
     elif sort == 2 and isinstance(whole, list):
         whole.insert(path[-1], copy.deepcopy(whole[path[-1]]))
     elif sort == 3:
