@@ -175,6 +175,13 @@ def test_values_of_the_due_length_and_one_more(codec, rng):
                 Chain(["bytes", codec], (size,), "uint8").decode(compressed(codec, other))
 
 
+@pytest.mark.parametrize("codec", [GZIP, ZSTD, BLOSC], ids=["gzip", "zstd", "blosc"])
+def test_a_shard_with_gaps_that_is_compressed_whole(codec):
+    chain = Chain([*sharded([1], ["bytes"]), codec], (2,), "uint8", 0)
+    index = np.array([[0, 1], [3, 1]], "<u8").tobytes()
+    assert chain.decode(compressed(codec, b"\x07\0\0\x08" + index)).tolist() == [7, 8]
+
+
 def test_members_of_gzip():
     chain = Chain(["bytes", GZIP], (4,), "uint8")
     ab, cd = gzip.compress(b"ab"), gzip.compress(b"cd")

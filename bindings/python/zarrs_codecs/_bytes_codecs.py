@@ -25,6 +25,8 @@ _GZIP_BITS, _ZSTD_FRAME = 31, b"\x28\xb5\x2f\xfd"
 _ZSTD_LEVEL, _ZSTD_CHECKSUM = 100, 201
 # No compressor makes a value more than twice as long and so many bytes more.
 _LONGER_BYTES = 1 << 16
+# How many times as long as what is written here another writer's value may be, and how many bytes more.
+_TIMES_WRITTEN, _GAP_BYTES = 4, 1 << 20
 
 
 @dataclass(frozen=True)
@@ -63,8 +65,13 @@ class _TooLong(Exception):
     """A value has more bytes than are due."""
 
 
-def most_of_each(codecs: list[OuterCodec], size: int | None) -> list[int | None]:
-    """How many bytes each of these codecs opens to at most, where the value before the first one has so many."""
+def most_of_each(codecs: list[OuterCodec], kind: str, size: int | None) -> list[int | None]:
+    """How many bytes each of these codecs opens to at most, where the value before the first one has so many.
+
+    Where that is a bound, it is of what is written here: other writers may leave gaps in a shard, or store an inner chunk
+    twice, so there is room for several times as many."""
+    if kind != "fixed" and size is not None:
+        size = _TIMES_WRITTEN * size + _GAP_BYTES
     found = []
     for codec in codecs:
         found.append(size)

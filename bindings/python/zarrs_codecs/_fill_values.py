@@ -140,10 +140,15 @@ def _float_json(value: Any) -> Any:
     return "NaN" if value.tobytes() == np.array(np.nan, value.dtype).tobytes() else f"0x{bits}"
 
 
+def is_absent(element: Any) -> bool:
+    """Whether an element, as numpy holds it, is an absent one: of raw bytes it is a void that has a mask of its own."""
+    return element is np.ma.masked or (isinstance(element, np.ma.mvoid) and bool(np.all(np.ma.getmask(element))))
+
+
 def fill_json(kind: DataType, element: Any) -> Any:
     """An element, as numpy holds it, in the form of `zarr.json`."""
     if kind.is_optional:
-        return None if element is np.ma.masked else [_plain_json(kind, element)]
+        return None if is_absent(element) else [_plain_json(kind, element)]
     return _plain_json(kind, element)
 
 

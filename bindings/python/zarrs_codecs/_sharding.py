@@ -545,6 +545,10 @@ class ShardedChain(Chain):
         for number, inside, there in self._pieces(meant):
             part = stored[number]
             old = self._full(self._fill) if part is None else self._opened(number, part)
-            old[tuple(inside.T) if isinstance(meant, Rows) else inside] = new[there]
+            if isinstance(meant, Rows):
+                # without axes the last element stands; an array of it numpy would put into an array of objects as it is
+                old[tuple(inside.T)] = new[there] if old.ndim else new[there][-1]
+            else:
+                old[inside] = new[there]
             stored[number] = self._part(old)
         return self._joined(stored)

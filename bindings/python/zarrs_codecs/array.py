@@ -17,7 +17,7 @@ from ._data_types import data_type as data_type_of
 from ._data_types import zarrs_own
 from ._elements import empty, held, spread
 from ._files import UNFINISHED, replace
-from ._fill_values import fill_json
+from ._fill_values import fill_json, is_absent
 from ._indexing import Outer, Points, Step, is_list
 from ._metadata import made, metadata_of, parsed, usual_codecs
 from ._selections import Box, box
@@ -198,7 +198,7 @@ class Array:
         ...     print(Array.create(folder, [3], [2], "float32", fill_value="NaN").fill_value)
         nan
         """
-        return None if self._fill is np.ma.masked else self._fill
+        return None if is_absent(self._fill) else self._fill
 
     @property
     def nbytes(self) -> int:

@@ -277,7 +277,7 @@ class Chain:
     @cached_property
     def _most(self) -> list[int | None]:
         """How many bytes each of the codecs that Python runs opens to at most."""
-        return most_of_each(self._outer, self.representation.size)
+        return most_of_each(self._outer, *self.representation)
 
     def _run(self, number: int, way: str, value: Any) -> Bytes:
         """What one of the codecs that Python runs makes of a value; a refusal says that it is this one's."""
