@@ -100,7 +100,8 @@ class Chain:
     A value goes in as any buffer and comes out as an array of `uint8`. A selection is a basic index of
     numpy, or a list or an array of elements' indices, a row for each. Each refusal is an exception of the
     library's name, below `Refused`; `OutOfMemory` may come in place of any answer. A chain has no state,
-    so threads may use one together.
+    so threads may use one together. numpy's arrays have 32 axes at most, from its version 2 on 64: of a chunk with more,
+    elements are read and written by lists of indices, and else numpy's `ValueError` comes.
 
     >>> chain = Chain([{"name": "bytes", "configuration": {"endian": "big"}}], (2,), "int16", -1)
     >>> chain.shape, chain.dtype, chain.encode([1, 2])
@@ -646,11 +647,13 @@ class Chain:
         is needed of all inner chunks at once, of texts those inner chunks whole; over shards in shards the
         indexes of all inner shards in between; over other codecs the whole value. That is three rounds at most,
         and one more for each further level of shards in shards. Behind `reshape` or `zarrs.squeeze` shards in shards
-        go one after the other, and behind eight rounds those that are needed come whole. Each range is a read
+        go one after the other, and behind eight rounds those that are needed come whole. Of a shard of over a thousand inner
+        chunks of which many are needed the whole value comes at once. Each range is a read
         of the file by itself. Of a slice with a step it leaves out what is between two places where that's
         16 KiB of the file or more, of a shard also what isn't in one piece there and the inner chunks that have
-        none of them. Raises what `read` does of such a value, also of what it fetched between two places, what the
-        file raises, and `EOFError` where it is cut meanwhile.
+        none of them. Raises what `read` does of such a value, also of what it fetched between two places; `read` may
+        look at more of these, and where two things are damaged each may name another one. Raises what the file raises,
+        `OSError` where it answers what no file does, and `EOFError` where it is cut meanwhile.
 
         >>> import io
         >>> Chain(["bytes"], (4,), "uint8").read_from(io.BytesIO(b"abcd"), slice(1, 3))
