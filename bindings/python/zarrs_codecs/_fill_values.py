@@ -12,6 +12,7 @@ from ._data_types import DataType
 from ._elements import held
 from .refusals import InvalidFillValue
 
+_ma: Any = np.ma  # numpy says no types of it
 _ABSENT = "00"
 _PRESENT = "01"
 _NOT_A_TIME = -(1 << 63)
@@ -142,7 +143,7 @@ def _float_json(value: Any) -> Any:
 
 def is_absent(element: Any) -> bool:
     """Whether an element, as numpy holds it, is an absent one: of raw bytes it is a void that has a mask of its own."""
-    return element is np.ma.masked or (isinstance(element, np.ma.mvoid) and bool(np.all(np.ma.getmask(element))))
+    return element is _ma.masked or (isinstance(element, _ma.mvoid) and bool(np.all(_ma.getmask(element))))
 
 
 def fill_json(kind: DataType, element: Any) -> Any:
