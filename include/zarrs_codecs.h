@@ -41,9 +41,10 @@
  * What a call writes is fixed by the elements: offsets begin at 0, masks are 0 and 1, and under an absent
  * element there are zeros, or no bytes. What it is given may be looser: the first offset may be above 0,
  * and what stands under an absent element doesn't matter. An answer's parts are at the front of
- * the buffers, and what is behind them stays as it was. The sizes that a fixed type needs follow from the
- * header, so that one call is enough; of a string or bytes call once with buffers of no length, or with a
- * guess.
+ * the buffers, and what is behind them stays as it was, but for a zero that zarrs_error_name writes. The
+ * sizes that a fixed type needs follow from the header, so that one call is enough; of a string or bytes
+ * call once with a guess, or with buffers of no length: a call makes its whole answer before it says that
+ * it is ZARRS_SHORT, also one of many gigabytes.
  *
  * A selection is a count and numbers. Where tuples is ZARRS_BOX it is a box of the chunk: first where each
  * axis starts, then how long it is there. Else it is so many index tuples, one after another, a number an
@@ -145,7 +146,8 @@ extern const char zarrs_version[];
 /* Whether a header reads and its codecs take such chunks. */
 uint32_t zarrs_check(const uint8_t *header, size_t header_len);
 
-/* The name of a code in ASCII, without a zero behind it; no byte for a number that no call returns. */
+/* The name of a code in ASCII, and a zero behind it where there is room, which needed doesn't count; no byte of a
+ * name for a number that no call returns. */
 uint32_t zarrs_error_name(uint32_t code, uint8_t *name, size_t name_len, size_t *needed);
 
 /* The same with a zero behind it, in text, which has ZARRS_NAME_SIZE bytes. */

@@ -5,6 +5,7 @@ import importlib.util
 import json
 import pickle
 import threading
+import zlib
 import time
 
 import numpy as np
@@ -34,6 +35,9 @@ GZIP = {"name": "gzip", "configuration": {"level": 1}}
         ("bytes", b"\1\2", "AQI="),
         ({"optional": "int16"}, 5, [5]),
         ({"optional": "string"}, None, None),
+        ({"optional": "r8"}, None, None),
+        ({"optional": "r8"}, b"\0", [[0]]),
+        ({"optional": {"name": "raw_bytes", "configuration": {"length_bytes": 2}}}, None, None),
         ({"name": "numpy.datetime64", "configuration": {"unit": "s", "scale_factor": 1}}, "NaT", "NaT"),
         ({"name": "fixed_length_utf32", "configuration": {"length_bytes": 8}}, "ä", "ä"),
         ({"name": "null_terminated_bytes", "configuration": {"length_bytes": 2}}, b"a", "YQ=="),
@@ -46,6 +50,7 @@ def test_arrays_of_every_type(name, fill, said, tmp_path):
     assert json.loads((tmp_path / "a" / "zarr.json").read_text())["fill_value"] == said
     opened = Array(tmp_path / "a")
     assert opened.shape == (3, 2) and opened.chunks == (2, 2) and opened.dtype == made.dtype
+    assert (opened.fill_value is None) == (said is None)
     (same_masked if isinstance(name, dict) and "optional" in name else same)(made[...], opened[...])
     opened[2] = opened[0]
     assert opened.chunk_path((1, 0)).is_file()
@@ -127,14 +132,14 @@ class Opened:
 
     def __init__(self, monkeypatch):
         self.count, self._lock = 0, threading.Lock()
-        decompress = gzip.decompress
+        opened = zlib.decompressobj
 
-        def counted(value):
+        def counted(bits):
             with self._lock:
                 self.count += 1
-            return decompress(value)
+            return opened(bits)
 
-        monkeypatch.setattr(gzip, "decompress", counted)
+        monkeypatch.setattr(zlib, "decompressobj", counted)
 
 
 def settled(monkeypatch):

@@ -290,3 +290,11 @@ def test_offsets_begin_at_zero(offsets, data, due):
 def test_a_library_without_a_proof_says_so():
     has_word = b"zarrs_unproved" in Path(library._name).read_bytes()
     assert zarrs_codecs.proved is not has_word
+
+
+def test_a_zero_stands_behind_a_name():
+    """Where there is room, as the header says."""
+    name, needed = ctypes.create_string_buffer(b"x" * 64, 64), ctypes.c_size_t()
+    assert library.zarrs_error_name(0, name, 64, ctypes.byref(needed)) == 0
+    assert name.raw == b"Done\0" + b"x" * 59 and needed.value == 4
+    assert library.zarrs_error_name(0, name, 4, ctypes.byref(needed)) == 0 and name.raw[:6] == b"Done\0x"

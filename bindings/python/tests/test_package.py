@@ -40,6 +40,10 @@ def test_a_wheel_has_the_library_in_it(tmp_path):
     (wheel,) = tmp_path.glob("*.whl")
     assert re.fullmatch(rf"zarrs_codecs-{zarrs_codecs.__version__}-py3-none-linux_\w+\.whl", wheel.name)
     zipfile.ZipFile(wheel).extractall(tmp_path / "installed")
+    for name in ("LICENSE", "NOTICE"):
+        (found,) = (tmp_path / "installed").glob(f"*.dist-info/**/{name}")
+        assert found.read_bytes() == (PACKAGE.parents[1] / name).read_bytes()
+    assert re.search("^License.*: MIT$", next((tmp_path / "installed").glob("*.dist-info/METADATA")).read_text(), re.M)
     assert (tmp_path / "installed/zarrs_codecs/py.typed").is_file()
     assert list(tmp_path.glob("installed/*/METADATA"))
     code = "import zarrs_codecs as z; print(z.__file__, z._library.library._name, z.Chain(['bytes'], (3,), 'uint8').encode([1, 2, 3]))"

@@ -22,7 +22,7 @@ from samples import (
 )
 
 import zarrs_codecs
-from zarrs_codecs import Chain, _rounds, _selections
+from zarrs_codecs import Chain, _dense, _rounds, _selections
 from zarrs_codecs import chain as chain_module
 
 
@@ -233,7 +233,10 @@ def test_short_ranges_of_many_inner_chunks(monkeypatch):
 
 
 def test_many_inner_chunks_of_a_few_bytes(monkeypatch):
-    """More than a thousand, of nine bytes or five each: the index, one inner chunk, and then the rest."""
+    """More than a thousand, of nine bytes or five each: the index, one inner chunk, and then the rest; or all at once."""
+    whole = Chain([sharded(1, ["vlen-utf8"])], (1100,), "string", "")
+    assert rounds_of(monkeypatch) == [] and whole.read_from(io.BytesIO(whole.encode(["a"] * 1100)), np.s_[3:9]).size == 6
+    monkeypatch.setattr(_dense, "_MANY", 1100)
     rounds = rounds_of(monkeypatch)
     array = np.array([chr(97 + at % 26) for at in range(1100)], object)
     chain = Chain([sharded(1, ["vlen-utf8"])], (1100,), "string", "")
@@ -267,7 +270,8 @@ IN_FRONT = [([transpose([1, 0])], 2), ([{"name": "reshape", "configuration": {"s
 def test_three_rounds_and_no_inner_chunk_that_is_not_needed(
     inside, kind, fill, size, in_front, axes, rng, monkeypatch
 ):
-    """Of 64 times 40 inner chunks, also behind codecs that move them."""
+    """Of 64 times 40 inner chunks, also behind codecs that move them, where not all are read at once."""
+    monkeypatch.setattr(_dense, "_MANY", 64 * 40)
     rounds = rounds_of(monkeypatch)
     shard = {"chunk_shape": [1] * axes, "codecs": inside, "index_codecs": [LITTLE]}
     chain = Chain([*in_front, {"name": "sharding_indexed", "configuration": shard}], (64, 40), kind, fill)

@@ -285,6 +285,23 @@ def test_a_read_asks_for_the_index_and_its_inner_chunks(rng):
     assert file.seen == index | set(range(first[0], sum(first)))
 
 
+@pytest.mark.parametrize(
+    "kind, codec, texts",
+    [("string", "vlen-utf8", ["abcdef", "gh"]), ("bytes", "vlen-bytes", [b"ab\0", b"\0"]), ("string", VLEN, ["", "i"])],
+)
+def test_a_chunk_without_axes_is_written_by_rows(kind, codec, texts):
+    chain = ShardedChain(sharded([], [codec, GZIP]), (), kind)
+    for count in (1, 2):
+        value = chain.write(None, np.zeros((count, 0), int), texts[:count])
+        assert chain.decode(value)[()] == texts[count - 1]
+
+
+def test_a_moment_without_axes_is_written_by_rows():
+    chain = ShardedChain(sharded([], [optional(LITTLE), GZIP]), (), {"optional": np.dtype("M8[s]")})
+    moment = np.ma.MaskedArray(np.array([np.datetime64(5, "s")]), [False])
+    same_masked(chain.decode(chain.write(None, np.zeros((1, 0), int), moment)), moment[0:1].reshape(()))
+
+
 @EACH
 def test_inner_chunks_in_any_order_with_gaps_and_twice(make):
     chain = make(sharded([2], ["bytes"]), (6,), "uint8", 0)

@@ -186,7 +186,7 @@ def test_an_index_and_offsets_are_kept(name, first, make, rng, tmp_path, monkeyp
 def test_what_may_have_changed_is_not_kept(rng, tmp_path, monkeypatch):
     monkeypatch.setattr(_chunks, "_SMALL", 0)
     filled(tmp_path / "a", "shards", rng)
-    for tag, kept in (("LastModified", True), ("mtime", True), ("checksum", True), ("ino", False), ("Size", False)):
+    for tag, kept in (("version", True), ("contentMd5", True), ("checksum", True), ("ino", False), ("Size", False)):
         array = Array("bucket/a", store=Ranging(files_of(tmp_path / "a"), tag))
         array[0, 0]
         assert (array._chunks.cache.nbytes > 0) == kept

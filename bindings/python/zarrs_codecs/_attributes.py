@@ -2,6 +2,7 @@
 
 import copy
 import json
+import threading
 from collections.abc import Iterator, MutableMapping
 from typing import Any
 
@@ -12,10 +13,15 @@ from ._stores import Folder
 from .refusals import InvalidMetadata
 
 
-def bytes_of(metadata: dict[str, Any]) -> np.ndarray[Any, np.dtype[np.uint8]]:
-    """The bytes of a `zarr.json`. Raises `InvalidMetadata` where there is no JSON of it."""
+# Held while a `zarr.json` is read and replaced, so that threads keep what others set.
+_TURN = threading.Lock()
+
+
+def bytes_of(metadata: dict[str, Any], has_nan: bool = False) -> np.ndarray[Any, np.dtype[np.uint8]]:
+    """The bytes of a `zarr.json`, in which NaN and infinite numbers are where others have written them. Raises
+    `InvalidMetadata` where there is no JSON of it."""
     try:
-        text = json.dumps(metadata, indent=2, allow_nan=False)
+        text = json.dumps(metadata, indent=2, allow_nan=has_nan)
     except (TypeError, ValueError, RecursionError) as error:
         raise InvalidMetadata(f"what zarr.json would say has no JSON: {error}") from error
     return np.frombuffer(text.encode(), np.uint8)
@@ -25,8 +31,9 @@ class Attributes(MutableMapping[str, Any]):
     """Attributes by their names, in the `zarr.json` of an array.
 
     What is read is what the file said when it was read last. A name that is set or deleted is so in the file at
-    once, beside what others have written there meanwhile. A value that is changed itself isn't: values come out
-    as copies. Raises `InvalidMetadata` where a value has no JSON.
+    once, beside what others have written there meanwhile: threads take turns, and processes that set attributes of one
+    array at a time must, as for chunks. A value that is changed itself isn't: values come out as copies. Raises
+    `InvalidMetadata` where a value has no JSON.
     """
 
     def __init__(self, files: Folder, root: str, metadata: dict[str, Any]) -> None:
@@ -64,12 +71,17 @@ class Attributes(MutableMapping[str, Any]):
 
     def _replace(self, set_all: dict[str, Any] | None = None, without: str | None = None) -> None:
         self._files.check_written()
+        with _TURN:
+            self._replace_in_turn(set_all, without)
+
+    def _replace_in_turn(self, set_all: dict[str, Any] | None, without: str | None) -> None:
         metadata = metadata_of(self._files, self._root).said
         attributes = {**metadata.get("attributes", {}), **(set_all or {})}
         attributes.pop(without, None)
         for name in attributes:
             if not isinstance(name, str):
                 raise InvalidMetadata(f"an attribute is named by {name!r}, which is no text")
-        whole = bytes_of({**metadata, "attributes": attributes})
+        bytes_of(set_all or {})
+        whole = bytes_of({**metadata, "attributes": attributes}, has_nan=True)
         self._files.replace(f"{self._root}zarr.json", whole)
         self._metadata["attributes"] = json.loads(whole.tobytes())["attributes"]

@@ -8,41 +8,75 @@ import reprlib
 import zlib
 from collections.abc import Callable
 from dataclasses import dataclass
+from functools import partial
 from typing import Any, NoReturn
 
 import numpy as np
 
 from ._locating import name_of as codec_name
 from ._types import AnyArray, Bytes
-from .refusals import BytesCodec, InvalidConfiguration, OutOfMemory, Refused
+from .refusals import BytesCodec, InvalidBytesLength, InvalidConfiguration, OutOfMemory, Refused
 
 _SHUFFLES = {"noshuffle": 0, "shuffle": 1, "bitshuffle": 2}
 _MISSING = object()
+# zlib's word for a gzip header and trailer, and how a frame of zstd begins.
+_GZIP_BITS, _ZSTD_FRAME = 31, b"\x28\xb5\x2f\xfd"
 # The parameters of libzstd.
 _ZSTD_LEVEL, _ZSTD_CHECKSUM = 100, 201
+# No compressor makes a value more than twice as long and so many bytes more.
+_LONGER_BYTES = 1 << 16
+# How many times as long as what is written here another writer's value may be, and how many bytes more.
+_TIMES_WRITTEN, _GAP_BYTES = 4, 1 << 20
 
 
 @dataclass(frozen=True)
 class OuterCodec:
-    """A bytes codec's name, and what it makes of bytes and back."""
+    """A bytes codec's name, what it makes of bytes and back, and how many bytes it makes of so many at most.
+
+    What makes a value of bytes is told how many that has at most, where that is known, and opens no more."""
 
     name: str
     compress: Callable[[AnyArray], Any]
-    decompress: Callable[[Any], Any]
+    decompress: Callable[[Any, int | None], Any]
     is_proved: bool = False
 
     def encode(self, value: Bytes) -> Bytes:
         """What is stored of a value."""
         return np.frombuffer(self.compress(value), np.uint8)
 
-    def decode(self, stored: Any) -> Bytes:
-        """The value of what is stored. Raises `BytesCodec` where there is none."""
+    def decode(self, stored: Any, most: int | None = None) -> Bytes:
+        """The value of what is stored, of so many bytes at most. Raises `BytesCodec` where there is none, and
+        `InvalidBytesLength` where it is longer, before it is there as a whole."""
         try:
-            return np.frombuffer(self.decompress(stored), np.uint8)
+            return np.frombuffer(self.decompress(stored, most), np.uint8)
         except MemoryError as error:
             raise OutOfMemory(f"{self.name}: {error}") from error
+        except _TooLong as error:
+            raise InvalidBytesLength(f"{self.name}: more than {most} bytes, where no more are due") from error
         except (OSError, EOFError, ValueError, RuntimeError, OverflowError, SystemError, zlib.error) as error:
             raise BytesCodec(f"{self.name}: {error}") from error
+
+    def longest(self, size: int) -> int:
+        """How many bytes are stored at most of a value of so many."""
+        return size + 4 if self.name == _CHECKSUM else 2 * size + _LONGER_BYTES
+
+
+class _TooLong(Exception):
+    """A value has more bytes than are due."""
+
+
+def most_of_each(codecs: list[OuterCodec], kind: str, size: int | None) -> list[int | None]:
+    """How many bytes each of these codecs opens to at most, where the value before the first one has so many.
+
+    Where that is a bound, it is of what is written here: other writers may leave gaps in a shard, or store an inner chunk
+    twice, so there is room for several times as many."""
+    if kind != "fixed" and size is not None:
+        size = _TIMES_WRITTEN * size + _GAP_BYTES
+    found = []
+    for codec in codecs:
+        found.append(size)
+        size = None if size is None else codec.longest(size)
+    return found
 
 
 def wrong(key: str, value: Any) -> NoReturn:
@@ -69,24 +103,61 @@ def _one_of(configuration: dict[str, Any], key: str, values: Any, default: Any =
     return value
 
 
+def _gunzipped(stored: Any, most: int | None) -> bytes:
+    """What gzip's members hold, one behind another, and zeros behind them."""
+    parts, left, size = [], memoryview(stored).cast("B"), 0
+    while len(left):
+        member = zlib.decompressobj(_GZIP_BITS)
+        # 0 is as many as there are
+        parts.append(member.decompress(left, 0 if most is None else most - size + 1))
+        size += len(parts[-1])
+        if most is not None and size > most:
+            raise _TooLong
+        if not member.eof:
+            raise EOFError("it ends before its end-of-stream marker")
+        left = memoryview(member.unused_data.lstrip(b"\0"))
+    return parts[0] if len(parts) == 1 else b"".join(parts)
+
+
 def _gzip(configuration: dict[str, Any]) -> OuterCodec:
     level = _integer(configuration, "level", 0, 9)
-    return OuterCodec(
-        "gzip", lambda value: gzip.compress(value.data, level, mtime=0), gzip.decompress
-    )
+    return OuterCodec("gzip", lambda value: gzip.compress(value.data, level, mtime=0), _gunzipped)
+
+
+def _zstd_size(stored: Any) -> int | None:
+    """How many bytes a frame's header says that it opens to; None where it doesn't, or is no frame's."""
+    head = bytes(memoryview(stored).cast("B")[:18])
+    if len(head) < 6 or head[:4] != _ZSTD_FRAME:
+        return None
+    said = head[4]
+    is_single = bool(said & 32)
+    size = (1 if is_single else 0, 2, 4, 8)[said >> 6]
+    begin = 5 + (not is_single) + (0, 1, 2, 4)[said & 3]
+    if not size or len(head) < begin + size:
+        return None
+    return int.from_bytes(head[begin : begin + size], "little") + (256 if size == 2 else 0)
 
 
 def _zstd(configuration: dict[str, Any]) -> OuterCodec:
     Zstd = importlib.import_module("numcodecs.zstd").Zstd
     level = _integer(configuration, "level", -(1 << 17), 22)
-    if not _one_of(configuration, "checksum", (False, True), False):
-        return OuterCodec("zstd", Zstd(level).encode, Zstd(level).decode)
-    try:
-        codec = Zstd(level, checksum=True)
-    except TypeError:
-        # an older numcodecs reads checksums and writes none
-        return OuterCodec("zstd", lambda value: _with_checksum(value, level), Zstd(level).decode)
-    return OuterCodec("zstd", codec.encode, codec.decode)
+    has_checksum = _one_of(configuration, "checksum", (False, True), False)
+    plain = Zstd(level)
+    compress = plain.encode
+    if has_checksum:
+        try:
+            compress = Zstd(level, checksum=True).encode
+        except TypeError:
+            # an older numcodecs reads checksums and writes none
+            compress = partial(_with_checksum, level=level)
+
+    def decompress(stored: Any, most: int | None) -> Any:
+        size = _zstd_size(stored)
+        if most is not None and size is not None and size > most:
+            raise _TooLong
+        return plain.decode(stored)
+
+    return OuterCodec("zstd", compress, decompress)
 
 
 def _with_checksum(value: AnyArray, level: int) -> Any:
@@ -112,11 +183,14 @@ def _with_checksum(value: AnyArray, level: int) -> Any:
         zstd.ZSTD_freeCCtx(context)
 
 
-def _blosc_part(stored: Any) -> memoryview:
-    """What is stored, which has as many bytes as its header says: numcodecs looks at no more."""
+def _blosc_part(stored: Any, most: int | None) -> memoryview:
+    """What is stored, which has as many bytes as its header says, and opens to as many as are due: numcodecs looks at
+    neither."""
     part = memoryview(stored).cast("B")
     if len(part) < 16 or len(part) != int.from_bytes(part[12:16], "little"):
         raise ValueError(f"{len(part)} bytes, where its header says another number")
+    if most is not None and int.from_bytes(part[4:8], "little") > most:
+        raise _TooLong
     return part
 
 
@@ -133,7 +207,7 @@ def _blosc(configuration: dict[str, Any]) -> OuterCodec:
         has_whole_items = size > 1 and value.size % size == 0
         return codec.encode(value.view(f"V{size}") if has_whole_items else value)
 
-    return OuterCodec("blosc", compress, lambda stored: codec.decode(_blosc_part(stored)))
+    return OuterCodec("blosc", compress, lambda stored, most: codec.decode(_blosc_part(stored, most)))
 
 
 _CHECKSUM = "crc32c"
@@ -146,7 +220,7 @@ def _checksum(codecs: list[Any], place: int) -> OuterCodec:
     def chain(size: int) -> Any:
         return Chain(["bytes", codecs[place]], (size,), "uint8")
 
-    def decompress(stored: Any) -> Any:
+    def decompress(stored: Any, most: int | None) -> Any:
         size = memoryview(stored).nbytes
         if size < 5:
             raise ValueError(f"{size} bytes, where there are more behind another codec")

@@ -1,6 +1,7 @@
 """The files of an array's chunks."""
 
 import contextlib
+import threading
 from collections.abc import Callable, Iterable, Iterator
 from concurrent.futures import ThreadPoolExecutor
 from pathlib import Path
@@ -19,6 +20,8 @@ from .chain import Chain
 from .refusals import InvalidBytesLength, Refused
 
 
+# So many times a file is read that is replaced meanwhile.
+_MOST_TRIES = 4
 # A chunk of so many bytes is read at once, where all of it is needed or its reads aren't planned.
 _SMALL = 1 << 16
 
@@ -78,19 +81,34 @@ class Chunks:
         return self._root + self._keys.key(chunk)
 
     def each(self, call: Callable[..., None], parts: Iterable[tuple[Any, ...]]) -> None:
-        """Calls with the arguments of each part, each of another chunk. The first exception is raised, when all
-        calls that were begun have ended."""
+        """Calls with the arguments of each part, each of another chunk. The exception of the first part that has one is
+        raised, when all calls that were begun have ended."""
         if self._threads == 1:
             one_by_one(call, parts)
             return
+        turn, numbered = threading.Lock(), enumerate(parts)
+        failed: list[tuple[int, BaseException]] = []
+
+        def work() -> None:
+            while not failed:
+                with turn:
+                    number, arguments = next(numbered, (-1, None))
+                if arguments is None:
+                    return
+                try:
+                    call(*arguments)
+                except BaseException as error:
+                    failed.append((number, error))
+
         with ThreadPoolExecutor(self._threads) as pool:
-            begun = [pool.submit(call, *arguments) for arguments in parts]
+            workers = [pool.submit(work) for _ in range(self._threads)]
             try:
-                for one in begun:
+                for one in workers:
                     one.result()
-            except BaseException:
-                pool.shutdown(cancel_futures=True)
-                raise
+            except BaseException as error:
+                failed.append((-1, error))
+        if failed:
+            raise min(failed, key=lambda one: one[0])[1]
 
     def check_folder(self) -> None:
         """Raises `FileNotFoundError` where the array isn't there any more."""
@@ -120,18 +138,26 @@ class Chunks:
         return found
 
     def read(self, chunk: Shape, selection: Any, out: AnyArray | None = None) -> Any:
-        """The elements of a selection of a chunk, in `out` where it is given; None where no file is there."""
+        """The elements of a selection of a chunk, in `out` where it is given; None where no file is there. Of one that was
+        replaced while it was read it is read anew."""
         path = self.path(chunk)
-        try:
-            source = self._files.open(path)
-        except FileNotFoundError:
-            self.check_folder()
-            return None
-        try:
-            with _naming(path):
-                return self._read(path, source, selection, out)
-        finally:
-            source.close()
+        for _ in range(_MOST_TRIES):
+            try:
+                source = self._files.open(path)
+            except FileNotFoundError:
+                self.check_folder()
+                return None
+            try:
+                with _naming(path):
+                    found = self._read(path, source, selection, out)
+                if source.is_same():
+                    return found
+            except (Refused, EOFError):
+                if source.is_same(was_refused=True):
+                    raise
+            finally:
+                source.close()
+        raise OSError(f"the file was replaced each time that it was read, in {path}")
 
     def _read(self, path: str, source: Source, selection: Any, out: AnyArray | None) -> Any:
         """The same of the chunk's open file."""

@@ -12,6 +12,10 @@ import numpy as np
 from .refusals import UnsupportedDataType
 
 
+# An element of one size has no more bytes: a `zarr.json` of some hundred would have memory taken for what it claims.
+_MOST_BYTES = 1 << 20
+
+
 @dataclass(frozen=True)
 class DataType:
     """A type of elements: of one size where `dtype` isn't `object`, and else texts or byte strings. `is_base64` says that
@@ -69,7 +73,7 @@ def _components(bits: int, count: int, signed: bool = False) -> dict[str, Any]:
 
 
 def _numeric(name: str) -> DataType | None:
-    parts = re.fullmatch(r"(int|uint|float|complex|r)(\d+)", name)
+    parts = re.fullmatch(r"(int|uint|float|complex|r)([1-9][0-9]{0,8})", name)
     if parts is None:
         return None
     kind, bits = parts[1], int(parts[2])
@@ -79,7 +83,7 @@ def _numeric(name: str) -> DataType | None:
         return DataType(f"uint{bits}", np.dtype(f"<f{bits // 8}"), bits)
     if kind == "complex" and bits in (64, 128):
         return DataType(_components(bits // 2, 2), np.dtype(f"<c{bits // 8}"), bits)
-    if kind == "r" and bits > 0 and bits % 8 == 0:
+    if kind == "r" and bits % 8 == 0 and bits <= 8 * _MOST_BYTES:
         return DataType(_components(8, bits // 8), np.dtype(f"V{bits // 8}"), bits)
     return None
 
@@ -126,7 +130,7 @@ def _moments(letter: str, configuration: dict[str, Any]) -> DataType:
 def _sized(letter: str, configuration: dict[str, Any]) -> DataType:
     """Texts, byte strings and bytes of one length."""
     size, each = configuration["length_bytes"], 4 if letter == "U" else 1
-    if type(size) is not int or not 0 < size < 1 << 31 or size % each:
+    if type(size) is not int or not 0 < size <= _MOST_BYTES or size % each:
         raise UnsupportedDataType(f"no data type has {reprlib.repr(configuration)}")
     dtype = np.dtype(f"<{letter}{size // each}")
     return DataType(_components(8 * each, size // each), dtype, 8 * size, is_base64=letter == "V")

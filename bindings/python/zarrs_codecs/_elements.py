@@ -6,7 +6,7 @@ import operator
 import reprlib
 from collections.abc import Callable, Sequence
 from ctypes import byref
-from typing import Any
+from typing import Any, cast
 
 import numpy as np
 
@@ -14,12 +14,15 @@ from ._buffers import counted, lent, start
 from ._data_types import DataType
 from ._kinds import of_kind
 from ._library import SHORT, Sizes, checked
+from ._pythons import as_objects, is_pythons, plain
 from ._texts import joined, parted
 from ._types import AnyArray
-from .refusals import InvalidElement, InvalidText
+from .refusals import InvalidElement, InvalidText, OutOfMemory
 
 _ma: Any = np.ma  # numpy says no types of it
 _NONE: tuple[Any, int] = (None, 0)
+# The kinds of numpy's whose elements are no numbers: texts, byte strings, bytes and moments.
+_NO_NUMBERS = "USVM"
 # Python's numbers that floats and complex numbers are made of.
 _NUMBERS: dict[str, type] = {"f": numbers.Real, "c": numbers.Complex}
 
@@ -37,17 +40,20 @@ def mask_of(array: AnyArray) -> AnyArray:
 
 
 def _all_there(array: Any) -> Any:
-    """The same, where no element is absent."""
-    if _ma.is_masked(array):
+    """The same, where no element is absent; of Python's own, as numpy takes it."""
+    said = plain(array) if is_pythons(array) else np.asanyarray(array)
+    has_none = is_pythons(array) and said is not array and np.equal(as_objects(said), cast(Any, None)).any()
+    if has_none or _ma.is_masked(said):
         raise InvalidElement("an element is absent, and the data type isn't an optional one")
-    return array
+    return said
 
 
 def _blank(kind: DataType, dtype: np.dtype[Any]) -> Any:
     """What stands under an absent element, as numpy holds it in this type."""
     if dtype == object and kind.is_variable:
         return "" if kind.is_text else b""
-    return np.zeros((), dtype)[()]
+    # among objects only what isn't a number tells its kind
+    return np.zeros((), kind.dtype if dtype == object and kind.dtype.kind in _NO_NUMBERS else dtype)[()]
 
 
 def _whole_numbers(kind: DataType, array: AnyArray) -> AnyArray:
@@ -129,13 +135,30 @@ def _held(kind: DataType, array: AnyArray) -> AnyArray:
     return _cast(kind, array)
 
 
+def shape_of(array: Any) -> tuple[int, ...]:
+    """The shape of elements, as `held` has it."""
+    return np.shape(plain(array) if is_pythons(array) else array)
+
+
 def _as_array(kind: DataType, array: Any) -> AnyArray:
-    """Elements as numpy has them: of Python's whole numbers, which have no bounds, it would make floats of some, and byte
-    strings all as long as the longest."""
+    """Elements as numpy has them. Python's own go by objects where numpy would make other ones of them: texts of numbers
+    beside texts, floats of whole numbers, which have no bounds, and byte strings all as long as the longest, without the
+    zeros at their ends."""
+    if not is_pythons(array):
+        return np.asarray(array)
+    if kind.is_variable or kind.dtype.kind in _NO_NUMBERS:
+        return as_objects(array)
     made = np.asarray(array)
-    if kind.bounds is None and kind.dtype.kind != "V" or made is array or made.dtype.kind in "biu":
-        return made
-    return made if isinstance(array, (np.ndarray, np.generic)) else np.asarray(array, object)
+    return made if kind.bounds is None or made.dtype.kind in "biu" else np.asarray(array, object)
+
+
+def _absent_too(kind: DataType, array: Any) -> tuple[AnyArray, AnyArray]:
+    """Elements as numpy has them, and which of them are absent: those that are masked, and None."""
+    array = _as_array(kind, plain(array)) if is_pythons(array) else _ma.asarray(np.asanyarray(array))
+    data, absent = _ma.getdata(array), mask_of(array)
+    if data.dtype == object:
+        absent = absent | np.equal(data, cast(Any, None)).astype(bool)
+    return data, absent
 
 
 def held(kind: DataType, array: Any) -> AnyArray:
@@ -147,16 +170,11 @@ def held(kind: DataType, array: Any) -> AnyArray:
     """
     if not kind.is_optional:
         return _held(kind, _as_array(kind, _all_there(array)))
-    array = _ma.asarray(array)
-    absent = mask_of(array)
-    data = array.data
-    if data.dtype == object:
-        nothing: Any = None
-        absent = absent | np.equal(data, nothing).astype(bool)
+    data, absent = _absent_too(kind, array)
     if data.dtype == kind.dtype and kind.has_all and not kind.is_variable:
         return masked(_held(kind, data), absent)
     if absent.all():
-        data = np.full(array.shape, _blank(kind, kind.dtype), kind.dtype)
+        data = np.full(data.shape, _blank(kind, kind.dtype), kind.dtype)
     elif absent.any():
         data = data.copy()
         data[absent] = _blank(kind, data.dtype)
@@ -175,9 +193,9 @@ def given(kind: DataType, array: AnyArray) -> tuple[Any, ...]:
     return *masks, start(offsets), offsets.size, *lent(whole)
 
 
-def _told_texts(kind: DataType, call: Callable[..., Any], masks: tuple[Any, ...], count: int, room: int) -> AnyArray:
-    """The texts that a call tells, whose bytes are as many as `room` or not."""
-    offsets, whole, sizes = np.empty(count + 1, np.uint64), np.empty(room, np.uint8), Sizes()
+def _told_texts(kind: DataType, call: Callable[..., Any], masks: tuple[Any, ...], count: int, size: int) -> AnyArray:
+    """The texts that a call tells, whose bytes are as many as `size` or not."""
+    offsets, whole, sizes = room((count + 1,), np.dtype(np.uint64)), np.empty(size, np.uint8), Sizes()
     code = call(*masks, start(offsets), offsets.size, start(whole), whole.size, byref(sizes))
     if code == SHORT:
         whole = np.empty(sizes.bytes, np.uint8)
@@ -191,19 +209,32 @@ def told_into(array: AnyArray, call: Callable[..., Any]) -> None:
     checked(call(None, 0, None, 0, start(array), array.nbytes, byref(Sizes())))
 
 
-def told(kind: DataType, call: Callable[..., Any], shape: tuple[int, ...], room: int = 0) -> AnyArray:
+def room(shape: tuple[int, ...], dtype: np.dtype[Any]) -> AnyArray:
+    """An array whose elements are still to be written. Raises `OutOfMemory` where there is none of this size, and numpy's
+    `ValueError` of more axes than it has."""
+    try:
+        return np.empty(shape, dtype)
+    except (MemoryError, OverflowError) as error:
+        raise OutOfMemory(str(error)) from error
+    except ValueError as error:
+        if math.prod(max(size, 1) for size in shape) * max(dtype.itemsize, 1) < 1 << 63:
+            raise
+        raise OutOfMemory(str(error)) from error
+
+
+def told(kind: DataType, call: Callable[..., Any], shape: tuple[int, ...], size: int = 0) -> AnyArray:
     """The elements that a call tells, which takes three buffers and their sizes last."""
     if kind.is_plain:
-        array = np.empty(shape, kind.dtype)
+        array = room(shape, kind.dtype)
         told_into(array, call)
         return array
     count = math.prod(shape)
-    present = np.empty(count if kind.is_optional else 0, bool)
+    present = room((count if kind.is_optional else 0,), np.dtype(bool))
     masks = (start(present), present.size)
     if kind.is_variable:
-        array = _told_texts(kind, call, masks, count, room).reshape(shape)
+        array = _told_texts(kind, call, masks, count, size).reshape(shape)
     else:
-        array = np.empty(shape, kind.dtype)
+        array = room(shape, kind.dtype)
         checked(call(*masks, None, 0, start(array), array.nbytes, byref(Sizes())))
     if not kind.is_optional:
         return array
@@ -243,7 +274,7 @@ def empty(kind: DataType, shape: tuple[int, ...]) -> AnyArray:
     """An array of such elements, whose values are still to be written; absent ones, over blanks, where the
     type is an optional one."""
     if not kind.is_optional:
-        return np.empty(shape, kind.dtype)
+        return room(shape, kind.dtype)
     return masked(np.full(shape, _blank(kind, kind.dtype), kind.dtype), True)
 
 
@@ -286,6 +317,7 @@ def spread(
             array = array[0]
         return np.broadcast_to(array, shape)
     whole = empty(kind, shape) if whole is None else whole
-    # an array without axes that holds a text is no text
-    whole[... if after is None else after] = array if array.ndim else array[()]
+    # the place of one element is a view of it here, so that an array never stands for a text
+    there = whole if after is None else whole[after if Ellipsis in after else (*after, ...)]
+    there[...] = array
     return whole

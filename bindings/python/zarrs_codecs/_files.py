@@ -1,8 +1,11 @@
 """Where a value's bytes are: reading pieces of it, and replacing files."""
 
 import contextlib
+import errno
 import io
 import os
+import re
+import reprlib
 import secrets
 import stat
 from collections.abc import Iterator
@@ -13,6 +16,8 @@ import numpy as np
 from ._cache import State, state_of
 from ._types import AnyArray, listed
 
+# Files that a writer leaves behind that is killed, which nothing reads.
+UNFINISHED = re.compile(r".*\.[0-9a-f]{16}\.tmp", re.DOTALL)
 # How many bytes of a file are fetched at a time, where a read needs more.
 PART_BYTES = 1 << 20
 
@@ -28,6 +33,19 @@ def joined(ranges: AnyArray) -> AnyArray:
     return np.column_stack((ranges[is_first, 0], ranges[is_last, 1]))
 
 
+def opened(path: str) -> int:
+    """The number of a file that is opened to be read. Raises `FileNotFoundError`, and `OSError` of what is no file: the
+    opening of a pipe would wait for another end."""
+    number = os.open(path, os.O_RDONLY | os.O_CLOEXEC | os.O_NONBLOCK)
+    mode = os.fstat(number).st_mode
+    if stat.S_ISREG(mode):
+        return number
+    os.close(number)
+    if stat.S_ISDIR(mode):
+        raise IsADirectoryError(errno.EISDIR, os.strerror(errno.EISDIR), path)
+    raise OSError(errno.EINVAL, "it is no file", path)
+
+
 def _descriptor(file: Any) -> int | None:
     """The number of a plain file, which is read with no position of its own."""
     if isinstance(file, int):
@@ -36,8 +54,31 @@ def _descriptor(file: Any) -> int | None:
     return raw.fileno() if type(raw) is io.FileIO else None
 
 
+def counted(said: Any, most: int | None = None) -> int:
+    """A number of bytes that a file or a store tells. Raises `OSError` where it can't be one."""
+    if isinstance(said, float) and said.is_integer():
+        said = int(said)
+    if not hasattr(said, "__index__") or not 0 <= said or most is not None and said > most:
+        raise OSError(f"a file told {reprlib.repr(said)}, where a number of bytes is due")
+    return int(said)
+
+
+def bytes_of(said: Any, most: int | None = None) -> Any:
+    """Bytes that a file or a store answers, so many at most. Raises `OSError` where they are none."""
+    try:
+        found = memoryview(said).cast("B")
+    except TypeError as error:
+        raise OSError(f"a file answered {reprlib.repr(said)}, where bytes are due") from error
+    if most is not None and len(found) > most:
+        raise OSError(f"a file answered {len(found)} bytes, where {most} were asked for")
+    return found
+
+
 class Source:
     """Where a value's bytes are."""
+
+    # from how many moments what was read of it is, where each call looks it up anew
+    parts = 0
 
     @property
     def part_bytes(self) -> int | None:
@@ -55,6 +96,11 @@ class Source:
     def state(self) -> State | None:
         """What it is, by which a later change is seen; None where one might not be."""
         return None
+
+    def is_same(self, was_refused: bool = False) -> bool:
+        """Whether all that was read is of one value, or may be so; of what was refused, whether it is still the one that
+        was begun with."""
+        return True
 
     def close(self) -> None:
         """Ends what was begun to read it."""
@@ -111,7 +157,7 @@ class File(Source):
         if self._number is not None:
             return os.fstat(self._number).st_size
         end = self._file.seek(0, os.SEEK_END)
-        return int(self._file.tell() if end is None else end)
+        return counted(self._file.tell() if end is None else end)
 
     def state(self) -> State | None:
         return None if self._number is None else state_of(os.fstat(self._number))
@@ -121,8 +167,8 @@ class File(Source):
             return os.preadv(self._number, [view], place)
         self._file.seek(place)
         if self._fills:
-            return self._file.readinto(view) or 0
-        found = self._file.read(len(view))
+            return counted(self._file.readinto(view) or 0, len(view))
+        found = bytes_of(self._file.read(len(view)), len(view))
         view[: len(found)] = found
         return len(found)
 

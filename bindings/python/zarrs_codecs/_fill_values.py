@@ -12,6 +12,7 @@ from ._data_types import DataType
 from ._elements import held
 from .refusals import InvalidFillValue
 
+_ma: Any = np.ma  # numpy says no types of it
 _ABSENT = "00"
 _PRESENT = "01"
 _NOT_A_TIME = -(1 << 63)
@@ -140,10 +141,15 @@ def _float_json(value: Any) -> Any:
     return "NaN" if value.tobytes() == np.array(np.nan, value.dtype).tobytes() else f"0x{bits}"
 
 
+def is_absent(element: Any) -> bool:
+    """Whether an element, as numpy holds it, is an absent one: of raw bytes it is a void that has a mask of its own."""
+    return element is _ma.masked or (isinstance(element, _ma.mvoid) and bool(np.all(_ma.getmask(element))))
+
+
 def fill_json(kind: DataType, element: Any) -> Any:
     """An element, as numpy holds it, in the form of `zarr.json`."""
     if kind.is_optional:
-        return None if element is np.ma.masked else [_plain_json(kind, element)]
+        return None if is_absent(element) else [_plain_json(kind, element)]
     return _plain_json(kind, element)
 
 

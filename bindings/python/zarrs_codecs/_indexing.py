@@ -8,7 +8,7 @@ from typing import Any, NamedTuple
 
 import numpy as np
 
-from ._selections import MOST_APART, SPARSE, Box, as_places, entries_of
+from ._selections import MOST_APART, SPARSE, Box, as_places, box, entries_of
 from ._types import AnyArray, Shape, listed
 
 
@@ -26,7 +26,8 @@ class Step(NamedTuple):
 
     def points(self, box: Box) -> tuple[Any, ...]:
         """The elements' places on each axis of the array, to be broadcast."""
-        inside, found = iter(self.inside), []
+        inside = iter(self.inside)
+        found: list[Any] = []
         for entry in self.place:
             if entry is None:
                 next(inside)
@@ -122,7 +123,10 @@ class Outer:
         self._whole = shape
         self._axes: list[_Axis] = []
         number = 0
-        for entry in entries_of(selection, len(shape))[0]:
+        entries = entries_of(selection, len(shape))[0]
+        # what is no index is refused where the answer has no elements too
+        box(tuple(slice(None) if is_list(entry) else entry for entry in entries), shape)
+        for entry in entries:
             if entry is None:
                 self._axes.append(_Axis(entry, None))
                 continue
@@ -157,6 +161,8 @@ class Outer:
 
     def steps(self, chunks: Shape) -> Iterator[Step]:
         """Reads or writes of one chunk each, of all chunks with places of the index."""
+        if 0 in self.shape:
+            return
         stretches = [list(self._of_chunks(axis, chunks)) for axis in self._kept]
         for each in itertools.product(*stretches):
             entries = iter([one[0] for one in each])

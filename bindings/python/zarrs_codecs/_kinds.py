@@ -1,5 +1,6 @@
 """Elements of one length and moments, from whatever numpy or Python holds them in."""
 
+import numbers
 import reprlib
 from typing import Any
 
@@ -33,17 +34,26 @@ def of_kind(kind: DataType, array: AnyArray) -> AnyArray:
 
 
 def _moments(kind: DataType, array: AnyArray) -> AnyArray:
-    """Python's moments, and those in texts, in the unit that they need."""
+    """Python's moments, and those in texts, in the unit that they need. Numbers beside them are none, which numpy would
+    take for days or years."""
+    elements = listed(array.ravel()) if array.dtype == object else []
+    wrong = [one for one in elements if kind.dtype.kind == "M" and isinstance(one, numbers.Number)]
+    if wrong:
+        raise TypeError(f"an element isn't of {kind.name}: {reprlib.repr(wrong[0])}")
     try:
         return array.astype(f"{kind.dtype.kind}8")
     except ValueError as error:
-        refused: type[Exception] = TypeError if array.dtype == object else InvalidElement
+        is_texts = all(isinstance(one, str) for one in elements)
+        refused: type[Exception] = InvalidElement if is_texts else TypeError
         raise refused(f"an element isn't of {kind.name}: {error}") from error
 
 
 def _of_python(kind: DataType, array: AnyArray) -> AnyArray:
     """Python's texts, byte strings or bytes."""
     letter, elements = kind.dtype.kind, listed(array.ravel())
+    if letter == "U" and all(isinstance(one, bytes) for one in elements):
+        # numpy has byte strings for texts
+        letter = "S"
     for one in elements:
         if not isinstance(one, _PYTHONS[letter]):
             raise TypeError(f"an element isn't of {kind.name}: {reprlib.repr(one)}")

@@ -1,6 +1,9 @@
 """Which codec refuses, and for which key: found by asking the library about lists that differ from the refused one."""
 
+import bisect
+import contextlib
 import itertools
+import json
 import reprlib
 from collections.abc import Callable, Iterator
 from typing import Any
@@ -54,6 +57,9 @@ OF_VALUES = {
 _OF_ELEMENTS = ("OffsetTooLarge", "OffsetNotKept", "NotInPlace")
 # Those of a codec as such.
 _OF_NO_KEY = ("UnknownName", "IndexNotFixed")
+
+# So many bytes of codecs are asked about to find where a refusal is, which takes some 50 ms.
+_MOST_BYTES = 1 << 20
 
 # How many bytes longer the library's bytes-to-bytes codecs make a value.
 _LONGER = {"crc32c": 4}
@@ -109,16 +115,36 @@ def _willing(ask: Ask) -> Any:
     return next((codec for codec in _WILLING if ask([codec]) == "Done"), None)
 
 
+class _Spent(Exception):
+    """So much was asked already that no more is."""
+
+
+def _bounded(ask: Ask, codecs: list[Any]) -> Ask:
+    """The same, until as much was asked as is worth it to say where a refusal is."""
+    left = iter(range(_MOST_BYTES // len(json.dumps(codecs)) + 1))
+
+    def asked(other: Any) -> str:
+        if next(left, None) is None:
+            raise _Spent
+        return ask(other)
+
+    return asked
+
+
+def _comes(ask: Ask, begin: list[Any], refusal: str, willing: Any) -> bool:
+    """Whether the refusal comes with the first codecs of a list, whatever follows them."""
+    if refusal == "MultipleArrayToBytes":
+        return ask(begin) == refusal
+    answer = ask([*begin, willing])
+    return answer == refusal or answer != "Done" and ask(begin) == refusal
+
+
 def _place(ask: Ask, codecs: list[Any], refusal: str, willing: Any) -> int | None:
-    """The place of the first codec with which the refusal comes, whatever follows it."""
-    for place in range(len(codecs)):
-        begin = codecs[: place + 1]
-        answers = {ask(begin)}
-        if refusal != "MultipleArrayToBytes":
-            answers.add(ask([*begin, willing]))
-        if refusal in answers and "Done" not in answers:
-            return place
-    return None
+    """The place of the first codec with which the refusal comes, whatever follows it; it comes with all longer lists."""
+    if not codecs or not _comes(ask, codecs, refusal, willing):
+        return None
+    counts = range(1, len(codecs) + 1)
+    return bisect.bisect_left(counts, True, key=lambda count: _comes(ask, codecs[:count], refusal, willing))
 
 
 def _lists_of(configuration: Any, right: dict[str, list[Any]]) -> dict[str, list[Any]]:
@@ -202,18 +228,24 @@ def _first_key(ask: Ask, codec: dict[str, Any], configuration: dict[str, Any], r
 
 def locate(error: Refused, ask: Ask, codecs: list[Any]) -> None:
     """Puts into a refusal which of these codecs it is of, and which key, where that is found."""
+    with contextlib.suppress(_Spent):
+        _locate(error, _bounded(ask, codecs), codecs)
+
+
+def _locate(error: Refused, ask: Ask, codecs: list[Any]) -> None:
+    """The same, level by level of lists in codecs."""
     refusal = type(error).__name__
-    inner: list[tuple[str, int, str]] = []
     key: str | None = None
     while (willing := _willing(ask)) is not None:
         place = _place(ask, codecs, refusal, willing)
         if place is None:
-            break
+            error.key = key
+            return
         codec, begin = codecs[place], codecs[:place]
         if error.codec is None:
             error.codec = place, name_of(codec)
         else:
-            inner.append((str(key), place, name_of(codec)))
+            error.inner = (*error.inner, (str(key), place, name_of(codec)))
 
         def ask_one(other: Any, ask: Ask = ask, begin: list[Any] = begin, willing: Any = willing) -> str:
             answer = ask([*begin, other])
@@ -221,10 +253,10 @@ def locate(error: Refused, ask: Ask, codecs: list[Any]) -> None:
 
         found = _refused_list(ask_one, codec, refusal)
         if found is None:
-            key = None if refusal in _OF_NO_KEY else _key(ask_one, codec, refusal)
-            break
+            error.key = None if refusal in _OF_NO_KEY else _key(ask_one, codec, refusal)
+            return
         key, codecs, ask = found
-    error.inner, error.key = tuple(inner), key
+    error.key = key
 
 
 def _is_refused_by(codec: Any, value: Any) -> tuple[bool, Any]:

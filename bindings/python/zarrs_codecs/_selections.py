@@ -82,7 +82,11 @@ class Box:
     @property
     def shape(self) -> Shape:
         """That of the elements."""
-        return tuple(map(len, self.on_axes))
+        try:
+            return tuple(map(len, self.on_axes))
+        except OverflowError:
+            # an axis is longer than Python counts
+            return tuple(max((one.stop - one.start + one.step - 1) // one.step, 0) for one in self.on_axes)
 
     @property
     def has_gaps(self) -> bool:
@@ -92,7 +96,7 @@ class Box:
     def numbers(self) -> tuple[int, AnyArray]:
         """That it is a box, and its starts and lengths."""
         starts = [one.start for one in self.on_axes]
-        return BOX, np.array([*starts, *map(len, self.on_axes)], np.uint64)
+        return BOX, np.array([*starts, *self.shape], np.uint64)
 
     def arguments(self) -> Arguments:
         """What C is given."""
@@ -118,8 +122,9 @@ class Box:
             if one.step > 1 and is_closed:
                 steps[axis] = one.step
                 on_axes[axis] = range(one.start, one[-1] + 1)
-            size = len(on_axes[axis]) if sizes is None else sizes[axis]
-            is_whole = is_whole and on_axes[axis].step == 1 and len(on_axes[axis]) >= size
+            one = on_axes[axis]
+            size = -((one.start - one.stop) // one.step) if sizes is None else sizes[axis]
+            is_whole = is_whole and one.step == 1 and one.stop - one.start >= size
             between *= size
         return Box(on_axes, _stepped(self.after, steps))
 
@@ -159,7 +164,10 @@ class Box:
 
     def _rows(self) -> AnyArray:
         """The elements' indices."""
-        places = [np.arange(one.start, one.stop, one.step, dtype=np.uint64) for one in self.on_axes]
+        if not all(self.on_axes):
+            return np.empty((0, len(self.on_axes)), np.uint64)
+        # numpy's own steps of so many go by floats
+        places = [np.uint64(one.start) + np.uint64(one.step) * np.arange(len(one), dtype=np.uint64) for one in self.on_axes]
         grid = np.meshgrid(*places, indexing="ij")
         rows: AnyArray = np.stack(grid, axis=-1).reshape(-1, len(places))
         return rows
@@ -208,7 +216,7 @@ def _place(index: Any, axis: int, size: int) -> int:
 
 def _rising(places: range) -> range:
     """The same places from the lowest on, and with no step where there is no second one."""
-    if len(places) < 2:
+    if not places[1:]:
         return range(places[0], places[0] + 1) if places else range(0)
     return places if places.step > 0 else places[::-1]
 
@@ -250,8 +258,7 @@ def as_places(said: Any) -> AnyArray:
 
 def _check_inside(rows: AnyArray, shape: Shape) -> None:
     """Raises `OutOfBounds` where an element's indices are outside, as the library does, and says which."""
-    sizes = np.array(shape, np.uint64)
-    outside = (rows < 0) | (rows.astype(np.uint64) >= sizes)
+    outside = rows >= np.array(shape, np.uint64)
     if outside.any():
         row = int(outside.any(axis=1).argmax())
         raise OutOfBounds(f"row {row} of the list is outside of {shape}")
@@ -265,10 +272,12 @@ def _rows(selection: Any, shape: Shape) -> Rows:
         rows = rows[:, np.newaxis]
     if rows.dtype.kind not in "iu" or rows.ndim != 2 or rows.shape[1] != len(shape):
         raise IndexError(f"indices are rows of {len(shape)} integers")
-    if rows.dtype.kind == "i" and (rows < 0).any():
-        rows = np.where(rows < 0, rows + np.array(shape), rows)
-    _check_inside(rows, shape)
+    is_behind = rows < 0
     rows = np.ascontiguousarray(rows, np.uint64)
+    if is_behind.any():
+        # 2^64 numbers go round: one that stays below zero is above each size
+        rows = np.where(is_behind, rows + np.array(shape, np.uint64), rows)
+    _check_inside(rows, shape)
     return Rows(rows if rows.flags.aligned else rows.copy())
 
 

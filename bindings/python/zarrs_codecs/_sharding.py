@@ -28,6 +28,7 @@ from .refusals import (
     InvalidFillValue,
     NotInPlace,
     Refused,
+    Syntax,
     ZeroSize,
 )
 
@@ -61,13 +62,21 @@ def is_sharded(codecs: Sequence[Any]) -> bool:
 
 
 def has_pythons(codecs: Any) -> bool:
-    """Whether these codecs are `sharding_indexed` alone, and its inner chunks have codecs that Python runs."""
+    """Whether these codecs are `sharding_indexed` alone, and its inner chunks have codecs that Python runs. Raises `Syntax`
+    where they are nested too deeply."""
+    try:
+        return _has_pythons(codecs)
+    except RecursionError as error:
+        raise Syntax("codecs are nested too deeply") from error
+
+
+def _has_pythons(codecs: Any) -> bool:
     if not isinstance(codecs, (list, tuple)) or not is_sharded(codecs):
         return False
     said = codecs[0].get("configuration")
     inner = said.get("codecs") if isinstance(said, dict) else None
     try:
-        return isinstance(inner, (list, tuple)) and (bool(split(list(inner))[1]) or has_pythons(inner))
+        return isinstance(inner, (list, tuple)) and (bool(split(list(inner))[1]) or _has_pythons(inner))
     except Refused:
         # one of them, with a key that is wrong
         return True
@@ -86,31 +95,34 @@ def array_chain(codecs: Any, shape: Sequence[int], data_type: Any, fill_value: A
 def say_inner_chunk(
     error: Refused, chain: Chain, fetched: Fetched, selection: Any, read: Callable[[Selection], Any]
 ) -> None:
-    """Puts into the library's refusal of a read which inner chunk it is of, where the value is a shard: Python reads a part
-    of the same, inner chunk by inner chunk. The library reads parts by the call that is given."""
+    """Puts into the library's refusal of a read which inner chunk it is of, where the value is a shard: Python looks at the
+    index, and then reads a part of the same, inner chunk by inner chunk. The library reads parts by the call that is
+    given."""
     try:
         if chain._cut is None:
             return
         order, parts = chain._cut
-        chosen = _narrowed(error, select(selection, chain.shape), read)
-        parts._read_fetched(fetched.anew(), chosen.moved(order), None)
+        chosen = select(selection, chain.shape)
+        if type(error) is InvalidByteRange:
+            parts._check_index(fetched.anew(), chosen.moved(order))
+        parts._read_fetched(fetched.anew(), _narrowed(error, chosen, read).moved(order), None)
     except Refused as found:
         if type(found) is type(error):
             error.args, error.codec, error.inner = found.args, (len(chain._inner_list) - 1, NAME), found.inner
 
 
 def _narrowed(error: Refused, chosen: Selection, read: Callable[[Selection], Any]) -> Selection:
-    """A part of a selection whose read is refused alike, found by halves: one of few elements, where there is one."""
+    """A part of a selection whose read is refused alike, found by halves: one of few elements, where there is one. The last
+    half is the one where the others aren't refused."""
     while (count := math.prod(chosen.shape)) > _FEW_ELEMENTS:
-        for part in chosen.parts(-(-count // 2)):
+        *others, chosen = chosen.parts(-(-count // 2))
+        for part in others:
             try:
                 read(part)
             except Refused as found:
                 if type(found) is type(error):
                     chosen = part
                     break
-        else:
-            break
     return chosen
 
 
@@ -292,6 +304,44 @@ class ShardedChain(Chain):
         if begin + size > length:
             raise _refusal(InvalidByteRange, f"inner chunk {number} ends at {begin + size}, behind {length} bytes")
         return begin, begin + size
+
+    def _numbers(self, chosen: Selection) -> AnyArray:
+        """The numbers of the inner chunks with elements of a selection, in order."""
+        if isinstance(chosen, Rows):
+            grid = chosen.rows.astype(np.int64) // np.array(self._chunk_shape, np.int64)
+            each: AnyArray = np.ravel_multi_index(tuple(grid.T), self._grid) if self._grid else np.zeros(1, np.int64)
+            return np.unique(each)
+        numbers: AnyArray = np.zeros(1, np.int64)
+        for one, size, count in zip(chosen.on_axes, self._chunk_shape, self._grid, strict=True):
+            places = np.unique(np.arange(one.start, one.stop, one.step, dtype=np.int64) // size)
+            numbers = (numbers[:, np.newaxis] * count + places).ravel()
+        return numbers
+
+    def _check_index(self, fetched: Fetched, chosen: Selection) -> None:
+        """Raises the refusal of the first entry of an inner chunk with elements of a selection that is behind the value."""
+        numbers, length = self._numbers(chosen), fetched.length
+        entries = self._entries(fetched.index(*self._index_range(length)))
+        for place in np.flatnonzero(self._ranges(entries, numbers, length)[1])[:1]:
+            self._range(entries, int(numbers[place]), length)
+
+    def _ranges(self, entries: AnyArray, numbers: AnyArray, length: int) -> tuple[AnyArray, AnyArray]:
+        """The bytes of those of these inner chunks that are stored, rows of a start and an end, and which of all are behind
+        the end of a value of so many bytes."""
+        begins, sizes = entries[numbers].T
+        is_there = (begins != np.uint64(_ABSENT)) | (sizes != np.uint64(_ABSENT))
+        is_behind = is_there & ((sizes > length) | (begins > np.uint64(length) - np.minimum(sizes, np.uint64(length))))
+        is_right = is_there & ~is_behind
+        rows = np.column_stack((begins[is_right], begins[is_right] + sizes[is_right]))
+        return rows, is_behind
+
+    def _whole_ranges(self, fetched: Fetched, chosen: Selection) -> AnyArray:
+        """The bytes of all inner chunks with elements of a selection, in the order of their first ones, of a value whose
+        index was fetched."""
+        entries = self._entries(fetched.there(*self._index_range(fetched.length)))
+        rows, _ = self._ranges(entries, self._numbers(chosen), fetched.length)
+        rows = rows[rows[:, 0] < rows[:, 1]]
+        in_order: AnyArray = rows[np.argsort(rows[:, 0], kind="stable")]
+        return in_order
 
     def _stored(self, value: Any) -> list[Any]:
         """The stored bytes of each inner chunk of a value, None of those that aren't there."""
@@ -495,6 +545,10 @@ class ShardedChain(Chain):
         for number, inside, there in self._pieces(meant):
             part = stored[number]
             old = self._full(self._fill) if part is None else self._opened(number, part)
-            old[tuple(inside.T) if isinstance(meant, Rows) else inside] = new[there]
+            if isinstance(meant, Rows):
+                # without axes the last element stands; an array of it numpy would put into an array of objects as it is
+                old[tuple(inside.T)] = new[there] if old.ndim else new[there][-1]
+            else:
+                old[inside] = new[there]
             stored[number] = self._part(old)
         return self._joined(stored)

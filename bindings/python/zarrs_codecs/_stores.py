@@ -2,18 +2,30 @@
 
 import io
 import os
+import re
+import reprlib
+import time
 from collections.abc import Iterator
 from contextlib import closing, contextmanager
+from datetime import datetime, timezone
+from email.utils import parsedate_to_datetime
 from typing import Any
 
 import numpy as np
 
 from ._cache import State
-from ._files import File, Source, joined, replace
+from ._files import File, Source, bytes_of, counted, joined, opened, replace
 from ._types import AnyArray, listed
 
-# Words of `info` that tell of a change, in whatever case.
-_CHANGES = ("etag", "modified", "mtime", "created", "updated", "version", "generation", "md5", "digest", "checksum")
+# Words of `info` that tell of a change, in whatever case: tags, of which each value has its own, and times.
+_TAG = re.compile("etag|generation|md5|digest|checksum|^version(_?id)?$", re.IGNORECASE)
+_TIME = re.compile("modified|mtime|created|updated", re.IGNORECASE)
+# Those that a read may change.
+_OF_READS = re.compile("^a?time$|access", re.IGNORECASE)
+# A file that was changed fewer seconds ago may be changed again and have the same time: some stores tell whole seconds.
+_SETTLED_SECONDS = 2
+# A greater number is one of milliseconds.
+_MOST_SECONDS = 1e11
 
 
 class Folder:
@@ -21,11 +33,11 @@ class Folder:
 
     def open(self, path: str) -> Source:
         """The value of a file. Raises `FileNotFoundError`."""
-        return _Own(os.open(path, os.O_RDONLY | os.O_CLOEXEC))
+        return _Own(opened(path))
 
     def read(self, path: str) -> bytes:
         """All bytes of a file. Raises `FileNotFoundError`."""
-        with open(path, "rb") as file:
+        with open(opened(path), "rb") as file:
             return file.read()
 
     def check(self, path: str) -> None:
@@ -56,8 +68,7 @@ class Store(Folder):
 
     def read(self, path: str) -> bytes:
         with _named(path), closing(self._store.open(path)) as file:
-            found: bytes = file.read()
-            return found
+            return bytes(bytes_of(file.read()))
 
     def check(self, path: str) -> None:
         self.open(path).close()
@@ -92,38 +103,76 @@ class _Opened(File):
         self._file.close()
 
 
+def _moment(said: Any) -> float | None:
+    """The moment that `info` tells, in seconds; None where it isn't known."""
+    if isinstance(said, str):
+        try:
+            said = datetime.fromisoformat(re.sub("Z$", "+00:00", said))
+        except ValueError:
+            try:
+                said = parsedate_to_datetime(said)
+            except (TypeError, ValueError):
+                return None
+    if isinstance(said, datetime):
+        # of one without a zone the later one of the two that may be meant
+        zones = (None, timezone.utc) if said.tzinfo is None else (said.tzinfo,)
+        return max(said.replace(tzinfo=zone).timestamp() for zone in zones)
+    if type(said) not in (int, float):
+        return None
+    return float(said) / (1000 if said > _MOST_SECONDS else 1)
+
+
 class _Ranged(Source):
-    """A file of a store of which several ranges are fetched by one call."""
+    """A file of a store of which several ranges are fetched by one call, each time by its path."""
 
     def __init__(self, store: Any, path: str) -> None:
         self._store, self._path = store, path
-        self._info: dict[str, Any] = store.info(path)
+        self._info = self._told()
         if self._info.get("type") == "directory":
             raise FileNotFoundError(f"{path} is a folder")
         if self._info.get("size") is None:
             raise OSError(f"the store doesn't tell how many bytes {path} has")
+
+    def _told(self) -> dict[str, Any]:
+        """What the store tells of the file, but for what a read may change."""
+        said = self._store.info(self._path)
+        return {name: said[name] for name in sorted(said) if not _OF_READS.search(name)}
 
     @property
     def part_bytes(self) -> int | None:
         return None
 
     def length(self) -> int:
-        return int(self._info["size"])
+        return counted(self._info["size"])
 
     def state(self) -> State | None:
-        said = {name: self._info[name] for name in sorted(self._info)}
-        if not any(word in name.lower() and value for name, value in said.items() for word in _CHANGES):
+        times = [_moment(value) for name, value in self._info.items() if _TIME.search(name) and value]
+        settled = time.time() - _SETTLED_SECONDS
+        has_tag = any(_TAG.search(name) and value for name, value in self._info.items())
+        if not has_tag and (not times or any(one is None or one > settled for one in times)):
             return None
-        return self.length(), repr(said)
+        return self.length(), repr(self._info)
+
+    def is_same(self, was_refused: bool = False) -> bool:
+        if self.parts < 2 and not was_refused:
+            return True
+        try:
+            with _named(self._path):
+                return self._told() == self._info
+        except FileNotFoundError:
+            return False
 
     def pieces(self, ranges: AnyArray) -> AnyArray:
         if not len(ranges):
             return np.empty(0, np.uint8)
+        self.parts += 1
         begins, ends = (listed(column) for column in joined(ranges).T)
         parts = self._store.cat_ranges([self._path] * len(begins), begins, ends)
+        if not isinstance(parts, (list, tuple)) or len(parts) != len(begins):
+            raise OSError(f"a store answered {reprlib.repr(parts)}, where {len(begins)} parts are due")
         for part, begin, end in zip(parts, begins, ends, strict=True):
             if isinstance(part, BaseException):
                 raise part
-            if len(part) != end - begin:
+            if len(bytes_of(part, end - begin)) < end - begin:
                 raise EOFError("the file ended while it was read")
         return np.frombuffer(bytearray().join(parts), np.uint8)

@@ -16,8 +16,8 @@ from ._chunks import Chunks, Each, one_by_one
 from ._data_types import data_type as data_type_of
 from ._data_types import zarrs_own
 from ._elements import empty, held, spread
-from ._files import replace
-from ._fill_values import fill_json
+from ._files import UNFINISHED, replace
+from ._fill_values import fill_json, is_absent
 from ._indexing import Outer, Points, Step, is_list
 from ._metadata import made, metadata_of, parsed, usual_codecs
 from ._selections import Box, box
@@ -75,7 +75,7 @@ class Array:
     `FileNotFoundError` is raised where it isn't there or has no `zarr.json` any more. Raises `InvalidMetadata`
     where its `zarr.json` is of no such array, the refusals of `Chain`, those of `decode` where a chunk is read
     whole and else those of `read`, `InvalidBytesLength` for a chunk of another length than its codecs always
-    write, `IndexError` for an index that is none, `ValueError` for elements that don't broadcast or aren't of
+    write, `OSError` for what is no file, as a pipe is, `IndexError` for an index that is none, `ValueError` for elements that don't broadcast or aren't of
     the type, and `TypeError` for those of another kind.
 
     `shape`, `dtype`, `ndim` and `size` are as numpy has them, and `chunks` is the shape of a chunk;
@@ -86,7 +86,8 @@ class Array:
     `seek`, and `readinto` or `read`, and one that isn't there is a `FileNotFoundError` or a `KeyError`, as
     `zipfile.ZipFile` has it. Where it has `info` and `cat_ranges`, as fsspec's file systems have, all ranges of a
     round of `Chain.read_from` are fetched by one call, and what `info` tells must differ
-    where a file was changed, else nothing of it is kept. Such an array isn't written: `io.UnsupportedOperation` is
+    where a file was changed, else nothing of it is kept; a read of several calls is made anew where it was changed
+    meanwhile, and `OSError` is raised where it is so each time. Such an array isn't written: `io.UnsupportedOperation` is
     raised.
 
     >>> import tempfile
@@ -146,7 +147,7 @@ class Array:
         threads: int = 1,
     ) -> "Array":
         """A new array, in a folder that isn't there or is empty: else `FileExistsError` is raised, and the
-        refusals of opening such an array where there is none.
+        refusals of opening such an array where there is none; what a killed writer left behind doesn't matter.
 
         `data_type` is as `zarr.json` has it, or numpy's; `fill_value` is so too, or as Python has it, and None is
         zero, empty or absent.
@@ -172,7 +173,7 @@ class Array:
         whole = bytes_of(metadata)
         parsed(metadata)
         os.makedirs(folder, exist_ok=True)
-        if any(os.scandir(folder)):
+        if not all(UNFINISHED.fullmatch(entry.name) for entry in os.scandir(folder)):
             raise FileExistsError(f"{os.fspath(folder)} isn't empty")
         replace(os.path.join(os.path.abspath(folder), "zarr.json"), whole)
         return cls(folder, cache=cache, threads=threads)
@@ -198,7 +199,7 @@ class Array:
         ...     print(Array.create(folder, [3], [2], "float32", fill_value="NaN").fill_value)
         nan
         """
-        return None if self._fill is np.ma.masked else self._fill
+        return None if is_absent(self._fill) else self._fill
 
     @property
     def nbytes(self) -> int:
@@ -277,6 +278,9 @@ class Array:
         return Path(self._chunks.path(chunk))
 
     def _parts(self, on_axes: list[range]) -> Iterator[Part]:
+        """The parts of a basic index, one of each chunk that has some of it."""
+        if not all(on_axes):
+            return
         touched = [_on_axis(on_axis, size) for on_axis, size in zip(on_axes, self.chunks)]
         for each in itertools.product(*touched):
             numbers, inside, there = zip(*each) if each else ((), (), ())

@@ -3,7 +3,6 @@
 import contextlib
 import copy
 import ctypes
-import itertools
 import math
 import reprlib
 from collections.abc import Callable, Iterable, Iterator, Sequence
@@ -15,13 +14,15 @@ import numpy.typing as npt
 from numpy.typing import ArrayLike
 
 from ._buffers import counted, lent, overlaps, start
-from ._bytes_codecs import hint, split
+from ._bytes_codecs import hint, most_of_each, split
 from ._data_types import DataType
 from ._data_types import data_type as data_type_of
 from ._data_types import zarrs_own
-from ._elements import empty, given, held, put, spread, takes, told, told_into, told_many
+from ._dense import is_dense, taken
+from ._elements import empty, given, held, put, shape_of, spread, takes, told, told_into, told_many
 from ._files import PART_BYTES, File, Source
 from ._header import Header, copied, json_of
+from ._lacking import lacking_in_round
 from ._library import SHORT, EditSize, checked, library
 from ._locating import OF_CODECS, OF_VALUES, locate, locate_stored
 from ._rounds import Fetched, at_hand, behind_transpositions, has_shards_inside, layout_of, told_ranges, with_whole_inside
@@ -42,13 +43,6 @@ _GAP_BYTES = 1 << 14
 _FEW_APART = 1 << 12
 # The numbers that a first try at a plan has room for.
 _PLAN_NUMBERS = 1 << 17
-# So many rounds fetch what they lack alone, and one more all that isn't there, of a shard the inner chunks that are
-# needed: each round reads again what those before it have read.
-_MOST_ROUNDS = 8
-# Behind so many the inner chunks of a shard are fetched whole that are needed.
-_FEW_ROUNDS = 2
-# Of so many ranges the library tells all, however short they are.
-_TOLD_AT_ONCE = 1 << 10
 # How many bytes a value has of which is asked what a read takes of it.
 _LONG = 1 << 40
 _REPRESENTATIONS = ("fixed", "bounded", "unbounded")
@@ -106,7 +100,8 @@ class Chain:
     A value goes in as any buffer and comes out as an array of `uint8`. A selection is a basic index of
     numpy, or a list or an array of elements' indices, a row for each. Each refusal is an exception of the
     library's name, below `Refused`; `OutOfMemory` may come in place of any answer. A chain has no state,
-    so threads may use one together.
+    so threads may use one together. numpy's arrays have 32 axes at most, from its version 2 on 64: of a chunk with more,
+    elements are read and written by lists of indices, and else numpy's `ValueError` comes.
 
     >>> chain = Chain([{"name": "bytes", "configuration": {"endian": "big"}}], (2,), "int16", -1)
     >>> chain.shape, chain.dtype, chain.encode([1, 2])
@@ -280,11 +275,16 @@ class Chain:
             stored = self._run(number, "decode", stored)
         return stored
 
+    @cached_property
+    def _most(self) -> list[int | None]:
+        """How many bytes each of the codecs that Python runs opens to at most."""
+        return most_of_each(self._outer, *self.representation)
+
     def _run(self, number: int, way: str, value: Any) -> Bytes:
         """What one of the codecs that Python runs makes of a value; a refusal says that it is this one's."""
         codec = self._outer[number]
         try:
-            return codec.decode(value) if way == "decode" else codec.encode(value)
+            return codec.decode(value, self._most[number]) if way == "decode" else codec.encode(value)
         except Refused as error:
             error.codec = len(self._inner_list) + number, codec.name
             raise
@@ -314,8 +314,8 @@ class Chain:
         >>> Chain(["packbits"], (9,), "bool").encode([True] * 9)
         array([255,   1], dtype=uint8)
         """
-        if np.shape(array) != self.shape:
-            raise ValueError(f"an array of shape {np.shape(array)}, where {self.shape} is due")
+        if shape_of(array) != self.shape:
+            raise ValueError(f"an array of shape {shape_of(array)}, where {self.shape} is due")
         return self._encode(held(self._type, array))
 
     @_naming
@@ -340,8 +340,11 @@ class Chain:
         """
         inner = self._inner(value)
         call, length = self._decoding(inner)
+        kind, size = self.representation
+        # for a value of another length than is due, which is refused, no memory is taken
+        shape = self.shape if kind != "fixed" or length == size else (0,)
         with self._saying_inner_chunk(at_hand(inner), ..., partial(self._read, inner)):
-            return self._told(call, self.shape, inner, length, out)
+            return self._told(call, shape, inner, length, out)
 
     def _decoding(self, inner: Any) -> tuple[Callable[..., int], int]:
         """C's call that decodes the library's value, and how many bytes that has."""
@@ -437,9 +440,20 @@ class Chain:
         """
         return self._read_inner(self._inner(value), selection, out)
 
+    def _read_dense(self, inner: Any, meant: Selection, out: AnyArray | None) -> AnyArray:
+        """The same of a value that is decoded whole."""
+        call, length = self._decoding(inner)
+        elements = taken(told(self._type, call, self.shape, length + 64), meant)
+        return put(elements if meant.after is None else elements[meant.after], out)
+
     def _read_inner(self, inner: Any, selection: Any, out: AnyArray | None = None) -> AnyArray:
         """The same of the library's value."""
-        chosen = self._near(select(selection, self.shape), is_at_hand=True)
+        meant = select(selection, self.shape)
+        if inner is not None and is_dense(self, meant, memoryview(inner).nbytes, is_at_hand=True):
+            # of what is refused so another part may be what is damaged
+            with contextlib.suppress(Refused):
+                return self._read_dense(inner, meant, out)
+        chosen = self._near(meant, is_at_hand=True)
         with self._saying_inner_chunk(at_hand(inner), selection, partial(self._read, inner)):
             if chosen.after is None:
                 return self._read(inner, chosen, out)
@@ -633,11 +647,13 @@ class Chain:
         is needed of all inner chunks at once, of texts those inner chunks whole; over shards in shards the
         indexes of all inner shards in between; over other codecs the whole value. That is three rounds at most,
         and one more for each further level of shards in shards. Behind `reshape` or `zarrs.squeeze` shards in shards
-        go one after the other, and behind eight rounds those that are needed come whole. Each range is a read
+        go one after the other, and behind eight rounds those that are needed come whole. Of a shard of over a thousand inner
+        chunks of which many are needed the whole value comes at once. Each range is a read
         of the file by itself. Of a slice with a step it leaves out what is between two places where that's
         16 KiB of the file or more, of a shard also what isn't in one piece there and the inner chunks that have
-        none of them. Raises what `read` does of such a value, also of what it fetched between two places, what the
-        file raises, and `EOFError` where it is cut meanwhile.
+        none of them. Raises what `read` does of such a value, also of what it fetched between two places; `read` may
+        look at more of these, and where two things are damaged each may name another one. Raises what the file raises,
+        `OSError` where it answers what no file does, and `EOFError` where it is cut meanwhile.
 
         >>> import io
         >>> Chain(["bytes"], (4,), "uint8").read_from(io.BytesIO(b"abcd"), slice(1, 3))
@@ -674,7 +690,14 @@ class Chain:
 
     def _read_in_rounds(self, fetched: Fetched, selection: Any, out: AnyArray | None) -> AnyArray:
         """The elements of a selection, by as many rounds as it takes, up to a number."""
-        chosen = self._near(select(selection, self.shape))
+        meant = select(selection, self.shape)
+        if is_dense(self, meant, fetched.length):
+            missing = fetched.missing()
+            if missing.size:
+                fetched.fetch(missing)
+            with contextlib.suppress(Refused):
+                return self._read_dense(fetched.there(0, fetched.length), meant, out)
+        chosen = self._near(meant)
         read = partial(self._read_round_by_round, fetched)
         with self._saying_inner_chunk(fetched, selection, read):
             elements = read(chosen)
@@ -688,7 +711,7 @@ class Chain:
             # the ranges of rows that stand together are one
             asked, back = asked.in_order(self._layout[0])
         while True:
-            lacking = self._lacking_in_round(rounds, fetched, asked)
+            lacking = lacking_in_round(self, rounds, fetched, asked)
             if lacking.size:
                 fetched.fetch(lacking)
             arguments = *fetched.arguments(), *asked.arguments()
@@ -709,6 +732,13 @@ class Chain:
         return None if codecs is None else self._said.text(json_of(codecs))
 
     @cached_property
+    def _finest(self) -> tuple[Shape, int] | None:
+        """The sizes of the innermost inner chunks and how many there are; None where these aren't known, or there are
+        none."""
+        sizes = layout_of(self._inner_list, len(self.shape), is_finest=True)[1] if self._whole_inside else None
+        return None if sizes is None else (sizes, math.prod(-(-one // size) for one, size in zip(self.shape, sizes)))
+
+    @cached_property
     def _cut(self) -> "tuple[tuple[int, ...], ShardedChain] | None":
         """The order of the axes behind transpositions, and the shard behind these as Python cuts it; None where there is
         another codec."""
@@ -723,43 +753,6 @@ class Chain:
     def _has_shards_inside(self) -> bool:
         """Whether a codec is a shard whose inner chunks are shards."""
         return has_shards_inside(self._inner_list)
-
-    @property
-    def _most_rounds(self) -> int:
-        """How many rounds fetch what they lack, before one that fetches the inner chunks that are needed, or all that isn't
-        there."""
-        return _MOST_ROUNDS if self._whole_inside is None or self._has_shards_inside else _FEW_ROUNDS
-
-    def _lacking_in_round(self, rounds: int, fetched: Fetched, chosen: Selection) -> npt.NDArray[np.uint64]:
-        """What a round fetches, behind so many: what the read lacks, of all inner chunks that it lacks something of."""
-        lacking = self._lacking(fetched.arguments(), chosen.arguments())
-        if not lacking.size:
-            return lacking
-        # what is refused so may be read by itself
-        with contextlib.suppress(Refused):
-            together = self._lacking_together(rounds, fetched, chosen)
-            if together is not None and together.size:
-                return together
-        return fetched.missing() if rounds >= self._most_rounds else lacking
-
-    def _lacking_together(
-        self, rounds: int, fetched: Fetched, chosen: Selection
-    ) -> npt.NDArray[np.uint64] | None:
-        """What the read lacks of all inner chunks at once; None where the library tells that by itself. It tells one inner
-        chunk after the other where these hold shards or texts, or so many short ranges are needed of them: then
-        what the shards inside are asked for, or what it lacks if inner chunks are read whole."""
-        if self._has_shards_inside and self._cut is not None and rounds < self._most_rounds:
-            from ._nested import lacking_inside
-
-            return lacking_inside(self._cut, chosen, fetched)
-        if self._whole_inside is None or self._type.is_plain and rounds < self._most_rounds:
-            return None
-        if rounds < self._most_rounds:
-            return self._lacking(fetched.arguments(), chosen.arguments(), self._whole_inside)
-        # over a thousand inner chunks of a few bytes each lack one after the other, so each part of them is asked for
-        parts = (part.arguments() for part in chosen.parts(_TOLD_AT_ONCE))
-        asked = [self._lacking(fetched.arguments(), part, self._whole_inside).tolist() for part in parts]
-        return fetched.without(np.array(sorted(itertools.chain(*asked)), np.uint64).reshape(-1, 2))
 
     def _lacking(
         self, given_pieces: tuple[Any, ...], numbers: tuple[Any, ...], header: bytes | None = None
