@@ -26,6 +26,11 @@ def needs(*names):
     return pytest.mark.skipif(bool(missing), reason=f"{', '.join(missing)} isn't installed")
 
 
+def test_the_package_has_the_repositorys_notices():
+    for name in ("LICENSE", "NOTICE"):
+        assert (PACKAGE / name).read_bytes() == (PACKAGE.parents[1] / name).read_bytes()
+
+
 @needs("pip", "setuptools", "wheel")
 def test_a_wheel_has_the_library_in_it(tmp_path):
     """It is made with no network, and works from where it is unpacked."""
@@ -42,7 +47,7 @@ def test_a_wheel_has_the_library_in_it(tmp_path):
     zipfile.ZipFile(wheel).extractall(tmp_path / "installed")
     for name in ("LICENSE", "NOTICE"):
         (found,) = (tmp_path / "installed").glob(f"*.dist-info/**/{name}")
-        assert found.read_bytes() == (PACKAGE.parents[1] / name).read_bytes()
+        assert found.read_bytes() == (PACKAGE / name).read_bytes()
     assert re.search("^License.*: MIT$", next((tmp_path / "installed").glob("*.dist-info/METADATA")).read_text(), re.M)
     assert (tmp_path / "installed/zarrs_codecs/py.typed").is_file()
     assert list(tmp_path.glob("installed/*/METADATA"))
