@@ -314,6 +314,22 @@ def test_steps_pass_inner_chunks(inside, kind, size, front, rng, monkeypatch):
                 assert len(file.seen) <= 150 * 16 + 32 * len(touched)
 
 
+@pytest.mark.parametrize("front", [[], [transpose([1, 0])]])
+def test_steps_pass_inner_chunks_of_shards_in_shards(front):
+    """Of four times three shards in a shard, with two times three inner chunks of two times one elements each, and indexes
+    of 6 times 16 and 12 times 16 bytes: none that a step passes is fetched."""
+    inside = sharded(1, [LITTLE], chunk_shape=[2, 1][:: -1 if front else 1])
+    chain = Chain([*front, sharded(1, [inside], chunk_shape=[4, 3][:: -1 if front else 1])], (16, 9), "int16")
+    array = np.arange(1, 145, dtype="i2").reshape(16, 9)
+    value = chain.encode(array)
+    for selection in (np.s_[::4, ::4], np.s_[15::-6, 2], np.s_[1::5, 8::-3]):
+        file = RecordingFile(value)
+        same(chain.read_from(file, selection), array[selection])
+        touched = np.argwhere(_marked(array.shape, selection)) // (2, 1)
+        shards = np.unique(touched // (2, 3), axis=0)
+        assert len(file.seen) <= 12 * 16 + len(shards) * 6 * 16 + 4 * len(np.unique(touched, axis=0))
+
+
 TURNED = transpose([1, 0])
 
 

@@ -154,17 +154,15 @@ def behind_transpositions(codecs: list[Any], axes: int) -> tuple[tuple[int, ...]
     return order, []
 
 
-def layout_of(codecs: list[Any], axes: int, is_finest: bool = False) -> tuple[tuple[int, ...], Shape | None]:
-    """The axes in the order of the stored elements, the slowest first, and the sizes of inner chunks, of those in shards
-    inside where the finest are meant; None where these aren't known, or there are none. Codecs of other forms leave the
-    order of the elements as it is."""
+def layout_of(codecs: list[Any], axes: int) -> tuple[tuple[int, ...], Shape | None]:
+    """The axes in the order of the stored elements, the slowest first, and the sizes of the innermost inner chunks; None
+    where these aren't known, or there are none. Codecs of other forms leave the order of the elements as it is."""
     order, rest = behind_transpositions(codecs, axes)
     sizes: Shape | None = None
     while rest and name_of(rest[0]) == "sharding_indexed":
         said = rest[0]["configuration"]
         on_axes = dict(zip(order, said["chunk_shape"], strict=True))
-        if sizes is None or is_finest:
-            sizes = tuple(on_axes[axis] for axis in range(axes))
+        sizes = tuple(on_axes[axis] for axis in range(axes))
         moved, rest = behind_transpositions(said["codecs"], axes)
         order = tuple(order[axis] for axis in moved)
     return order, sizes

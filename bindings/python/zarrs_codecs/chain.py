@@ -395,8 +395,8 @@ class Chain:
 
     @cached_property
     def _layout(self) -> tuple[tuple[int, ...], Shape | None]:
-        """The axes in the order of the stored elements, and the sizes of inner chunks, where transpositions alone stand
-        before the shard."""
+        """The axes in the order of the stored elements, and the sizes of the innermost inner chunks, where transpositions
+        alone stand before a shard."""
         return layout_of(self._inner_list, len(self.shape))
 
     def _near(self, meant: Selection, is_at_hand: bool = False) -> Selection:
@@ -735,7 +735,7 @@ class Chain:
     def _finest(self) -> tuple[Shape, int] | None:
         """The sizes of the innermost inner chunks and how many there are; None where these aren't known, or there are
         none."""
-        sizes = layout_of(self._inner_list, len(self.shape), is_finest=True)[1] if self._whole_inside else None
+        sizes = self._layout[1] if self._whole_inside else None
         return None if sizes is None else (sizes, math.prod(-(-one // size) for one, size in zip(self.shape, sizes)))
 
     @cached_property
