@@ -1,5 +1,8 @@
 """Programs of values that are damaged, at any depth, with checksums that are right around it."""
 
+import sys
+
+import numpy as np
 from files import CountingFile, LyingFile, Raised
 from formats import Damaged, decoded, encoded, same
 from judge import OF_VALUES, attempt, check, require
@@ -79,12 +82,21 @@ def damaged(draws, say, room):
         _read_parts(made, value, due, index, numpys)
 
 
+def _are_texts(chunk):
+    """Whether numpy can make a text of each element: it can't of numbers that are no characters."""
+    if chunk is None or chunk.data.dtype.kind != "U":
+        return True
+    return bool((np.ascontiguousarray(chunk.data).reshape(-1).view(np.uint32) <= sys.maxunicode).all())
+
+
 def _read_parts(made, value, whole, index, numpys):
     """Reads in all ways, of a value of which the whole chunk is given where it is one."""
     due, is_one = None, False
     if whole is not None or is_partial(made.codecs):
         wanted = wanted_of(made.shape, numpys)
         due, is_one = _judged(read, made.codecs, value, made.kind, made.shape, made.fill, wanted)
+    if not all(_are_texts(chunk) for chunk in (whole, due)):
+        return
     if whole is not None and due is not None:
         require(same(due.at(numpys), whole.at(numpys)), "the formats differ by themselves")
     made.say(f"read, read_many and read_from of {index!r}")

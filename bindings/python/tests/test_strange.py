@@ -211,3 +211,16 @@ def test_a_store_that_tells_strange_sizes(size, array):
     with pytest.raises(OSError, match="where a number of bytes is due, in bucket/a/c/0/0"):
         lent[0, 0]
     same(Array(array.folder)[...], array[...])
+
+
+def test_one_text_of_numbers_that_are_no_characters(tmp_path):
+    kind = {"name": "fixed_length_utf32", "configuration": {"length_bytes": 4}}
+    chain, value = Chain([LITTLE], (2,), kind), bytes.fromhex("ffffff7f61000000")
+    assert chain.read(value, 1) == "a" == chain.read_many(value, [1])[0]
+    array = make_array(tmp_path / "a", (2,), (2,), kind, [LITTLE], "")
+    array.chunk_path((0,)).parent.mkdir(parents=True, exist_ok=True)
+    array.chunk_path((0,)).write_bytes(value)
+    file = io.BytesIO(value)
+    for read in (lambda: chain.read(value, 0), lambda: chain.read_many(value, [0]), lambda: chain.read_from(file, 0), lambda: array[0]):
+        with pytest.raises(z.InvalidText):
+            read()

@@ -285,6 +285,18 @@ def takes(kind: DataType, out: AnyArray, shape: tuple[int, ...]) -> bool:
     return kind.is_plain and out.dtype == kind.dtype and out.shape == shape and out.flags.carray
 
 
+def picked(elements: AnyArray, after: Any) -> AnyArray:
+    """What of an answer stands at an index, or all of it where that is None. Raises `InvalidText` where it is one text of
+    numbers that are no characters, of which Python makes none."""
+    if after is None:
+        return elements
+    try:
+        found: AnyArray = elements[after]
+    except SystemError as error:
+        raise InvalidText(f"an element is no text: {error}") from error
+    return found
+
+
 def put(elements: Any, out: AnyArray | None) -> AnyArray:
     """The elements; in `out` where it is given, an array of their shape."""
     if out is None:

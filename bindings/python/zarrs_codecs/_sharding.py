@@ -10,7 +10,7 @@ import numpy as np
 
 from ._bytes_codecs import split, wrong
 from ._data_types import zarrs_own
-from ._elements import empty, mask_of, put, spread
+from ._elements import empty, mask_of, picked, put, spread
 from ._files import Held
 from ._header import json_of
 from ._indexing import grouped
@@ -477,7 +477,7 @@ class ShardedChain(Chain):
             elements[piece.there] = self._opened(piece.number, part, piece.inside)
         if failure is not None:
             raise failure
-        return put(elements if chosen.after is None else elements[chosen.after], out)
+        return put(picked(elements, chosen.after), out)
 
     def _stored_parts(
         self, fetched: Fetched, chosen: Selection, ranges: list[tuple[int, int]]
@@ -506,7 +506,7 @@ class ShardedChain(Chain):
         self._check_rows(chosen)
         elements = empty(self._type, chosen.shape)
         elements[...] = self._fill
-        return put(elements if chosen.after is None else elements[chosen.after], out)
+        return put(picked(elements, chosen.after), out)
 
     def read(self, value: Any, selection: Any, out: AnyArray | None = None) -> AnyArray:
         """The elements that a selection means, as `Chain.read` answers them: of a value, by its index and those of

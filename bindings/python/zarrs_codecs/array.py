@@ -15,7 +15,7 @@ from ._attributes import Attributes, bytes_of
 from ._chunks import Chunks, Each, one_by_one
 from ._data_types import data_type as data_type_of
 from ._data_types import zarrs_own
-from ._elements import empty, held, spread
+from ._elements import empty, held, picked, spread
 from ._files import UNFINISHED, replace
 from ._fill_values import fill_json, is_absent
 from ._indexing import Outer, Points, Step, is_list
@@ -333,7 +333,7 @@ class Array:
             self._chunks.read_into,
             ((chunk, (*inside, ...), answer, (*there, ...), fill) for chunk, inside, there in parts),
         )
-        return answer if chosen.after is None else answer[chosen.after]
+        return picked(answer, chosen.after)
 
     def _write_box(self, new: AnyArray, chosen: Box, each: Each) -> None:
         """Writes elements that the type holds, broadcast, at the places of a basic index."""
@@ -391,7 +391,7 @@ class Array:
             self._chunks.read_into,
             ((chunk, rows, in_a_row, numbers, self._fill) for chunk, rows, numbers in parts),
         )
-        return answer[()]
+        return picked(answer, ())
 
     def _write_points(self, array: ArrayLike, points: Points) -> None:
         new = spread(self._type, held(self._type, array), points.shape, None).reshape(-1)

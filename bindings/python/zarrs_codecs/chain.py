@@ -19,7 +19,7 @@ from ._data_types import DataType
 from ._data_types import data_type as data_type_of
 from ._data_types import zarrs_own
 from ._dense import is_dense, taken
-from ._elements import empty, given, held, put, shape_of, spread, takes, told, told_into, told_many
+from ._elements import empty, given, held, picked, put, shape_of, spread, takes, told, told_into, told_many
 from ._files import PART_BYTES, File, Source
 from ._header import Header, copied, json_of
 from ._lacking import lacking_in_round
@@ -444,7 +444,7 @@ class Chain:
         """The same of a value that is decoded whole."""
         call, length = self._decoding(inner)
         elements = taken(told(self._type, call, self.shape, length + 64), meant)
-        return put(elements if meant.after is None else elements[meant.after], out)
+        return put(picked(elements, meant.after), out)
 
     def _read_inner(self, inner: Any, selection: Any, out: AnyArray | None = None) -> AnyArray:
         """The same of the library's value."""
@@ -457,7 +457,7 @@ class Chain:
         with self._saying_inner_chunk(at_hand(inner), selection, partial(self._read, inner)):
             if chosen.after is None:
                 return self._read(inner, chosen, out)
-            return put(self._read(inner, chosen)[chosen.after], out)
+            return put(picked(self._read(inner, chosen), chosen.after), out)
 
     @_naming
     def read_many(self, value: Any, selections: Iterable[Any]) -> list[AnyArray]:
@@ -484,7 +484,7 @@ class Chain:
             # what is refused is so by itself too, and says why; what lies between places that are meant isn't read then
             return [self._read_inner(inner, one) for one in meant]
         return [
-            told_one if one.after is None else told_one[one.after]
+            picked(told_one, one.after)
             for one, told_one in zip(chosen, answers, strict=True)
         ]
 
@@ -686,7 +686,7 @@ class Chain:
             return out
         elements: AnyArray = np.empty(chosen.shape, self.dtype)
         self._read_parts(source, chosen, elements.reshape(-1))
-        return put(elements if chosen.after is None else elements[chosen.after], out)
+        return put(picked(elements, chosen.after), out)
 
     def _read_in_rounds(self, fetched: Fetched, selection: Any, out: AnyArray | None) -> AnyArray:
         """The elements of a selection, by as many rounds as it takes, up to a number."""
@@ -701,7 +701,7 @@ class Chain:
         read = partial(self._read_round_by_round, fetched)
         with self._saying_inner_chunk(fetched, selection, read):
             elements = read(chosen)
-        return put(elements if chosen.after is None else elements[chosen.after], out)
+        return put(picked(elements, chosen.after), out)
 
     def _read_round_by_round(self, fetched: Fetched, chosen: Selection) -> AnyArray:
         """The elements of a selection without its gaps, in its shape."""

@@ -139,7 +139,8 @@ class InvalidElement(_Wrong):
 
 
 class InvalidText(_Wrong, UnicodeError):
-    """Bytes are no UTF-8, or a text has no bytes in it. Python's own refusal, not the library's.
+    """Bytes are no UTF-8, or a text has no bytes in it, or the numbers of one element are no characters. Python's own
+    refusal, not the library's.
 
     >>> from zarrs_codecs import Chain
     >>> Chain(["vlen-utf8"], (1,), "string").decode(b"\\1\\0\\0\\0\\1\\0\\0\\0\\xff")
