@@ -4,6 +4,7 @@ pub mod BoxTuples
 pub mod Consecutive
 pub mod CountedRuns
 pub mod Ends
+mod EqualIndexers
 pub mod Fitting
 pub mod Inside
 pub mod LentTuples

@@ -2,7 +2,7 @@
 ghost use Rattle.std.specs.Prelude.{◌≡◌, ◌<◌, ◌^◌, length, IfOk, Ok, All};
 ghost use Rattle.zarrs_chunk.specs.Answer.{Answers, memory, Gives, GivesItems};
 ghost use Rattle.zarrs_chunk.specs.ChunkShape.{product};
-ghost use Rattle.zarrs_chunk.specs.Indexer.{selection_of};
+ghost use Rattle.zarrs_chunk.specs.Indexer.{selection_of, plain_indexer};
 ghost use Rattle.zarrs_chunk.specs.Runs.{places_in, AreFilled, EndWithin, AreApart};
 ghost use Rattle.zarrs_chunk.specs.Selection.{subset as subset_of, bounds_of, len_of, places_of};
 
@@ -136,9 +136,10 @@ impl<'a> Indexer<'a> {
         }
     }
 
-    /// An equal indexer. Errors: `OutOfMemory`.
+    /// An equal indexer: of the same variant, with the same box or tuples. Errors: `OutOfMemory`.
     pub fn clone(&self) -> Result<Indexer<'a>, CodecError>
         ensures copy { Answers memory selection_of result (Ok (selection_of self.now)) }
+        ensures equal { Answers memory plain_indexer result (Ok (plain_indexer self.now)) }
     {
         match self {
             Indexer::Subset(subset) => Ok(Indexer::Subset(subset.clone()?)),

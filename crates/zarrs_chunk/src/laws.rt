@@ -4,6 +4,7 @@ ghost use Rattle.std.specs.Prelude.{◌≡◌, ◌<◌, ◌*◌, ◌↔◌, ℕ,
 ghost use Rattle.std.specs.List.{flat_map, range_with_len};
 ghost use Rattle.std.specs.List.Sorted.{IsStrictlyIncreasing};
 ghost use Rattle.zarrs_chunk.specs.ChunkShape.{product};
+ghost use Rattle.zarrs_chunk.specs.Indexer.{plain_indexer};
 ghost use Rattle.zarrs_chunk.specs.Indices.{tuple_of_number, box_tuple};
 ghost use Rattle.zarrs_chunk.specs.IndexTuples.{rows};
 ghost use Rattle.zarrs_chunk.specs.InsideByAxis.{IsInBox, IsInShape, IsBoxInShape};
@@ -11,6 +12,9 @@ ghost use Rattle.zarrs_chunk.specs.Numbering.{are_of_axes};
 ghost use Rattle.zarrs_chunk.specs.Region.{Region};
 ghost use Rattle.zarrs_chunk.specs.Selection.{Selection, subset, places_of};
 ghost use Rattle.zarrs_chunk.specs.Tuples.{row_major, box_tuples, is_box_inside as box_inside, is_tuple_inside as tuple_inside};
+ghost use Rattle.zarrs_chunk.specs.declared.indexer.Indexer.{Indexer as AnIndexer};
+
+use crate::indexer::Indexer;
 
 /// Which tuples are selected: a box has those whose numbers lie in its ranges. A tuple or a box is
 /// inside a shape where it is so along each axis, and a box inside has tuples inside alone.
@@ -62,4 +66,11 @@ pub fn numbers_make_tuples()
         → are_of_axes axes (rows axes count numbers) ≡ true }
     ensures joined { (axes count : ℕ) (numbers : List ℕ) → axes * count ≡ length numbers
         → flat_map (λ tuple. tuple) (rows axes count numbers) ≡ numbers }
+{}
+
+/// Two indexers are equal just where they are of the same variant and hold the same box or tuples. So
+/// no list of vectors equals one that is lent, not even where both are empty.
+pub fn equal_indexers_are_same()
+    ensures equal { (one other : AnIndexer) → (⟦<Indexer<'static> as PartialEq>⟧.eq one other ≡ true)
+        ↔ (plain_indexer one ≡ plain_indexer other) }
 {}

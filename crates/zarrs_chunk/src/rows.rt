@@ -8,7 +8,7 @@ use std::alloc::{AllocError, Global};
 
 /// The rows of a box along the last axis that it doesn't cover whole: how many places its front passes
 /// in one step, how many lie before the row, and how many the row has.
-#[derive(Clone, Copy, Drop)]
+#[derive(Clone, Copy, Debug, Drop)]
 pub struct Row {
     /// How many places a step of the front passes.
     pub step: u64,
