@@ -2,7 +2,7 @@
 use zarrs_chunk::CodecError;
 
 /// Why a partial coder wasn't made, and the handle that was handed in, as it stands.
-#[derive(Drop)]
+#[derive(Debug, Drop)]
 pub struct Refused<H> {
     /// The error.
     pub error: CodecError,
