@@ -1,5 +1,5 @@
 -- Elements of a region, decoded from those of its last window.
-use Rattle.std.proofs.Common.{◌≡◌, ℕ, List, [], ◌∷◌, length, Result, Ok, arith, refl, ap, ◌∙◌, sym, subst}
+use Rattle.std.proofs.Common.{◌≡◌, ℕ, Bool, true, false, if◌then◌else◌, Option, Some, None, List, [], ◌∷◌, length, Result, Ok, arith, refl, ap, ◌∙◌, sym, subst}
 use Rattle.zarrs_chunk.specs.Answer.{GivesBy}
 use Rattle.zarrs_chunk.specs.ChunkShape.{product}
 use Rattle.zarrs_chunk.specs.Region.{Region}
@@ -9,14 +9,18 @@ use Rattle.zarrs_data_type.specs.ElementType.{ElementType}
 use Rattle.zarrs_array_bytes.specs.Elements.{elements}
 use Rattle.zarrs_array_bytes.specs.Held.{Held}
 use Rattle.zarrs_array_bytes.specs.Validity.{Holds, validity}
-use Rattle.zarrs_codec.specs.CoordinateMap.{CoordinateMap, IsCoordinateMap, composition, inverse_map, moved_chunk}
-use Rattle.zarrs_array_to_array.specs.ArrayToArrayCodec.{ArrayMapping, transpose, reshape, squeeze}
+use Rattle.zarrs_codec.specs.CoordinateMap.{CoordinateMap, IsCoordinateMap, composition, inverse_map, moved_chunk, same_places}
+use Rattle.zarrs_array_to_array.specs.ArrayToArrayCodec.{ArrayMapping, array_meaning, keeps_places}
+use Rattle.zarrs_array_to_array.specs.EncodedBoxes.{part_moves}
+use Rattle.zarrs_array_to_array.specs.ArrayMeaning.{BoxMap}
+use Rattle.zarrs_array_to_array.proofs.ArrayLaws.{array_laws}
 use Rattle.zarrs_array_to_array.proofs.CoordinateMaps.{kept_places, length-moved, moved_at}
 use Rattle.zarrs_array_regions.specs.declared.window.Window.{Window}
 use Rattle.zarrs_array_regions.specs.Parts.{part_decoded}
-use Rattle.zarrs_array_regions.specs.Windows.{window_of, part_map, region_map, decoded_of}
+use Rattle.zarrs_array_regions.specs.Windows.{window_of, next_lengths, behind_window, part_map, region_map, decoded_of}
 use Rattle.zarrs_array_regions.proofs.Rearranged.{rearranged, is_rearranged, length-rearranged, rearranged_at}
 use Rattle.zarrs_array_regions.proofs.WindowMaps.{moved_back_is}
+use Rattle.zarrs_array_regions.proofs.KeptChains.{next_of}
 use Rattle.zarrs_array_regions.proofs.WindowCalls.{WindowStep, WindowStays}
 use Rattle.zarrs_array_to_array.proofs.MappedChunks.{holds_elements}
 use Rattle.zarrs_array_bytes.proofs.UpdatedLemmas.{length-elements}
@@ -37,9 +41,12 @@ back_twice lengths middle part rest chunk is e =
 -- the region's elements are those of the next window, moved back
 part_is_moved : (codec : ArrayMapping) (type : ElementType) (sizes : List ℕ) (region : Region) (held : Held)
     → part_decoded codec type region held ≡ moved_chunk (inverse_map region.lengths (part_map codec (window_of sizes region))) (elements type (product region.lengths) held)
-part_is_moved (transpose order) type sizes region held = refl
-part_is_moved (reshape dims) type sizes region held = sym (kept_places region.lengths (elements type (product region.lengths) held) (length-elements type (product region.lengths) held))
-part_is_moved squeeze type sizes region held = sym (kept_places region.lengths (elements type (product region.lengths) held) (length-elements type (product region.lengths) held))
+part_is_moved codec type sizes region held = by (keeps_places codec) (next_lengths codec (window_of sizes region)) (elements type (product region.lengths) held) (length-elements type (product region.lengths) held)
+  where
+    by : (keeps : Bool) (lengths : List ℕ) (chunk : Chunk) → length chunk ≡ product region.lengths
+        → (if keeps then chunk else moved_chunk (inverse_map region.lengths (part_moves codec region.lengths)) chunk) ≡ moved_chunk (inverse_map region.lengths (if keeps then same_places lengths else part_moves codec region.lengths)) chunk
+    by true lengths chunk long = sym (kept_places region.lengths chunk long)
+    by false lengths chunk long = refl
 
 module _ (all codecs : List ArrayMapping) (codec : ArrayMapping) (sizes : List ℕ) (region : Region) (next : Window) (s : WindowStep all codecs codec sizes region next) (type : ElementType) (held below : Held) (h : Holds type below (decoded_of codecs type next held)) where
   abbrev whole : Chunk
@@ -74,10 +81,21 @@ decoded_stay all sizes region type held s v =
 
 -- ---- a last codec
 
+-- the elements of a chunk that a map brings back to these lengths
+abbrev brought_to : List ℕ → CoordinateMap → Chunk → Chunk
+brought_to lengths m chunk = moved_chunk (inverse_map lengths m) chunk
+
 last_is_moved : (codec : ArrayMapping) (type : ElementType) (sizes : List ℕ) (region : Region) (held : Held) → part_decoded codec type region held ≡ decoded_of (codec ∷ []) type (window_of sizes region) held
-last_is_moved (transpose order) type sizes region held = refl
-last_is_moved (reshape dims) type sizes region held = part_is_moved (reshape dims) type sizes region held
-last_is_moved squeeze type sizes region held = part_is_moved squeeze type sizes region held
+last_is_moved codec type sizes region held = part_is_moved codec type sizes region held ∙ by (array_meaning codec).boxes refl (elements type (product region.lengths) held)
+  where
+    stays : (keeps : Bool) (lengths : List ℕ) (m : CoordinateMap) (chunk : Chunk) → keeps ≡ true → brought_to region.lengths (if keeps then same_places lengths else m) chunk ≡ brought_to region.lengths (same_places region.lengths) chunk
+    stays true lengths m chunk h = refl
+    stays false lengths m chunk h = absurd (cc)
+
+    by : (boxes : Option BoxMap) → (array_meaning codec).boxes ≡ boxes → (chunk : Chunk)
+        → brought_to region.lengths (part_map codec (window_of sizes region)) chunk ≡ brought_to region.lengths (behind_window (next_of boxes (window_of sizes region)) (same_places region.lengths) (λ next. composition (part_map codec (window_of sizes region)) (region_map [] next))) chunk
+    by None is chunk = stays (keeps_places codec) (next_lengths codec (window_of sizes region)) (part_moves codec region.lengths) chunk ((array_laws codec).boxes_or_places is)
+    by (Some boxes) is chunk = refl
 
 pub decoded_last : (all : List ArrayMapping) (codec : ArrayMapping) (sizes : List ℕ) (region : Region) (type : ElementType) (held : Held) (r : Result Held CodecError) → all ≡ codec ∷ [] → GivesBy (Holds type) r (Ok (part_decoded codec type region held)) → GivesBy (Holds type) r (Ok (decoded_of all type (window_of sizes region) held))
 decoded_last all codec sizes region type held r e g =

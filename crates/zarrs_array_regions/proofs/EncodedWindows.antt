@@ -1,5 +1,5 @@
 -- The runs of a region where codecs take it with its elements there, encoded from those of the region.
-use Rattle.std.proofs.Common.{◌≡◌, ℕ, List, [], length, Vec, Global, Result, Ok, Err, refl, ap, ap₂, ◌∙◌, sym, subst}
+use Rattle.std.proofs.Common.{◌≡◌, ℕ, Bool, true, false, if◌then◌else◌, List, [], length, Vec, Global, Result, Ok, Err, refl, ap, ap₂, ◌∙◌, sym, subst}
 use Rattle.std.specs.Prelude.{IfOk}
 use Rattle.zarrs_chunk.specs.Answer.{GivesBy, seen}
 use Rattle.zarrs_chunk.specs.ChunkShape.{product}
@@ -12,12 +12,13 @@ use Rattle.zarrs_array_bytes.specs.Elements.{elements}
 use Rattle.zarrs_array_bytes.specs.Held.{Held}
 use Rattle.zarrs_array_bytes.specs.Tight.{IsTight, KeepsTight}
 use Rattle.zarrs_array_bytes.specs.Validity.{Holds, validity}
-use Rattle.zarrs_codec.specs.CoordinateMap.{IsCoordinateMap, moved_chunk}
-use Rattle.zarrs_array_to_array.specs.ArrayToArrayCodec.{ArrayMapping, transpose, reshape, squeeze}
+use Rattle.zarrs_codec.specs.CoordinateMap.{IsCoordinateMap, moved_chunk, same_places}
+use Rattle.zarrs_array_to_array.specs.ArrayToArrayCodec.{ArrayMapping, keeps_places}
+use Rattle.zarrs_array_to_array.specs.EncodedBoxes.{part_moves}
 use Rattle.zarrs_array_to_array.proofs.CoordinateMaps.{kept_places, length-moved, moved_twice, same_places_map, composed_map}
 use Rattle.zarrs_array_regions.specs.declared.window.Window.{Window}
 use Rattle.zarrs_array_regions.specs.Parts.{part_encoded}
-use Rattle.zarrs_array_regions.specs.Windows.{window_of, window_places, part_map, region_map, encoded_of, IsEncodedRegion, GivesRegionRuns}
+use Rattle.zarrs_array_regions.specs.Windows.{window_of, window_places, next_lengths, part_map, region_map, encoded_of, IsEncodedRegion, GivesRegionRuns}
 use Rattle.zarrs_array_regions.proofs.WindowCalls.{WindowStep, WindowStays}
 use Rattle.zarrs_array_to_array.proofs.MappedChunks.{holds_elements}
 use Rattle.zarrs_array_bytes.proofs.UpdatedLemmas.{length-elements}
@@ -25,9 +26,12 @@ use Rattle.zarrs_array_bytes.proofs.UpdatedLemmas.{length-elements}
 -- the elements of the next window are those of the region, moved
 part_is_encoded : (codec : ArrayMapping) (type : ElementType) (sizes : List ℕ) (region : Region) (held : Held) → product (part_map codec (window_of sizes region)).encoded ≡ product region.lengths
     → part_encoded codec type region held ≡ moved_chunk (part_map codec (window_of sizes region)) (elements type (product region.lengths) held)
-part_is_encoded (transpose order) type sizes region held n = refl
-part_is_encoded (reshape dims) type sizes region held n = sym (kept_places region.lengths (elements type (product region.lengths) held) (length-elements type (product region.lengths) held))
-part_is_encoded squeeze type sizes region held n = sym (kept_places (part_map squeeze (window_of sizes region)).encoded (elements type (product region.lengths) held) (length-elements type (product region.lengths) held ∙ sym n))
+part_is_encoded codec type sizes region held n = by (keeps_places codec) (next_lengths codec (window_of sizes region)) (elements type (product region.lengths) held) (length-elements type (product region.lengths) held) n
+  where
+    by : (keeps : Bool) (lengths : List ℕ) (chunk : Chunk) → length chunk ≡ product region.lengths → product (if keeps then same_places lengths else part_moves codec region.lengths).encoded ≡ product region.lengths
+        → (if keeps then chunk else moved_chunk (part_moves codec region.lengths) chunk) ≡ moved_chunk (if keeps then same_places lengths else part_moves codec region.lengths) chunk
+    by true lengths chunk long n = sym (kept_places lengths chunk (long ∙ sym n))
+    by false lengths chunk long n = refl
 
 -- where the window stays, so do its elements
 pub encoded_stay : (all : List ArrayMapping) (sizes : List ℕ) (region : Region) (type : ElementType) (held : Held) (r : Result (Vec (ℕ × ℕ) Global × Held) CodecError) → WindowStays all sizes region → GivesRegionRuns [] sizes region (seen (λ answer. answer.0) r) → IfOk r (λ answer. answer.1 ≡ held) → validity type (product region.lengths) held ≡ Ok tt → GivesBy (IsEncodedRegion type) r (Ok (encoded_of all type (window_of sizes region) held))

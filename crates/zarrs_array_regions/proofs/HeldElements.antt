@@ -11,7 +11,7 @@ use Rattle.zarrs_array_bytes.specs.Held.{Held}
 use Rattle.zarrs_array_bytes.specs.Validity.{Holds}
 use Rattle.zarrs_array_to_array.specs.ArrayToArrayCodec.{ArrayMapping, transpose}
 use Rattle.zarrs_array_to_array.specs.Transpose.{transposed_chunk}
-use Rattle.zarrs_array_regions.specs.Parts.{EncodesPart, FitsRegion}
+use Rattle.zarrs_array_regions.specs.Parts.{EncodesPart}
 
 -- few elements are counted
 pub no_count : (n : ℕ) (e : CodecError) → n < 2 ^ 64 → ◌≡◌ {A = Result ℕ CodecError} (Err e) (checked_u64 n) → ⊥
@@ -25,10 +25,6 @@ count_is n count l h =
     let test : nat_lt n (2 ^ 64) ≡ true = lt-ltb n (2 ^ 64) l in
     let same : ◌≡◌ {A = Result ℕ CodecError} (Ok count) (Ok n) = h ∙ (rw test refl) in
     cc
-
--- an order of a region's axes names as many
-pub axes_fit : (order : List ℕ) (mapping : ArrayMapping) (region : Region) → mapping ≡ transpose order → FitsRegion mapping region → length order ≡ length region.lengths
-axes_fit order mapping region e fits = subst (λ m. FitsRegion m region) e fits
 
 -- what is transposed at a region's own lengths is its encoded part
 pub transposed_part : (order : List ℕ) (type : ElementType) (region : Region) (held : Held) (lengths : List ℕ) (axes : List ℕ) (count : ℕ) (result : Result Held CodecError) → axes ≡ order → lengths ≡ region.lengths → count ≡ product region.lengths

@@ -1,34 +1,26 @@
 -- Chains of codecs keep regions.
-use Rattle.std.proofs.Common.{◌≡◌, ◌==◌, ℕ, suc, ◌<◌, true, Option, Some, None, List, [], ◌∷◌, length, Ok, arith, refl, ap, ◌∙◌, sym, subst}
+use Rattle.std.proofs.Common.{◌≡◌, ℕ, suc, ◌<◌, true, Option, Some, None, List, [], ◌∷◌, if◌then◌else◌, Ok, arith, refl, ap, ◌∙◌, sym, subst}
 use Rattle.std.specs.List.{All, list_all}
-use Rattle.std.proofs.lemmas.Bool.{and_parts}
-use Rattle.zarrs_chunk.specs.Answer.{◌>>=◌, demand}
+use Rattle.std.specs.Prelude.{is_some, option_map}
+use Rattle.std.proofs.lemmas.Bool.{and_from, and_parts}
+use Rattle.zarrs_chunk.specs.Answer.{◌>>=◌}
 use Rattle.zarrs_chunk.specs.ChunkShape.{product}
 use Rattle.zarrs_chunk.specs.Region.{Region}
 use Rattle.zarrs_chunk.specs.Tuples.{is_box_inside}
-use Rattle.zarrs_chunk.specs.declared.codec_error.CodecError.TheVariants.{IncompatibleDimensionality}
 use Rattle.zarrs_codec.specs.CoordinateMap.{CoordinateMap, same_places, composition}
-use Rattle.zarrs_array_to_array.specs.ArrayToArrayCodec.{ArrayMapping, transpose, reshape, squeeze, IsMapping, coordinates, chained, keeps_places}
-use Rattle.zarrs_array_to_array.specs.Reshape.{reshaped}
-use Rattle.zarrs_array_to_array.specs.Squeeze.{squeezed}
-use Rattle.zarrs_array_to_array.specs.Transpose.{transposition}
+use Rattle.zarrs_array_to_array.specs.ArrayToArrayCodec.{ArrayMapping, IsMapping, array_meaning, coordinates, chained, keeps_places}
+use Rattle.zarrs_array_to_array.specs.ArrayMeaning.{BoxMap}
 use Rattle.zarrs_array_to_array.proofs.AnswerSteps.{step_ok}
+use Rattle.zarrs_array_to_array.proofs.ArrayLaws.{array_laws}
 use Rattle.zarrs_array_to_array.proofs.Chains.{codec_map}
 use Rattle.zarrs_array_regions.specs.declared.window.Window.{Window}
 use Rattle.zarrs_array_regions.specs.KeptRegions.{keeps_regions}
 use Rattle.zarrs_array_regions.specs.Windows.{KeepsWindow, window_of, next_window, part_map, behind_window, last_window, region_map}
 use Rattle.zarrs_array_regions.proofs.WindowMaps.{windows_compose, here_is}
-use Rattle.zarrs_array_to_array.proofs.Readers.{same_map}
+use Rattle.zarrs_array_to_array.proofs.SameMaps.{same_map}
 use Rattle.zarrs_array_regions.proofs.KeptWindows.{codec_keeps, same_keeps}
 
 -- ---- places that stay
-
-place_stays : (codec : ArrayMapping) (sizes : List ℕ) (m : CoordinateMap) (place : ℕ) → keeps_places codec ≡ true → coordinates codec sizes ≡ Ok m → m.to place ≡ place
-place_stays (transpose order) sizes m place h e = absurd (cc)
-place_stays (reshape dims) sizes m place h e =
-    let found = step_ok (reshaped dims sizes) (λ encoded. Ok (same_places encoded)) m e in
-    ap (λ (x : CoordinateMap). x.to place) (sym (same_map m (same_places found.0) found.2))
-place_stays squeeze sizes m place h e = ap (λ (x : CoordinateMap). x.to place) (sym (same_map m (same_places (squeezed sizes)) e))
 
 pub places_stay : (codecs : List ArrayMapping) (sizes : List ℕ) (m : CoordinateMap) (place : ℕ) → list_all keeps_places codecs ≡ true → chained codecs sizes ≡ Ok m → m.to place ≡ place
 places_stay [] sizes m place h e = ap (λ (x : CoordinateMap). x.to place) (sym (same_map m (same_places sizes) e))
@@ -38,29 +30,36 @@ places_stay (codec ∷ codecs) sizes m place h e =
     let rest = step_ok (chained codecs first.0.encoded) (λ rest. Ok (composition first.0 rest)) m first.2 in
     ap (λ (x : CoordinateMap). x.to place) (sym (same_map m (composition first.0 rest.0) rest.2))
     ∙ places_stay codecs first.0.encoded rest.0 (first.0.to place) both.1 rest.1
-    ∙ place_stays codec sizes first.0 place both.0 first.1
+    ∙ (array_laws codec).stays_to sizes first.0 place both.0 first.1
 
 -- ---- the next window has the sizes of the moved chunk
 
+-- the next window by where boxes go
+abbrev pub next_of : Option BoxMap → Window → Option Window
+next_of boxes window = option_map (λ there. window_of there.0 there.1) (option_map (λ boxes. boxes window.sizes window.region) boxes)
+
 pub next_sizes : (codec : ArrayMapping) (sizes : List ℕ) (region : Region) (m : CoordinateMap) (next : Window) → coordinates codec sizes ≡ Ok m → next_window codec (window_of sizes region) ≡ Some next → m.encoded ≡ next.sizes
-next_sizes (transpose order) sizes region m next h e =
-    let step = step_ok (demand (length order == length sizes) IncompatibleDimensionality) (λ _. Ok (transposition order sizes)) m h in
-    ap (λ (x : CoordinateMap). x.encoded) (sym (same_map m (transposition order sizes) step.2)) ∙ ap (λ (o : Option Window). behind_window o sizes (λ w. w.sizes)) e
-next_sizes (reshape dims) sizes region m next h e = absurd (cc)
-next_sizes squeeze sizes region m next h e =
-    ap (λ (x : CoordinateMap). x.encoded) (sym (same_map m (same_places (squeezed sizes)) h)) ∙ ap (λ (o : Option Window). behind_window o sizes (λ w. w.sizes)) e
+next_sizes codec sizes region m next h e = by (array_meaning codec).boxes refl e
+  where
+    by : (boxes : Option BoxMap) → (array_meaning codec).boxes ≡ boxes → next_of boxes (window_of sizes region) ≡ Some next → m.encoded ≡ next.sizes
+    by None is e = absurd (cc)
+    by (Some boxes) is e = (array_laws codec).box_sizes sizes m boxes region h is ∙ ap (λ (o : Option Window). behind_window o sizes (λ w. w.sizes)) e
 
 -- codecs behind one that has a next window
 rest_keeps : (codec : ArrayMapping) (codecs : List ArrayMapping) (window next : Window) → next_window codec window ≡ Some next → keeps_regions (codec ∷ codecs) ≡ true → keeps_regions codecs ≡ true
-rest_keeps (transpose order) codecs window next e h = h
-rest_keeps (reshape dims) codecs window next e h = absurd (cc)
-rest_keeps squeeze codecs window next e h = h
+rest_keeps codec codecs window next e h = by (array_meaning codec).boxes e h
+  where
+    by : (boxes : Option BoxMap) → next_of boxes window ≡ Some next → (if is_some boxes then keeps_regions codecs else list_all keeps_places codecs) ≡ true → keeps_regions codecs ≡ true
+    by None e h = absurd (cc)
+    by (Some boxes) e h = h
 
 -- a codec without one, and all behind it, leave places where they are
 all_stay : (codec : ArrayMapping) (codecs : List ArrayMapping) (window : Window) → next_window codec window ≡ None → keeps_regions (codec ∷ codecs) ≡ true → list_all keeps_places (codec ∷ codecs) ≡ true
-all_stay (transpose order) codecs window e h = absurd (cc)
-all_stay (reshape dims) codecs window e h = h
-all_stay squeeze codecs window e h = absurd (cc)
+all_stay codec codecs window e h = by (array_meaning codec).boxes refl e h
+  where
+    by : (boxes : Option BoxMap) → (array_meaning codec).boxes ≡ boxes → next_of boxes window ≡ None → (if is_some boxes then keeps_regions codecs else list_all keeps_places codecs) ≡ true → list_all keeps_places (codec ∷ codecs) ≡ true
+    by None is e h = and_from (keeps_places codec) (list_all keeps_places codecs) ((array_laws codec).boxes_or_places is) h
+    by (Some boxes) is e h = absurd (cc)
 
 -- ---- chains
 

@@ -14,7 +14,7 @@ use Rattle.zarrs_chunk.proofs.Products.{product_positive}
 use Rattle.zarrs_codec.specs.CoordinateMap.{CoordinateMap, same_places}
 use Rattle.zarrs_metadata.proofs.Orders.{order_parts}
 use Rattle.zarrs_array_to_array.specs.ArrayToArrayCodec.{ArrayMapping, transpose, reshape, squeeze, IsMapping, coordinates}
-use Rattle.zarrs_array_to_array.specs.EncodedSelection.{squeezed_region}
+use Rattle.zarrs_array_to_array.specs.SqueezeMeaning.{squeezed_region}
 use Rattle.zarrs_array_to_array.specs.Squeeze.{squeezed}
 use Rattle.zarrs_array_to_array.specs.Transpose.{transposition}
 use Rattle.zarrs_array_to_array.proofs.AnswerSteps.{step_ok, some_is}
@@ -25,7 +25,7 @@ use Rattle.zarrs_array_regions.specs.declared.window.Window.{Window}
 use Rattle.zarrs_array_regions.specs.Windows.{IsWindow, KeepsWindow, window_of, window_places, next_window, part_map}
 use Rattle.zarrs_array_regions.proofs.WindowMaps.{places_count, transposition_keeps, here_is}
 use Rattle.zarrs_array_to_array.proofs.BoxNumbers.{factors_positive}
-use Rattle.zarrs_array_to_array.proofs.Readers.{same_map}
+use Rattle.zarrs_array_to_array.proofs.SameMaps.{same_map}
 use Rattle.zarrs_array_to_array.proofs.Orders.{eq_true}
 
 -- ---- places that stay

@@ -5,6 +5,7 @@ pub mod KeptChains
 pub mod PlaceReads
 pub mod KeptRegions
 pub mod HeldElements
+pub mod PartCalls
 pub mod PlaceWrites
 pub mod WindowCalls
 pub mod DecodedWindows

@@ -21,7 +21,9 @@ use Rattle.zarrs_array_regions.specs.declared.window.Window.{Window}
 use Rattle.zarrs_array_regions.specs.OrderedRuns.{AreAxes, ordered_places}
 use Rattle.zarrs_array_regions.specs.Parts.{FitsRegion, EncodesPart}
 use Rattle.zarrs_array_regions.specs.Windows.{EncodesMapped, TakesRegion, GivesRegionRuns, window_places}
-use Rattle.zarrs_array_regions.proofs.WindowCalls.{first_taken, order_axes, WindowStep, WindowStays}
+use Rattle.zarrs_array_regions.proofs.WindowCalls.{first_taken, WindowStep, WindowStays}
+use Rattle.zarrs_array_to_array.proofs.ArrayLaws.{array_laws}
+use Rattle.zarrs_array_to_array.proofs.PermutedBoxes.{order_axes}
 use Rattle.zarrs_array_regions.proofs.WindowMaps.{permuted_box}
 
 all_below : (order : List ℕ) (n : ℕ) → ((i : ℕ) → i < length order → slice_index order i < n) → All (λ axis. axis < n) order
@@ -34,8 +36,11 @@ module _ (order sizes : List ℕ) (region : Region) (takes : TakesRegion (transp
   axes_are : length order ≡ length sizes
   axes_are = order_axes order sizes taken
 
+  pub region_axes : length order ≡ length region.lengths
+  region_axes = axes_are ∙ sym (is_box_inside-lengths sizes region.starts region.lengths takes.inside).1
+
   pub region_fits : FitsRegion (transpose order) region
-  region_fits = axes_are ∙ sym (is_box_inside-lengths sizes region.starts region.lengths takes.inside).1
+  region_fits = (array_laws (transpose order)).part_fits sizes region.lengths (is_box_inside-lengths sizes region.starts region.lengths takes.inside).1 taken
 
   pub axes_there : (axes shape starts lengths : List ℕ) → axes ≡ order → shape ≡ sizes → starts ≡ region.starts → lengths ≡ region.lengths → is_order axes ≡ true → All (λ size. 0 < size) shape → AreAxes axes shape starts lengths
   axes_there axes shape starts lengths a s b l h positive =

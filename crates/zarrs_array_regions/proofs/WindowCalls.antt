@@ -15,48 +15,23 @@ use Rattle.zarrs_data_type.specs.ElementType.{ElementType}
 use Rattle.zarrs_codec.specs.CoordinateMap.{CoordinateMap, IsCoordinateMap, same_places, composition}
 use Rattle.zarrs_metadata.specs.Orders.{is_order}
 use Rattle.zarrs_metadata.proofs.Orders.{order_parts}
-use Rattle.zarrs_array_to_array.specs.ArrayToArrayCodec.{ArrayMapping, IsMapping, transpose, reshape, squeeze, coordinates, chained}
+use Rattle.zarrs_array_to_array.specs.ArrayToArrayCodec.{ArrayMapping, IsMapping, coordinates, chained}
 use Rattle.zarrs_array_to_array.specs.CodecAnswers.{type_taken}
 use Rattle.zarrs_array_to_array.specs.Mapping.{mapping_of}
 use Rattle.zarrs_array_to_array.specs.Orders.{permuted}
+use Rattle.zarrs_array_to_array.specs.TransposeMeaning.{permuted_region}
 use Rattle.zarrs_array_to_array.specs.declared.array_to_array_codec.ArrayToArrayCodec.{ArrayToArrayCodec}
 use Rattle.zarrs_array_to_array.proofs.Orders.{length-permuted}
 use Rattle.zarrs_array_to_array.proofs.Transposition.{shape_of-positive}
 use Rattle.zarrs_array_regions.specs.declared.window.Window.{Window}
 use Rattle.zarrs_array_regions.specs.Parts.{FitsRegion}
-use Rattle.zarrs_array_regions.specs.Windows.{IsWindow, TakesRegion, TakeType, window_of, window_places, permuted_region, next_window, part_map, behind_window, last_window, region_map}
+use Rattle.zarrs_array_regions.specs.Windows.{IsWindow, TakesRegion, TakeType, window_of, window_places, next_window, part_map, behind_window, last_window, region_map}
 use Rattle.zarrs_array_regions.proofs.KeptChains.{next_sizes}
 use Rattle.zarrs_array_to_array.proofs.BoxNumbers.{factors_positive}
 use Rattle.zarrs_array_regions.proofs.KeptWindows.{codec_keeps}
 use Rattle.zarrs_array_regions.proofs.WindowMaps.{places_count, here_is}
+use Rattle.zarrs_array_to_array.proofs.ArrayLaws.{array_laws}
 use Rattle.zarrs_array_to_array.proofs.CodecLists.{rest_of, mappings_are, no_mappings}
-
--- ---- permuted boxes
-
-ends_of : (starts lengths order : List ℕ) → ((axis : ℕ) → axis < length starts → get_or starts axis 0 + get_or lengths axis 0 < 2 ^ 64) → ((i : ℕ) → i < length order → get_or order i 0 < length starts) → ends_fit (permuted order starts) (permuted order lengths) ≡ true
-ends_of starts lengths [] fit below = refl
-ends_of starts lengths (axis ∷ order) fit below =
-    and_from _ _ (lt-ltb (get_or starts axis 0 + get_or lengths axis 0) (2 ^ 64) (fit axis (below 0 (omega arith)))) (ends_of starts lengths order fit (λ i l. below (suc i) (omega arith)))
-
-pub permuted_made : (order : List ℕ) (region : Region) (xs ys : List ℕ) (r : Result Region CodecError) → is_order order ≡ true → length order ≡ length region.starts → ((axis : ℕ) → axis < length region.starts → get_or region.starts axis 0 + get_or region.lengths axis 0 < 2 ^ 64)
-    → xs ≡ permuted order region.starts → ys ≡ permuted order region.lengths → r ≡ subset_of_start_shape xs ys → r ≡ Ok (permuted_region order region)
-permuted_made order region xs ys r h e fit x y is =
-    let o = order_parts order h in
-    let same : length (permuted order region.starts) ≡ length (permuted order region.lengths) = length-permuted order region.starts ∙ sym (length-permuted order region.lengths) in
-    let ends : ends_fit (permuted order region.starts) (permuted order region.lengths) ≡ true = ends_of region.starts region.lengths order fit (λ i l. let b = o.below i l in omega arith) in
-    let made : subset_of_start_shape (permuted order region.starts) (permuted order region.lengths) ≡ Ok (permuted_region order region) = rw (eq-eqb (length (permuted order region.starts)) (length (permuted order region.lengths)) same, ends) refl in
-    is ∙ ap (λ s. subset_of_start_shape s ys) x ∙ ap (subset_of_start_shape (permuted order region.starts)) y ∙ made
-
-pub order_axes : (order sizes : List ℕ) → is_ok (coordinates (transpose order) sizes) ≡ true → length order ≡ length sizes
-order_axes order sizes h =
-    elim (cases_Bool (length order == length sizes)) [
-      | inl same ↦ eqb-true (length order) (length sizes) same
-      | inr other ↦ absurd (let bad : false ≡ true = rw other at h in cc)
-    ]
-
--- an order of as many axes as the chunk has as many as the region has
-pub order_starts : (order sizes : List ℕ) (region : Region) → is_ok (coordinates (transpose order) sizes) ≡ true → is_box_inside sizes region.starts region.lengths ≡ true → length order ≡ length region.starts
-order_starts order sizes region h inside = order_axes order sizes h ∙ sym (is_box_inside-lengths sizes region.starts region.lengths inside).0
 
 -- ---- the parts of a list of codecs
 
@@ -102,9 +77,7 @@ first_coordinates : (all codecs : List ArrayMapping) (codec : ArrayMapping) (siz
 first_coordinates all codecs codec sizes region e takes = let f = first_taken all codecs codec sizes e takes.taken in rw f.is refl
 
 fits_at : (codec : ArrayMapping) (sizes : List ℕ) (region : Region) → is_ok (coordinates codec sizes) ≡ true → is_box_inside sizes region.starts region.lengths ≡ true → FitsRegion codec region
-fits_at (transpose order) sizes region h inside = order_axes order sizes h ∙ sym (is_box_inside-lengths sizes region.starts region.lengths inside).1
-fits_at (reshape dims) sizes region h inside = tt
-fits_at squeeze sizes region h inside = tt
+fits_at codec sizes region h inside = (array_laws codec).part_fits sizes region.lengths (is_box_inside-lengths sizes region.starts region.lengths inside).1 h
 
 first_fits : (all codecs : List ArrayMapping) (codec : ArrayMapping) (sizes : List ℕ) (region : Region) → all ≡ codec ∷ codecs → TakesRegion all sizes region → FitsRegion codec region
 first_fits all codecs codec sizes region e takes = fits_at codec sizes region (first_coordinates all codecs codec sizes region e takes) takes.inside

@@ -18,12 +18,13 @@ use Rattle.zarrs_array_bytes.specs.Update.{update}
 use Rattle.zarrs_codec.specs.CoordinateMap.{CoordinateMap, IsCoordinateMap, composition, inverse_map, moved_chunk}
 use Rattle.zarrs_metadata.specs.Orders.{IsOrder}
 use Rattle.zarrs_array_to_array.specs.Orders.{permuted}
+use Rattle.zarrs_array_to_array.specs.TransposeMeaning.{permuted_region}
 use Rattle.zarrs_array_to_array.specs.Transpose.{transposed_place, transposition}
 use Rattle.zarrs_array_to_array.proofs.CoordinateMaps.{composed_map, moved_select, moved_update}
 use Rattle.zarrs_array_to_array.proofs.Orders.{length-permuted, permuted_at, permuted_inside, permuted_product}
 use Rattle.zarrs_array_to_array.proofs.Transposition.{transposed_tuple, transposition_map}
 use Rattle.zarrs_array_regions.specs.declared.window.Window.{Window}
-use Rattle.zarrs_array_regions.specs.Windows.{IsWindow, KeepsWindow, window_of, window_places, permuted_region}
+use Rattle.zarrs_array_regions.specs.Windows.{IsWindow, KeepsWindow, window_of, window_places}
 use Rattle.zarrs_array_regions.proofs.Rearranged.{rearranged, is_rearranged, map-rearranged, update_rearranged}
 
 -- ---- the tuples of a box by their numbers

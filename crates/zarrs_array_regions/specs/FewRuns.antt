@@ -12,7 +12,7 @@ use Rattle.zarrs_data_type.specs.Element.{Chunk}
 use Rattle.zarrs_data_type.specs.ElementType.{ElementType}
 use Rattle.zarrs_array_bytes.specs.Held.{Held}
 use Rattle.zarrs_array_bytes.specs.Validity.{Holds}
-use Rattle.zarrs_array_to_array.specs.ArrayToArrayCodec.{ArrayMapping, transpose, reshape, squeeze}
+use Rattle.zarrs_array_to_array.specs.ArrayToArrayCodec.{ArrayMapping, transpose}
 use Rattle.zarrs_bytes.specs.ReadingCalls.{consecutive_runs}
 use Rattle.zarrs_array_regions.specs.Parts.{FitsRegion, held_elements, part_encoded}
 use Rattle.zarrs_array_regions.specs.Windows.{window_of, window_places, window_elements, last_window, encoded_elements}
@@ -36,9 +36,7 @@ region_run_count codecs sizes region = length (consecutive_runs (window_places (
 abbrev pub transpose_at_most : List ArrayMapping → Bool
 transpose_at_most [] = true
 transpose_at_most (transpose order ∷ []) = true
-transpose_at_most (transpose order ∷ (next ∷ codecs)) = false
-transpose_at_most (reshape dims ∷ codecs) = false
-transpose_at_most (squeeze ∷ codecs) = false
+transpose_at_most codecs = false
 
 -- A region of a chunk of these sizes has few runs: it goes through no codec or one transposition, the chunk has eight axes at most, and the region's last window fifteen runs at most.
 abbrev pub has_few_runs : List ArrayMapping → List ℕ → Region → Bool

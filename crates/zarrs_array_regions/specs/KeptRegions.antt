@@ -5,13 +5,14 @@ use Rattle.zarrs_chunk.specs.ChunkShape.{product}
 use Rattle.zarrs_chunk.specs.Region.{Region}
 use Rattle.zarrs_chunk.specs.Selection.{Selection, subset, indices, bounds_of}
 use Rattle.zarrs_chunk.specs.Tuples.{is_box_inside}
-use Rattle.zarrs_array_to_array.specs.ArrayToArrayCodec.{ArrayMapping, reshape, keeps_places}
+use Rattle.zarrs_array_to_array.specs.ArrayToArrayCodec.{ArrayMapping, keeps_places}
+use Rattle.zarrs_array_to_array.specs.EncodedBoxes.{keeps_boxes}
 
--- The codecs take every region to a region: no transposition stands behind a reshape, which gives the chunk other axes.
+-- The codecs take every region to a region: behind one that makes no boxes of boxes, as a reshape gives the chunk other axes, each leaves the places where they are.
 abbrev pub keeps_regions : List ArrayMapping → Bool
 keeps_regions [] = true
-keeps_regions (reshape dims ∷ codecs) = list_all keeps_places codecs
-keeps_regions (codec ∷ codecs) = keeps_regions codecs
+keeps_regions (codec ∷ codecs) =
+    if keeps_boxes codec then keeps_regions codecs else list_all keeps_places codecs
 
 -- no length of the box is zero
 abbrev pub is_filled : Region → Bool

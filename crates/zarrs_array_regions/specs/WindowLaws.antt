@@ -18,15 +18,16 @@ use Rattle.zarrs_codec.specs.CoordinateMap.{CoordinateMap, IsCoordinateMap, comp
 use Rattle.zarrs_codec.specs.StorageState.{are_sure}
 use Rattle.zarrs_metadata.specs.Orders.{is_order}
 use Rattle.zarrs_array_to_array.specs.ArrayToArrayCodec.{ArrayMapping, IsMapping, coordinates, chained}
-use Rattle.zarrs_array_to_array.specs.EncodedSelection.{squeezed_region}
+use Rattle.zarrs_array_to_array.specs.SqueezeMeaning.{squeezed_region}
 use Rattle.zarrs_array_to_array.specs.Orders.{permuted}
+use Rattle.zarrs_array_to_array.specs.TransposeMeaning.{permuted_region}
 use Rattle.zarrs_array_to_array.specs.Squeeze.{squeezed}
 use Rattle.zarrs_array_to_array.specs.Transpose.{transposition}
 use Rattle.zarrs_bytes.specs.BytesCodec.{bytes_length}
 use Rattle.zarrs_bytes.specs.PartialWrite.{bytes_left, with_place_bytes}
 use Rattle.zarrs_array_regions.specs.KeptRegions.{keeps_regions}
 use Rattle.zarrs_array_regions.specs.PlaceReaders.{brought_back, taken_along, ReadsInAnyOrder}
-use Rattle.zarrs_array_regions.specs.Windows.{IsWindow, KeepsWindow, window_count, window_of, window_places, window_elements, permuted_region, next_window, part_map, last_window, region_map, encoded_elements, decoded_elements, decoded_of}
+use Rattle.zarrs_array_regions.specs.Windows.{IsWindow, KeepsWindow, window_count, window_of, window_places, window_elements, next_window, part_map, last_window, region_map, encoded_elements, decoded_elements, decoded_of}
 use Rattle.zarrs_array_regions.specs.declared.window.Window.{Window}
 
 -- the places of a region of a chunk of these sizes, in row-major order

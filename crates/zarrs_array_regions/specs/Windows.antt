@@ -1,5 +1,5 @@
 -- Regions of chunks, and where array-to-array codecs take them.
-use Rattle.std.specs.Prelude.{◌≡◌, ℕ, ◌<◌, ◌^◌, true, List, [], ◌∷◌, map, get_or, is_ok, All, Option, Some, None, Vec, Result, Ok}
+use Rattle.std.specs.Prelude.{◌≡◌, ℕ, ◌<◌, ◌^◌, true, List, [], ◌∷◌, map, get_or, is_ok, All, Option, option_map, Some, None, Vec, Result, Ok, if◌then◌else◌}
 use Rattle.std.specs.declared.alloc.Global.{Global}
 use Rattle.zarrs_chunk.specs.Answer.{Gives, GivesBy}
 use Rattle.zarrs_chunk.specs.ChunkShape.{product}
@@ -13,13 +13,10 @@ use Rattle.zarrs_array_bytes.specs.Elements.{elements}
 use Rattle.zarrs_array_bytes.specs.Held.{Held}
 use Rattle.zarrs_array_bytes.specs.Validity.{Holds}
 use Rattle.zarrs_codec.specs.CoordinateMap.{CoordinateMap, IsCoordinateMap, same_places, composition, inverse_map, moved_chunk}
-use Rattle.zarrs_array_to_array.specs.ArrayToArrayCodec.{ArrayMapping, transpose, reshape, squeeze, chained}
+use Rattle.zarrs_array_to_array.specs.ArrayToArrayCodec.{ArrayMapping, chained, keeps_places}
 use Rattle.zarrs_array_to_array.specs.CodecAnswers.{type_taken}
-use Rattle.zarrs_array_to_array.specs.EncodedSelection.{squeezed_lengths, squeezed_region}
-use Rattle.zarrs_array_to_array.specs.Orders.{permuted}
+use Rattle.zarrs_array_to_array.specs.EncodedBoxes.{encoded_box, part_moves}
 use Rattle.zarrs_array_to_array.specs.Mapping.{mapping_of}
-use Rattle.zarrs_array_to_array.specs.Squeeze.{squeezed}
-use Rattle.zarrs_array_to_array.specs.Transpose.{transposition}
 use Rattle.zarrs_array_to_array.specs.declared.array_to_array_codec.ArrayToArrayCodec.{ArrayToArrayCodec}
 use Rattle.zarrs_array_regions.specs.declared.window.Window.{Window}
 
@@ -51,30 +48,26 @@ pub record KeepsWindow (count : ℕ) (m : CoordinateMap) (window next : Window) 
 
 -- ---- one codec
 
--- the box with its axes in this order
-abbrev pub permuted_region : List ℕ → Region → Region
-permuted_region order region = record { starts = permuted order region.starts; lengths = permuted order region.lengths }
-
 -- The window that a codec makes of one of the chunk's own sizes: transposition permutes the axes of both, squeezing drops those of size one. A reshape makes none: it gives the chunk other axes and leaves the window as it is.
 abbrev pub next_window : ArrayMapping → Window → Option Window
-next_window (transpose order) window =
-    Some (window_of (permuted order window.sizes) (permuted_region order window.region))
-next_window (reshape dims) window = None
-next_window squeeze window =
-    Some (window_of (squeezed window.sizes) (squeezed_region window.sizes window.region))
-
--- what the codec does to the window's elements, as a chunk of the region's own lengths
-abbrev pub part_map : ArrayMapping → Window → CoordinateMap
-part_map (transpose order) window = transposition order window.region.lengths
-part_map (reshape dims) window = same_places window.region.lengths
-part_map squeeze window = same_places (squeezed_lengths window.sizes window.region.lengths)
-
--- ---- codecs one after another
+next_window codec window =
+    option_map (λ there. window_of there.0 there.1) (encoded_box codec window.sizes window.region)
 
 -- what is made of the next window, or what stays where there is none
 abbrev pub behind_window : {A : Type 0} → Option Window → A → (Window → A) → A
 behind_window None stay go = stay
 behind_window (Some next) stay go = go next
+
+-- the lengths of the next window's region, or of its own where there is none
+abbrev pub next_lengths : ArrayMapping → Window → List ℕ
+next_lengths codec window = behind_window (next_window codec window) window.region.lengths (λ next. next.region.lengths)
+
+-- what the codec does to the window's elements, as a chunk of the region's own lengths
+abbrev pub part_map : ArrayMapping → Window → CoordinateMap
+part_map codec window =
+    if keeps_places codec then same_places (next_lengths codec window) else part_moves codec window.region.lengths
+
+-- ---- codecs one after another
 
 -- The window that codecs take one of the chunk's own sizes to, one after another. From a reshape on it stays: where codecs keep regions, all later ones leave each place where it is.
 abbrev pub last_window : List ArrayMapping → Window → Window
@@ -110,10 +103,6 @@ TakeType codecs type = All (λ codec. type_taken codec type ≡ Ok tt) codecs
 -- the elements that a container has for the places of a window
 abbrev pub window_elements : ElementType → Window → Held → Chunk
 window_elements type window held = elements type (window_count window) held
-
--- what is given is the window that the codec makes of this one
-abbrev pub GivesThisWindow : ArrayMapping → Window → Result Window CodecError → Type 0
-GivesThisWindow codec window result = Gives Some result (Ok (next_window codec window))
 
 -- the elements of the window, decoded from those that a container has for the last one
 abbrev pub decoded_of : List ArrayMapping → ElementType → Window → Held → Chunk

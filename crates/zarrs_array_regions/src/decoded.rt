@@ -44,25 +44,23 @@ fn decoded_part<'a>(
         (Ok (part_decoded (mapping_of codec.now) data_type.now part.now held.entry)) }
     ensures tight { KeepsTight data_type.now held.entry result }
 {
-    match codec {
-        ArrayToArrayCodec::Transpose(codec) => {
-            // Not `?`: a call to `drop` is one step of the proof, and a drop at the end is many.
-            let shape = match region_shape(alloc, part) {
-                Ok(shape) => shape,
-                Err(error) => {
-                    drop(held);
-                    return Err(error);
-                }
-            };
-            codec.decode(alloc, held, &shape, data_type, fill_value)
-        }
-        ArrayToArrayCodec::Reshape(_) | ArrayToArrayCodec::Squeeze(_) => Ok(held),
+    if codec.keeps_places() {
+        return Ok(held);
     }
+    // Not `?`: a call to `drop` is one step of the proof, and a drop at the end is many.
+    let shape = match region_shape(alloc, part) {
+        Ok(shape) => shape,
+        Err(error) => {
+            drop(held);
+            return Err(error);
+        }
+    };
+    codec.decode(alloc, held, &shape, data_type, fill_value)
 }
 
 /// The elements of a region of a chunk of this shape from those of the window that the codecs take it
-/// to, decoded codec by codec, each at the region's lengths before it: `transpose` moves them, and the
-/// others leave them as they are. The codecs accept the chunk and its type, the region has elements,
+/// to, decoded codec by codec, each at the region's lengths before it: a codec that keeps places leaves
+/// them as they are. The codecs accept the chunk and its type, the region has elements,
 /// and there is one in `held` for each. Where `held` is fixed by its elements, so is what is made.
 /// Errors: `OutOfMemory`.
 pub fn decoded_window<'a>(

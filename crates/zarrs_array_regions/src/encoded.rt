@@ -1,5 +1,5 @@
 //! The runs of a region where codecs take it with its elements there, from those of the region.
-ghost use Rattle.std.specs.Prelude.{◌≡◌, ◌<◌, ◌^◌, [], Ok, true, map, IfOk};
+ghost use Rattle.std.specs.Prelude.{◌≡◌, ◌<◌, ◌^◌, [], Ok, true, length, map, IfOk};
 ghost use Rattle.zarrs_chunk.specs.Answer.{seen};
 ghost use Rattle.zarrs_chunk.specs.ChunkShape.{product};
 ghost use Rattle.zarrs_chunk.specs.Runs.{AreFilled, EndWithin, AreApart};
@@ -31,7 +31,7 @@ pub(crate) fn transposed_part<'b>(
     held: &ArrayBytes<'_>,
     data_type: &DataType,
 ) -> Result<ArrayBytes<'b>, CodecError>
-    requires axes { FitsRegion (transpose codec.now) part.now }
+    requires axes { length codec.now ≡ length part.now.lengths }
     requires filled { 0 < product part.now.lengths }
     requires counted { product part.now.lengths < 2 ^ 64 }
     requires valid { validity data_type.now (product part.now.lengths) held.now ≡ Ok tt }
@@ -60,12 +60,8 @@ fn encoded_part<'a>(
     ensures encoded { EncodesPart (mapping_of codec.now) data_type.now part.now held.entry result }
     ensures tight { KeepsTight data_type.now held.entry result }
 {
-    match codec {
-        ArrayToArrayCodec::Transpose(codec) => {
-            transposed_part(alloc, codec, part, &held, data_type)
-        }
-        ArrayToArrayCodec::Reshape(_) | ArrayToArrayCodec::Squeeze(_) => Ok(held),
-    }
+    let count = part.num_elements()?;
+    codec.encode_part(alloc, held, part.shape(), count, data_type)
 }
 
 /// The elements of a region as they stand where no codec or the one that there is takes it, from those

@@ -1,34 +1,12 @@
 //! Where a region goes through array-to-array codecs as a region.
 ghost use Rattle.std.specs.Prelude.{◌≡◌, [], map, IfSome, Some, option_map};
-ghost use Rattle.std.specs.List.{list_all};
 ghost use Rattle.zarrs_chunk.specs.Indexer.{selection_of};
 ghost use Rattle.zarrs_chunk.specs.Region.{Region};
 ghost use Rattle.zarrs_array_to_array.specs.Mapping.{mapping_of};
-ghost use Rattle.zarrs_array_to_array.specs.ArrayToArrayCodec.{keeps_places as keeps_places_of};
 ghost use Rattle.zarrs_array_regions.specs.KeptRegions.{keeps_regions as keeps_regions_of, is_filled as is_filled_of, kept_region as kept_region_of, IsKept};
 
-use zarrs_array_to_array::ArrayToArrayCodec;
+use zarrs_array_to_array::{ArrayToArrayCodec, keep_places};
 use zarrs_chunk::{ArraySubset, ChunkShape, Indexer};
-
-/// Whether the codec leaves each place where it is.
-fn keeps_places(codec: &ArrayToArrayCodec) -> bool
-    ensures value { result ≡ keeps_places_of (mapping_of codec.now) }
-{
-    match codec {
-        ArrayToArrayCodec::Transpose(_) => false,
-        ArrayToArrayCodec::Reshape(_) | ArrayToArrayCodec::Squeeze(_) => true,
-    }
-}
-
-/// Whether each of the codecs does.
-fn keep_places(codecs: &[ArrayToArrayCodec]) -> bool
-    ensures value { result ≡ list_all keeps_places_of (map mapping_of codecs.now) }
-{
-    match codecs {
-        [] => true,
-        [first, rest @ ..] => keeps_places(first) && keep_places(rest),
-    }
-}
 
 /// Whether the codecs take every region to a region: no transposition stands behind a reshape.
 fn keeps_regions(codecs: &[ArrayToArrayCodec]) -> bool
@@ -36,10 +14,8 @@ fn keeps_regions(codecs: &[ArrayToArrayCodec]) -> bool
 {
     match codecs {
         [] => true,
-        [first, rest @ ..] => match first {
-            ArrayToArrayCodec::Reshape(_) => keep_places(rest),
-            ArrayToArrayCodec::Transpose(_) | ArrayToArrayCodec::Squeeze(_) => keeps_regions(rest),
-        },
+        [first, rest @ ..] if first.keeps_boxes() => keeps_regions(rest),
+        [_, rest @ ..] => keep_places(rest),
     }
 }
 

@@ -17,7 +17,7 @@ use Rattle.zarrs_chunk.specs.declared.codec_error.CodecError.TheVariants.{Incomp
 use Rattle.zarrs_chunk.proofs.BoxTuples.{box_tuples-nothing}
 use Rattle.zarrs_chunk.proofs.Inside.{is_tuple_inside-length, row_major-below, is_box_inside-lengths, le_test, from_le_test, lt_test}
 use Rattle.zarrs_codec.specs.CoordinateMap.{same_places}
-use Rattle.zarrs_array_to_array.specs.EncodedSelection.{drops_empty_range, squeezed_lengths, squeezed_region}
+use Rattle.zarrs_array_to_array.specs.SqueezeMeaning.{drops_empty_range, squeeze_asked, squeezed_lengths, squeezed_region}
 use Rattle.zarrs_codec.specs.MappedSelection.{IsImage}
 use Rattle.zarrs_metadata.specs.Orders.{IsOrder}
 use Rattle.zarrs_array_to_array.specs.Orders.{permuted}
@@ -296,3 +296,7 @@ squeezed_image_subset sizes region h =
       places = ap (map (row_major (squeezed sizes))) (squeezed_box sizes region.starts region.lengths box)
           ∙ each_number sizes (squeezed sizes) (same_places (squeezed sizes)).to (squeezed_tuple sizes) (squeezed_goes sizes) (box_tuples region.starts region.lengths) (box_inside sizes region.starts region.lengths box);
     }
+
+pub squeezed_image : (sizes : List ℕ) (selection : Selection) → bounds_of selection sizes ≡ Ok tt → IsImage sizes (same_places (squeezed sizes)) selection (squeeze_asked sizes selection)
+squeezed_image sizes (subset region) h = squeezed_image_subset sizes region h
+squeezed_image sizes (indices tuples) h = squeezed_image_indices sizes tuples h

@@ -21,16 +21,17 @@ use Rattle.zarrs_array_to_array.proofs.CheckedTuples.{tuples_inside}
 use Rattle.zarrs_array_to_array.specs.ArrayToArrayCodec.{ArrayMapping, IsMapping, transpose, reshape, squeeze, coordinates}
 use Rattle.zarrs_array_to_array.specs.Boxes.{EndsFit}
 use Rattle.zarrs_codec.specs.CoordinateMap.{CoordinateMap, same_places, IsMapTo}
-use Rattle.zarrs_array_to_array.specs.EncodedSelection.{squeezed_lengths, squeezed_region, selection_in}
-use Rattle.zarrs_codec.specs.MappedSelection.{IsImage, IsImageBy, image_of}
+use Rattle.zarrs_array_to_array.specs.EncodedSelection.{selection_in}
+use Rattle.zarrs_array_to_array.specs.SqueezeMeaning.{squeezed_lengths, squeezed_region}
+use Rattle.zarrs_codec.specs.MappedSelection.{IsImageBy, image_of}
 use Rattle.zarrs_metadata.specs.Orders.{is_order}
 use Rattle.zarrs_array_to_array.specs.Orders.{permuted}
 use Rattle.zarrs_metadata.specs.Dims.{Dim}
 use Rattle.zarrs_array_to_array.specs.Reshape.{reshaped, dims_told, counts_agree, others_of, sizes_with}
 use Rattle.zarrs_array_to_array.specs.Squeeze.{above_one, or_one, squeezed, kept_indices, or_zero, squeezed_tuple}
 use Rattle.zarrs_chunk.specs.Indices.{tuple_of_number}
-use Rattle.zarrs_array_to_array.proofs.Chains.{codec_map}
-use Rattle.zarrs_array_to_array.proofs.Images.{squeezed_box_inside, squeezed_image_subset, squeezed_image_indices, transposed_image, reshaped_image}
+use Rattle.zarrs_array_to_array.proofs.ArrayLaws.{array_laws}
+use Rattle.zarrs_array_to_array.proofs.Images.{squeezed_box_inside, transposed_image, reshaped_image}
 use Rattle.zarrs_metadata.proofs.Orders.{order_parts}
 use Rattle.zarrs_array_bytes.proofs.AnswerLemmas.{checked_is}
 use Rattle.zarrs_codec.specs.SampleLaws.{eq_test}
@@ -110,10 +111,6 @@ squeezed_made sizes region h fits =
     eq_from : (a b : ℕ) → a ≡ b → (a == b) ≡ true
     eq_from a b h = grind (arith, nat_tests)
 
-pub squeezed_image : (sizes : List ℕ) (selection : Selection) → bounds_of selection sizes ≡ Ok tt → IsImage sizes (same_places (squeezed sizes)) selection (selection_in squeeze sizes (squeezed sizes) selection)
-squeezed_image sizes (subset region) h = squeezed_image_subset sizes region h
-squeezed_image sizes (indices tuples) h = squeezed_image_indices sizes tuples h
-
 -- ---- counts
 
 pub box_count : (sizes : List ℕ) (region : Region) (count : ℕ) → is_box_inside sizes region.starts region.lengths ≡ true → len_of (subset region) ≡ Ok count → product region.lengths ≡ count
@@ -143,7 +140,7 @@ pub map_to : (codec : ArrayMapping) (sizes next : List ℕ) → IsMapping codec 
 map_to codec sizes next is positive h = go (coordinates codec sizes) refl h
   where
     go : (r : Result CoordinateMap CodecError) → coordinates codec sizes ≡ r → seen (λ m. m.encoded) r ≡ Ok next → IsMapTo (coordinates codec sizes) sizes next
-    go (Ok m) e h = rw e (cc, codec_map codec sizes m is positive e)
+    go (Ok m) e h = rw e (cc, (array_laws codec).map_is sizes m is positive e)
     go (Err x) e h = absurd (cc)
 
 -- ---- transposition

@@ -35,3 +35,13 @@ pub mod NeverAbsent
 pub mod InPlace
 pub mod CodecLists
 pub mod ListedPlaces
+pub mod PermutedBoxes
+pub mod LawfulArray
+pub mod LawfulTranspose
+pub mod LawfulReshape
+pub mod LawfulSqueeze
+pub mod ArrayLaws
+pub mod CleanMembers
+pub mod SameMaps
+pub mod MadeSound
+pub mod StageFaults

@@ -8,7 +8,7 @@ use Rattle.zarrs_metadata.specs.ReshapeConfiguration.{write_reshape}
 use Rattle.zarrs_metadata.specs.TransposeConfiguration.{write_transpose}
 use Rattle.zarrs_metadata.proofs.MadeAgain.{transpose-made_again, reshape-made_again}
 use Rattle.zarrs_array_to_array.specs.ArrayToArrayCodec.{ArrayMapping, IsMapping, transpose, reshape, squeeze}
-use Rattle.zarrs_array_to_array.specs.MappingMetadata.{mapping_configuration, mapping_made, mapping_name}
+use Rattle.zarrs_array_to_array.specs.MappingMetadata.{is_mapping_name, mapping_configuration, mapping_made, mapping_name}
 
 pub order_made_again : (order : List ℕ) (members : Members) → is_order order ≡ true → write_transpose order ≡ members → transpose_made (codec_metadata transpose_name members) ≡ Ok order
 order_made_again order members h e = rw (sym e) (transpose-made_again order h)
@@ -20,3 +20,9 @@ pub mappings_made_again : (codec : ArrayMapping) → IsMapping codec → mapping
 mappings_made_again (transpose order) h = rw (transpose-made_again order h) refl
 mappings_made_again (reshape dims) h = rw (reshape-made_again dims h) refl
 mappings_made_again squeeze h = refl
+
+-- the name that is written of a codec is one of an array-to-array codec
+pub mapping_named : (codec : ArrayMapping) → is_mapping_name (mapping_name codec) ≡ true
+mapping_named (transpose order) = refl
+mapping_named (reshape dims) = refl
+mapping_named squeeze = refl

@@ -1,52 +1,31 @@
 -- What a reader answers over the reader of a moved chunk, by places.
-use Rattle.std.proofs.Common.{◌≡◌, ◌==◌, ℕ, ◌<◌, ◌^◌, Bool, List, length, map, Result, Ok, Err, arith, refl, ap, ◌∙◌}
+use Rattle.std.proofs.Common.{◌≡◌, ℕ, ◌<◌, ◌^◌, Bool, List, length, map, Result, Ok, Err, arith, refl, ap, ◌∙◌}
 use Rattle.std.specs.List.{All}
 use Rattle.std.proofs.lemmas.List.{length-map}
 use Rattle.std.proofs.lemmas.Simd.{map-map}
-use Rattle.zarrs_chunk.specs.Answer.{◌>>=◌, demand, checked_u64}
-use Rattle.zarrs_chunk.specs.AnswerLaws.{demand_ok}
+use Rattle.zarrs_chunk.specs.Answer.{◌>>=◌, checked_u64}
 use Rattle.zarrs_chunk.specs.ChunkShape.{product}
 use Rattle.zarrs_chunk.specs.Selection.{Selection, tuples_of, bounds_of, len_of, places_of}
 use Rattle.zarrs_chunk.specs.Tuples.{row_major}
 use Rattle.zarrs_chunk.specs.declared.codec_error.CodecError.{CodecError}
-use Rattle.zarrs_chunk.specs.declared.codec_error.CodecError.TheVariants.{IncompatibleDimensionality}
 use Rattle.zarrs_chunk.proofs.PlaceLaws.{known_below}
 use Rattle.zarrs_data_type.specs.Element.{Element, Chunk}
 use Rattle.zarrs_array_bytes.specs.Elements.{select}
 use Rattle.zarrs_codec.specs.ArrayReader.{ArrayReader}
-use Rattle.zarrs_codec.specs.CoordinateMap.{CoordinateMap, IsCoordinateMap, same_places, moved_chunk}
+use Rattle.zarrs_codec.specs.CoordinateMap.{CoordinateMap, IsCoordinateMap, moved_chunk}
 use Rattle.zarrs_codec.specs.MappedSelection.{IsImage, image_of}
-use Rattle.zarrs_array_to_array.specs.ArrayToArrayCodec.{ArrayMapping, IsMapping, transpose, reshape, squeeze, coordinates}
+use Rattle.zarrs_array_to_array.specs.ArrayToArrayCodec.{ArrayMapping, IsMapping, coordinates}
 use Rattle.zarrs_array_to_array.specs.EncodedSelection.{selection_in}
 use Rattle.zarrs_array_to_array.specs.ReaderLaws.{AnswersByPlaces, ReadsChunk, ReadsFill, reader_through}
-use Rattle.zarrs_array_to_array.specs.Reshape.{reshaped}
-use Rattle.zarrs_array_to_array.specs.Squeeze.{squeezed}
-use Rattle.zarrs_array_to_array.specs.Transpose.{transposition}
-use Rattle.zarrs_metadata.proofs.Orders.{order_parts}
-use Rattle.zarrs_array_to_array.proofs.AnswerSteps.{step_ok}
+use Rattle.zarrs_array_to_array.proofs.ArrayLaws.{array_laws}
 use Rattle.zarrs_array_to_array.proofs.Chains.{codec_map}
 use Rattle.zarrs_array_to_array.proofs.CoordinateMaps.{moved_select}
-use Rattle.zarrs_array_to_array.proofs.Images.{transposed_image, reshaped_image}
-use Rattle.zarrs_array_to_array.proofs.Indexers.{squeezed_image}
-use Rattle.zarrs_array_to_array.proofs.Reshaping.{reshaped_product}
-use Rattle.zarrs_array_to_array.proofs.Orders.{eq_true}
 use Rattle.zarrs_chunk.proofs.Inside.{lt_test}
 
 -- ---- what is asked for
 
-pub same_map : (m n : CoordinateMap) → ◌≡◌ {A = Result CoordinateMap CodecError} (Ok n) (Ok m) → n ≡ m
-same_map m n e = cc
-
 pub codec_image : (codec : ArrayMapping) (sizes : List ℕ) (m : CoordinateMap) (selection : Selection) → IsMapping codec → coordinates codec sizes ≡ Ok m → bounds_of selection sizes ≡ Ok tt → IsImage sizes m selection (selection_in codec sizes m.encoded selection)
-codec_image (transpose order) sizes m selection is takes inside =
-    let step = step_ok (demand (length order == length sizes) IncompatibleDimensionality) (λ _. Ok (transposition order sizes)) m takes in
-    let axes : length order ≡ length sizes = eq_true _ _ (demand_ok (length order == length sizes) IncompatibleDimensionality step.1) in
-    rw (← same_map m (transposition order sizes) step.2) (transposed_image order sizes selection (order_parts order is) axes inside)
-codec_image (reshape dims) sizes m selection is takes inside =
-    let found = step_ok (reshaped dims sizes) (λ encoded. Ok (same_places encoded)) m takes in
-    rw (← same_map m (same_places found.0) found.2) (reshaped_image sizes found.0 selection (reshaped_product dims sizes found.0 is found.1) inside)
-codec_image squeeze sizes m selection is takes inside =
-    rw (← same_map m (same_places (squeezed sizes)) takes) (squeezed_image sizes selection inside)
+codec_image codec sizes m selection is takes inside = (array_laws codec).image_is sizes m selection is takes inside
 
 -- ---- what is answered
 

@@ -1,20 +1,13 @@
 -- Errors of codecs are no faults of a handle.
-use Rattle.std.proofs.Common.{◌≡◌, ◌==◌, nat_lt, not, is_some, ℕ, ◌/◌, ◌^◌, Bool, true, false, List, [], ◌∷◌, length, Ok, Err, Result, refl, if◌then◌else◌}
+use Rattle.std.proofs.Common.{◌≡◌, nat_lt, ℕ, ◌/◌, ◌^◌, Bool, true, false, List, [], ◌∷◌, length, Ok, Err, Result, refl, if◌then◌else◌}
 use Rattle.std.specs.List.{list_all}
 use Rattle.zarrs_chunk.specs.Answer.{◌>>=◌, demand, checked_u64, Answers, memory, fault, is_fault, seen}
 use Rattle.zarrs_chunk.specs.ChunkShape.{product}
 use Rattle.zarrs_chunk.specs.declared.codec_error.CodecError.{CodecError}
-use Rattle.zarrs_chunk.specs.declared.codec_error.CodecError.TheVariants.{Overflow, ReshapeDimension, ReshapeElements, Storage, IncompatibleDimensionality, UnsupportedDataType}
-use Rattle.zarrs_data_type.specs.ElementType.{ElementType, inner_of}
-use Rattle.zarrs_codec.specs.CoordinateMap.{same_places}
-use Rattle.zarrs_codec.specs.MappedChunk.{encoded_form}
-use Rattle.zarrs_array_to_array.specs.ArrayToArrayCodec.{ArrayMapping, transpose, reshape, squeeze, coordinates}
-use Rattle.zarrs_array_to_array.specs.CodecAnswers.{type_taken}
-use Rattle.zarrs_array_to_array.specs.Transpose.{transposition}
+use Rattle.zarrs_chunk.specs.declared.codec_error.CodecError.TheVariants.{Overflow, ReshapeDimension, ReshapeElements, Storage}
 use Rattle.zarrs_array_to_array.specs.Orders.{permuted}
 use Rattle.zarrs_metadata.specs.Dims.{Dim, size, auto, input_dims}
 use Rattle.zarrs_array_to_array.specs.Reshape.{reshaped, axes_product, dims_told, counts_agree, others_of, sizes_with}
-use Rattle.zarrs_array_to_array.specs.declared.transpose.transpose_codec.TheConstants.{TRANSPOSE}
 
 pub no_fault_from : {T V : Type 0} (view : T → V) (r : Result T CodecError) (expected : Result V CodecError) → Answers memory view r expected → is_fault expected ≡ false → is_fault r ≡ false
 no_fault_from view (Ok x) expected h n = refl
@@ -56,31 +49,6 @@ reshaped_no_fault dims sizes =
     (λ _. bind_no_fault (checked_u64 (others_of sizes dims)) (λ _. demand (counts_agree sizes dims) ReshapeElements >>= λ _. Ok (sizes_with (product sizes / others_of sizes dims) sizes dims)) (checked_no_fault (others_of sizes dims))
     (λ _. bind_no_fault (demand (counts_agree sizes dims) ReshapeElements) (λ _. Ok (sizes_with (product sizes / others_of sizes dims) sizes dims)) (demand_no_fault (counts_agree sizes dims) ReshapeElements refl) (λ _. refl))))
 
--- an error of a shape is no fault
-coordinates_no_fault : (codec : ArrayMapping) (sizes : List ℕ) → is_fault (coordinates codec sizes) ≡ false
-coordinates_no_fault (transpose order) sizes =
-    bind_no_fault (demand (length order == length sizes) IncompatibleDimensionality) (λ _. Ok (transposition order sizes)) (demand_no_fault (length order == length sizes) IncompatibleDimensionality refl) (λ _. refl)
-coordinates_no_fault (reshape dims) sizes = bind_no_fault (reshaped dims sizes) (λ encoded. Ok (same_places encoded)) (reshaped_no_fault dims sizes) (λ _. refl)
-coordinates_no_fault squeeze sizes = refl
-
-taken_no_fault : (codec : ArrayMapping) (type : ElementType) → is_fault (type_taken codec type) ≡ false
-taken_no_fault (transpose order) type = demand_no_fault (not (is_some (inner_of type))) (UnsupportedDataType TRANSPOSE) refl
-taken_no_fault (reshape dims) type = refl
-taken_no_fault squeeze type = refl
-
-form_no_fault : (codec : ArrayMapping) (sizes : List ℕ) (type : ElementType) (fill : List ℕ) → is_fault (encoded_form (type_taken codec type) (coordinates codec sizes) type fill) ≡ false
-form_no_fault codec sizes type fill =
-    bind_no_fault (type_taken codec type) (λ _. coordinates codec sizes >>= λ m. Ok (m.encoded, type, fill)) (taken_no_fault codec type)
-    (λ _. bind_no_fault (coordinates codec sizes) (λ m. Ok (m.encoded, type, fill)) (coordinates_no_fault codec sizes) (λ _. refl))
-
 pub seen_no_fault : {A B : Type 0} (f : A → B) (r : Result A CodecError) → is_fault r ≡ false → is_fault (seen f r) ≡ false
 seen_no_fault f (Ok x) h = refl
 seen_no_fault f (Err e) h = h
-
--- an error of a stage is no fault
-pub making_no_fault : {P V : Type 0} (view : P → V) (codec : ArrayMapping) (sizes : List ℕ) (type : ElementType) (fill : List ℕ) (f : List ℕ × ElementType × List ℕ → V) (parts : Result P CodecError) (made : Result (Unit {0}) CodecError)
-    → Answers memory view parts (seen f (encoded_form (type_taken codec type) (coordinates codec sizes) type fill)) → made ≡ seen (λ _. tt) parts → is_fault made ≡ false
-making_no_fault view codec sizes type fill f parts made answer is =
-    let expected = encoded_form (type_taken codec type) (coordinates codec sizes) type fill in
-    let none : is_fault parts ≡ false = no_fault_from view parts (seen f expected) answer (seen_no_fault f expected (form_no_fault codec sizes type fill)) in
-    rw is (seen_no_fault (λ _. tt) parts none)

@@ -16,7 +16,8 @@ use Rattle.zarrs_codec.specs.CountLaws.{passed}
 use Rattle.zarrs_codec.specs.MappedLaws.{asked_behind}
 use Rattle.zarrs_codec.specs.MappedSelection.{image_of, KeepsCount}
 use Rattle.zarrs_array_to_array.specs.ArrayToArrayCodec.{ArrayMapping, transpose, reshape, squeeze, coordinates}
-use Rattle.zarrs_array_to_array.specs.EncodedSelection.{drops_empty_range, squeezed_lengths, selection_in}
+use Rattle.zarrs_array_to_array.specs.EncodedSelection.{selection_in}
+use Rattle.zarrs_array_to_array.specs.SqueezeMeaning.{drops_empty_range, squeezed_lengths}
 use Rattle.zarrs_array_to_array.specs.Orders.{permuted}
 use Rattle.zarrs_array_to_array.specs.Squeeze.{kept_indices, or_one, or_zero, squeezed_tuple}
 use Rattle.zarrs_chunk.proofs.Products.{is_zero}

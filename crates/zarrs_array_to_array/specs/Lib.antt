@@ -6,6 +6,10 @@ pub mod Transpose
 pub mod TransposeLaws
 pub mod Reshape
 pub mod Squeeze
+pub mod ArrayMeaning
+pub mod TransposeMeaning
+pub mod ReshapeMeaning
+pub mod SqueezeMeaning
 pub mod ArrayToArrayCodec
 pub mod ChainLaws
 pub mod Strides
@@ -14,6 +18,7 @@ pub mod MovedLists
 pub mod Mapping
 pub mod TupleLaws
 pub mod EncodedSelection
+pub mod EncodedBoxes
 pub mod CountLaws
 pub mod Boxes
 pub mod CodecAnswers

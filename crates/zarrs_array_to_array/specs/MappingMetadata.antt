@@ -1,15 +1,16 @@
 -- The metadata of codecs that move elements.
-use Rattle.std.specs.Prelude.{ℕ, List, Result, if◌then◌else◌}
+use Rattle.std.specs.Prelude.{◌||◌, ℕ, Bool, List, Result, if◌then◌else◌}
 use Rattle.zarrs_metadata.specs.Data.{Members}
 use Rattle.zarrs_chunk.specs.Answer.{seen}
-use Rattle.zarrs_metadata.specs.CodecMetadata.{transpose_name, is_transpose_name, transpose_made, reshape_name, is_reshape_name, reshape_made, squeeze_name, squeeze_made}
+use Rattle.zarrs_metadata.specs.CodecMetadata.{is_transpose_name, transpose_made, is_reshape_name, reshape_made, is_squeeze_name, squeeze_made}
 use Rattle.zarrs_metadata.specs.Metadata.{Metadata}
 use Rattle.zarrs_metadata.specs.PluginCreateError.{Makes}
-use Rattle.zarrs_metadata.specs.ReshapeConfiguration.{write_reshape}
-use Rattle.zarrs_metadata.specs.SqueezeConfiguration.{write_squeeze}
-use Rattle.zarrs_metadata.specs.TransposeConfiguration.{write_transpose}
 use Rattle.zarrs_metadata.specs.declared.plugin_create_error.PluginCreateError.{PluginCreateError}
-use Rattle.zarrs_array_to_array.specs.ArrayToArrayCodec.{ArrayMapping, transpose, reshape, squeeze}
+use Rattle.zarrs_array_to_array.specs.ArrayToArrayCodec.{ArrayMapping, array_meaning, transpose, reshape, squeeze}
+
+-- the name is one of an array-to-array codec
+abbrev pub is_mapping_name : List ℕ → Bool
+is_mapping_name name = is_transpose_name name || is_reshape_name name || is_squeeze_name name
 
 -- the codec of a metadata, by its name, or the first error; no other name is known
 abbrev pub mapping_made : Metadata → Result ArrayMapping PluginCreateError
@@ -20,15 +21,11 @@ mapping_made metadata =
 
 -- the name that is written of a codec
 abbrev pub mapping_name : ArrayMapping → List ℕ
-mapping_name (transpose order) = transpose_name
-mapping_name (reshape dims) = reshape_name
-mapping_name squeeze = squeeze_name
+mapping_name codec = (array_meaning codec).name
 
 -- the members of the configuration that are written of a codec
 abbrev pub mapping_configuration : ArrayMapping → Members
-mapping_configuration (transpose order) = write_transpose order
-mapping_configuration (reshape dims) = write_reshape dims
-mapping_configuration squeeze = write_squeeze
+mapping_configuration codec = (array_meaning codec).configuration
 
 -- the codec that is made is the expected one, or the first error is returned
 abbrev pub MakesCodec : {C : Type 0} → Result C PluginCreateError → Result C PluginCreateError → Type 0

@@ -8,6 +8,7 @@
 mod array_to_array_codec;
 mod array_to_array_codec_partial;
 mod boxes;
+mod encoded_boxes;
 pub mod laws;
 mod metadata;
 mod reshape;
@@ -16,6 +17,7 @@ mod transpose;
 
 pub use array_to_array_codec::{ArrayToArrayCodec, encoded_places};
 pub use array_to_array_codec_partial::ArrayToArrayCodecPartial;
+pub use encoded_boxes::keep_places;
 pub use reshape::reshape_codec::{RESHAPE, ReshapeCodec};
 pub use reshape::reshape_codec_partial::ReshapeCodecPartial;
 pub use squeeze::squeeze_codec::{SQUEEZE, SqueezeCodec, squeezed_subset};

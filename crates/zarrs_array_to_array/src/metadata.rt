@@ -7,7 +7,7 @@ ghost use Rattle.zarrs_metadata.specs.PluginCreateError.{Makes};
 ghost use Rattle.zarrs_metadata.specs.ReshapeConfiguration.{reshape_seen};
 ghost use Rattle.zarrs_metadata.specs.TransposeConfiguration.{transpose_seen};
 ghost use Rattle.zarrs_array_to_array.specs.Mapping.{mapping_of};
-ghost use Rattle.zarrs_array_to_array.specs.MappingMetadata.{mapping_made, MakesCodec};
+ghost use Rattle.zarrs_array_to_array.specs.MappingMetadata.{is_mapping_name, mapping_made, MakesCodec};
 
 use crate::array_to_array_codec::ArrayToArrayCodec;
 use crate::reshape::reshape_codec::ReshapeCodec;
@@ -116,6 +116,13 @@ impl SqueezeCodec {
 }
 
 impl ArrayToArrayCodec {
+    /// Whether an array-to-array codec is known by this name.
+    pub fn is_named(name: &str) -> bool
+        ensures value { result ≡ is_mapping_name name.now }
+    {
+        name == "transpose" || name == "reshape" || is_squeeze(name)
+    }
+
     /// The codec of a metadata, by its name: `transpose`, `reshape`, `zarrs.squeeze` or
     /// `https://codec.zarrs.dev/array_to_array/squeeze`. Errors, the first that holds,
     /// `OutOfMemory` aside: `UnknownName` for another name; those of the codec's configuration.

@@ -13,7 +13,7 @@ use Rattle.zarrs_codec.specs.Lent.{Lent, whole_reference}
 use Rattle.zarrs_json.specs.KnownBytesCodec.{known_codecs}
 use Rattle.zarrs_codec.specs.declared.bytes_representation.BytesRepresentation.{BytesRepresentation}
 use Rattle.zarrs_chain_meaning.specs.CodecMeaning.{chain_representation}
-use Rattle.zarrs_chain_meaning.proofs.MadeMappings.{same_value}
+use Rattle.zarrs_array_to_array.proofs.MadeSound.{same_value}
 use Rattle.zarrs_json.specs.Header.{Header, header_form}
 use Rattle.zarrs_json.specs.HeaderRead.{header_seen}
 use Rattle.zarrs_json.specs.declared.header.ChunkHeader.{ChunkHeader}

@@ -12,7 +12,8 @@ use Rattle.zarrs_json.specs.KnownBytesCodec.{known_codecs}
 use Rattle.zarrs_json.specs.KnownMaker.{known_made}
 use Rattle.zarrs_chain_meaning.specs.MadeChain.{chain_made}
 use Rattle.zarrs_chain_meaning.specs.CodecMeaning.{chain_representation}
-use Rattle.zarrs_chain_meaning.proofs.MadeMappings.{same_value, chain_mappings}
+use Rattle.zarrs_array_to_array.proofs.MadeSound.{same_value}
+use Rattle.zarrs_chain_meaning.proofs.MadeMappings.{chain_mappings}
 use Rattle.zarrs_chain.specs.ChainJson.{create_answer, metadatas_shown, chain_shown}
 use Rattle.zarrs_chain.specs.declared.metadata.chain_json_error.ChainJsonError.{ChainJsonError}
 use Rattle.zarrs_chain.specs.declared.metadata.chain_json_error.ChainJsonError.TheVariants.{NotAList}

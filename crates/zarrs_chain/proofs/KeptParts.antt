@@ -29,10 +29,9 @@ use Rattle.zarrs_codec.specs.CoordinateMap.{CoordinateMap, IsCoordinateMap, comp
 use Rattle.zarrs_codec.specs.declared.bytes_representation.BytesRepresentation.{BytesRepresentation}
 use Rattle.zarrs_codec.specs.declared.bytes_representation.BytesRepresentation.TheVariants.{FixedSize}
 use Rattle.zarrs_codec.proofs.Fences.{first_true, second_true}
-use Rattle.zarrs_array_to_array.specs.ArrayToArrayCodec.{ArrayMapping, coordinates, transpose, reshape, squeeze, keeps_places}
+use Rattle.zarrs_array_to_array.specs.ArrayToArrayCodec.{ArrayMapping, coordinates, keeps_places}
 use Rattle.zarrs_array_to_array.specs.CodecAnswers.{type_taken}
-use Rattle.zarrs_array_to_array.specs.Reshape.{reshaped}
-use Rattle.zarrs_array_to_array.specs.Squeeze.{squeezed}
+use Rattle.zarrs_array_to_array.proofs.ArrayLaws.{array_laws}
 use Rattle.zarrs_array_to_array.proofs.CoordinateMaps.{length-moved, moved_at}
 use Rattle.zarrs_bytes.specs.ByteOrder.{turned_bytes}
 use Rattle.zarrs_bytes.specs.BytesCodec.{bytes_length, bytes_value, spelling, turn_size}
@@ -61,14 +60,9 @@ use Rattle.zarrs_chain.proofs.LeftOut.{same_left_out}
 -- ---- no element moves
 
 one_stays : (type : ElementType) (codec : ArrayMapping) (sizes : List ℕ) (m : CoordinateMap) (place : ℕ) → keeps_places codec ≡ true → codec_map type codec sizes ≡ Ok m → m.from place ≡ place
-one_stays type (transpose order) sizes m place h e = absurd (false≢true h)
-one_stays type (reshape dims) sizes m place h e =
-    let a = bind_ok (type_taken (reshape dims) type) (λ x. coordinates (reshape dims) sizes) m e in
-    let b = bind_ok (reshaped dims sizes) (λ (x : List ℕ). ok (same_places x)) m a.2 in
-    ap (λ (x : CoordinateMap). x.from place) (sym (ok_is (same_places b.0) m b.2))
-one_stays type squeeze sizes m place h e =
-    let a = bind_ok (type_taken squeeze type) (λ x. coordinates squeeze sizes) m e in
-    ap (λ (x : CoordinateMap). x.from place) (sym (ok_is (same_places (squeezed sizes)) m a.2))
+one_stays type codec sizes m place h e =
+    let a = bind_ok (type_taken codec type) (λ x. coordinates codec sizes) m e in
+    (array_laws codec).stays_from sizes m place h a.2
 
 all_stay : (type : ElementType) (codecs : List ArrayMapping) (sizes : List ℕ) (m : CoordinateMap) (place : ℕ) → list_all keeps_places codecs ≡ true → arrays_map type codecs sizes ≡ Ok m → m.from place ≡ place
 all_stay type [] sizes m place h e = ap (λ (x : CoordinateMap). x.from place) (sym (ok_is (same_places sizes) m e))

@@ -330,7 +330,7 @@ pub(crate) fn codec_from<B: Drop, M: BytesCodecMaker<B>>(
         (codec_by (M.makes maker.now) (metadata_seen metadata.now)) }
 {
     match codec_named(metadata.name()) {
-        Some(KnownCodec::Transpose | KnownCodec::Reshape | KnownCodec::Squeeze) => {
+        Some(KnownCodec::Array) => {
             Ok(MadeCodec::Array(ArrayToArrayCodec::create(alloc, metadata)?))
         }
         Some(KnownCodec::Bytes) => {

@@ -1,7 +1,6 @@
 -- What is written of one codec makes an equal one, by those of its chains where it has chains inside.
 use Rattle.std.proofs.Common.{◌≡◌, ◌∙◌, ◌<◌, ℕ, List, [], ◌∷◌, ◌++◌, Ok, Err, Bool, true, false, Option, Some, None, map, refl, ap, sym, append_assoc, append-nil}
-use Rattle.std.specs.Prelude.{Result, not, All}
-use Rattle.std.proofs.lemmas.Bool.{false≢true}
+use Rattle.std.specs.Prelude.{Result, All}
 use Rattle.std.proofs.lemmas.List.Elements.{All-head, All-tail}
 use Rattle.serde_json.specs.Data.{Members}
 use Rattle.serde_json.specs.Written.{members_have_float}
@@ -12,16 +11,16 @@ use Rattle.zarrs_metadata.specs.BytesConfiguration.{write_bytes}
 use Rattle.zarrs_metadata.specs.Metadata.{Metadata, has_no_float}
 use Rattle.zarrs_metadata.specs.MetadataList.{have_no_float}
 use Rattle.zarrs_metadata.specs.OptionalConfiguration.{OptionalChains, read_optional, write_optional}
-use Rattle.zarrs_metadata.specs.ReshapeConfiguration.{read_reshape, write_reshape}
 use Rattle.zarrs_metadata.specs.ShardingConfiguration.{ShardingParts, read_sharding, write_sharding}
-use Rattle.zarrs_metadata.specs.TransposeConfiguration.{read_transpose, write_transpose}
 use Rattle.zarrs_metadata.specs.VlenConfiguration.{VlenParts, read_vlen, write_vlen}
 use Rattle.zarrs_metadata.specs.declared.plugin_create_error.PluginCreateError.{PluginCreateError}
 use Rattle.zarrs_metadata.specs.declared.plugin_create_error.PluginCreateError.TheVariants.{InvalidConfiguration}
-use Rattle.zarrs_metadata.proofs.ReadBack.{transpose-reads_back, reshape-reads_back, optional-reads_back, vlen-reads_back, sharding-reads_back}
-use Rattle.zarrs_array_to_array.specs.ArrayToArrayCodec.{ArrayMapping, transpose, reshape, squeeze, IsMapping}
+use Rattle.zarrs_metadata.proofs.ReadBack.{optional-reads_back, vlen-reads_back, sharding-reads_back}
+use Rattle.zarrs_array_to_array.specs.ArrayToArrayCodec.{ArrayMapping, IsMapping}
 use Rattle.zarrs_array_to_array.specs.MappingMetadata.{mapping_configuration}
-use Rattle.zarrs_array_to_array.proofs.MadeAgain.{mappings_made_again}
+use Rattle.zarrs_array_to_array.proofs.ArrayLaws.{array_laws}
+use Rattle.zarrs_array_to_array.proofs.CleanMembers.{clean_members}
+use Rattle.zarrs_array_to_array.proofs.MadeAgain.{mapping_named, mappings_made_again}
 use Rattle.zarrs_array_to_array.proofs.Transposition.{shape_of-positive}
 use Rattle.zarrs_packbits.specs.PackBitsSettings.{PackBitsSettings, is_reversed}
 use Rattle.zarrs_packbits.specs.SettingsMetadata.{read_settings, write_settings}
@@ -37,22 +36,6 @@ use Rattle.zarrs_chain_meaning.proofs.MadeAlike.{chain_made_at}
 
 -- ---- no number that is written is a float: else it wouldn't be read
 
-is_ok : {A E : Type 0} → Result A E → Bool
-is_ok (Ok a) = true
-is_ok (Err e) = false
-
--- what is read has no float, where a float is rejected
-clean : {A : Type 0} (floats : Bool) (r : Result A PluginCreateError) (a : A) → (floats ≡ true → r ≡ Err InvalidConfiguration) → r ≡ Ok a → not floats ≡ true
-unfolding is_ok
-clean true r a refused h = absurd (false≢true (ap is_ok (sym (refused refl) ∙ h)))
-clean false r a refused h = refl
-
-float-transpose : (ms : Members) → members_have_float ms ≡ true → read_transpose ms ≡ Err InvalidConfiguration
-float-transpose ms h = rw h refl
-
-float-reshape : (ms : Members) → members_have_float ms ≡ true → read_reshape ms ≡ Err InvalidConfiguration
-float-reshape ms h = rw h refl
-
 float-settings : (ms : Members) → members_have_float ms ≡ true → read_settings ms ≡ Err InvalidConfiguration
 float-settings ms h = rw h refl
 
@@ -66,9 +49,7 @@ float-sharding : (ms : Members) → members_have_float ms ≡ true → read_shar
 float-sharding ms h = rw h refl
 
 clean-mapping : (codec : ArrayMapping) → IsMapping codec → has_no_float (Some (mapping_configuration codec)) ≡ true
-clean-mapping (transpose order) h = clean (members_have_float (write_transpose order)) (read_transpose (write_transpose order)) order (float-transpose (write_transpose order)) (transpose-reads_back order h)
-clean-mapping (reshape dims) h = clean (members_have_float (write_reshape dims)) (read_reshape (write_reshape dims)) dims (float-reshape (write_reshape dims)) (reshape-reads_back dims h)
-clean-mapping squeeze h = refl
+clean-mapping codec h = (array_laws codec).clean h
 
 pub clean-order : (order : Option Endianness) → has_no_float (Some (write_bytes order)) ≡ true
 clean-order None = refl
@@ -89,9 +70,7 @@ clean-list described makes (a ∷ rest) codec outer h k l =
 -- ---- one codec
 
 array-again : {B : Type 0} (inside : List Metadata → Result (PlainChain B) PluginCreateError) (makes : Metadata → Result (Option B) PluginCreateError) (codec : ArrayMapping) → IsMapping codec → codec_made inside makes (mapping_metadata codec) ≡ Ok (array_made codec)
-array-again inside makes (transpose order) h = ap (λ r. seen array_made r) (mappings_made_again (transpose order) h)
-array-again inside makes (reshape dims) h = ap (λ r. seen array_made r) (mappings_made_again (reshape dims) h)
-array-again inside makes squeeze h = refl
+array-again inside makes codec h = rw (mapping_named codec) (ap (λ r. seen array_made r) (mappings_made_again codec h))
 
 outer-again : {B : Type 0} (inside : List Metadata → Result (PlainChain B) PluginCreateError) (described : B → Metadata) (makes : Metadata → Result (Option B) PluginCreateError) (codec : B) → IsMadeAgain described makes codec → codec_made inside makes (described codec) ≡ Ok (outer_made codec)
 outer-again inside described makes codec h =
@@ -157,7 +136,7 @@ chain-again described makes arrays codec outer h again l = record {
 
 pub packbits-again : {B : Type 0} (described : B → Metadata) (makes : Metadata → Result (Option B) PluginCreateError) (settings : PackBitsSettings) → is_reversed settings.first_bit settings.last_bit ≡ false → IsAgain described makes (packbits_codec settings)
 packbits-again described makes settings range = record {
-  clean = clean (members_have_float (write_settings settings)) (read_settings (write_settings settings)) settings (float-settings (write_settings settings)) (made_again settings range);
+  clean = clean_members (members_have_float (write_settings settings)) (read_settings (write_settings settings)) settings (float-settings (write_settings settings)) (made_again settings range);
   made = ap (λ r. seen (λ s. to_bytes_made (packbits_codec s)) r) (made_again settings range);
 }
 
@@ -166,7 +145,7 @@ pub vlen-again : {B : Type 0} (described : B → Metadata) (makes : Metadata →
 vlen-again described makes ia ix ib da dx db wide at_end index content =
     let parts : VlenParts = record { index_codecs = listed described ia (to_bytes_metadata described ix) ib; data_codecs = listed described da (to_bytes_metadata described dx) db; index_data_type = offset_type_of wide; index_location = Some (index_place at_end) } in
     let read = vlen-reads_back parts index.clean content.clean in record {
-      clean = clean (members_have_float (write_vlen parts)) (read_vlen (write_vlen parts)) parts (float-vlen (write_vlen parts)) read;
+      clean = clean_members (members_have_float (write_vlen parts)) (read_vlen (write_vlen parts)) parts (float-vlen (write_vlen parts)) read;
       made = ap (λ r. seen to_bytes_made (r >>= vlen_of_parts (chain_made makes))) read
           ∙ ap (λ r. seen to_bytes_made (r >>= (λ i. chain_made makes parts.data_codecs >>= (λ c. Ok (vlen_codec_of i c (is_wide (offset_type_of wide)) (is_at_end (index_place at_end))))))) index.made
           ∙ ap (λ r. seen to_bytes_made (r >>= (λ c. Ok (vlen_codec_of (record { array_to_array = ia; array_to_bytes = ix; bytes_to_bytes = ib }) c (is_wide (offset_type_of wide)) (is_at_end (index_place at_end)))))) content.made
@@ -179,7 +158,7 @@ pub optional-again : {B : Type 0} (described : B → Metadata) (makes : Metadata
 optional-again described makes ma mx mb da dx db mask content =
     let chains : OptionalChains = record { mask_codecs = listed described ma (to_bytes_metadata described mx) mb; data_codecs = listed described da (to_bytes_metadata described dx) db } in
     let read = optional-reads_back chains mask.clean content.clean in record {
-      clean = clean (members_have_float (write_optional chains)) (read_optional (write_optional chains)) chains (float-optional (write_optional chains)) read;
+      clean = clean_members (members_have_float (write_optional chains)) (read_optional (write_optional chains)) chains (float-optional (write_optional chains)) read;
       made = ap (λ r. seen to_bytes_made (r >>= optional_of_chains (chain_made makes))) read
           ∙ ap (λ r. seen to_bytes_made (r >>= (λ m. chain_made makes chains.data_codecs >>= (λ c. Ok (optional_codec_of m c))))) mask.made
           ∙ ap (λ r. seen to_bytes_made (r >>= (λ c. Ok (optional_codec_of (record { array_to_array = ma; array_to_bytes = mx; bytes_to_bytes = mb }) c)))) content.made;
@@ -190,7 +169,7 @@ pub sharding-again : {B : Type 0} (described : B → Metadata) (makes : Metadata
 sharding-again described makes sa sx sb ia ix ib shape at_end positive inner index =
     let parts : ShardingParts = record { chunk_shape = shape; codecs = listed described sa (to_bytes_metadata described sx) sb; index_codecs = listed described ia (to_bytes_metadata described ix) ib; index_location = shard_index_place at_end } in
     let read = sharding-reads_back parts (shape_of-positive shape positive) inner.clean index.clean in record {
-      clean = clean (members_have_float (write_sharding parts)) (read_sharding (write_sharding parts)) parts (float-sharding (write_sharding parts)) read;
+      clean = clean_members (members_have_float (write_sharding parts)) (read_sharding (write_sharding parts)) parts (float-sharding (write_sharding parts)) read;
       made = ap (λ r. seen to_bytes_made (r >>= sharding_of_parts (chain_made makes))) read
           ∙ ap (λ r. seen to_bytes_made (r >>= (λ c. chain_made makes parts.index_codecs >>= (λ i. Ok (sharding_codec_of c i shape (is_index_at_end (shard_index_place at_end))))))) inner.made
           ∙ ap (λ r. seen to_bytes_made (r >>= (λ i. Ok (sharding_codec_of (record { array_to_array = sa; array_to_bytes = sx; bytes_to_bytes = sb }) i shape (is_index_at_end (shard_index_place at_end)))))) index.made

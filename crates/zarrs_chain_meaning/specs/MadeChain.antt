@@ -3,8 +3,8 @@
 use Rattle.std.specs.Prelude.{ℕ, ◌<◌, zero, suc, max, Bool, true, false, not, List, [], ◌∷◌, ◌++◌, Option, Some, None, is_some, ok_or, Result, Ok, Err, if◌then◌else◌}
 use Rattle.zarrs_chunk.specs.Answer.{◌>>=◌, demand, seen}
 use Rattle.zarrs_chain_meaning.specs.declared.codec_name.KnownCodec.{KnownCodec}
-use Rattle.zarrs_chain_meaning.specs.declared.codec_name.KnownCodec.TheVariants.{Transpose, Reshape, Squeeze, Bytes, PackBits, VlenV2, Vlen, Optional, Sharding}
-use Rattle.zarrs_metadata.specs.CodecMetadata.{made_of, members_of, is_transpose_name, is_reshape_name, is_squeeze_name, is_bytes_name, is_packbits_name, bytes_made}
+use Rattle.zarrs_chain_meaning.specs.declared.codec_name.KnownCodec.TheVariants.{Array, Bytes, PackBits, VlenV2, Vlen, Optional, Sharding}
+use Rattle.zarrs_metadata.specs.CodecMetadata.{made_of, members_of, is_bytes_name, is_packbits_name, bytes_made}
 use Rattle.zarrs_metadata.specs.Data.{members_depth}
 use Rattle.zarrs_metadata.specs.Metadata.{Metadata}
 use Rattle.zarrs_metadata.specs.MetadataV3.{metadata_seen}
@@ -17,7 +17,7 @@ use Rattle.zarrs_metadata.specs.declared.metadata_v3.MetadataV3.{MetadataV3}
 use Rattle.zarrs_metadata.specs.declared.plugin_create_error.PluginCreateError.{PluginCreateError}
 use Rattle.zarrs_metadata.specs.declared.plugin_create_error.PluginCreateError.TheVariants.{UnknownName, InvalidConfiguration, MissingArrayToBytes, MultipleArrayToBytes}
 use Rattle.zarrs_array_to_array.specs.ArrayToArrayCodec.{ArrayMapping}
-use Rattle.zarrs_array_to_array.specs.MappingMetadata.{mapping_made}
+use Rattle.zarrs_array_to_array.specs.MappingMetadata.{is_mapping_name, mapping_made}
 use Rattle.zarrs_packbits.specs.SettingsMetadata.{settings_made}
 use Rattle.zarrs_vlen_v2.specs.VlenV2Metadata.{is_vlen_v2_name, vlen_v2_made}
 use Rattle.zarrs_chain_meaning.specs.sharding.ShardingSettings.{is_index_at_end}
@@ -100,9 +100,7 @@ sharding_made_by inside metadata = do
 -- the codec that is known by a name
 abbrev pub codec_named : List ℕ → Option KnownCodec
 codec_named name =
-    if is_transpose_name name then Some Transpose
-    else if is_reshape_name name then Some Reshape
-    else if is_squeeze_name name then Some Squeeze
+    if is_mapping_name name then Some Array
     else if is_bytes_name name then Some Bytes
     else if is_packbits_name name then Some PackBits
     else if is_vlen_v2_name name then Some VlenV2
@@ -119,9 +117,7 @@ asked_maker (Err refusal) = Err refusal
 
 -- what a metadata makes whose name is that of a codec, or of none: then the maker is asked
 abbrev pub made_by_name : {B : Type 0} → Option KnownCodec → (List Metadata → Result (PlainChain B) PluginCreateError) → (Metadata → Result (Option B) PluginCreateError) → Metadata → Result (CodecMade B) PluginCreateError
-made_by_name (Some Transpose) inside makes metadata = seen array_made (mapping_made metadata)
-made_by_name (Some Reshape) inside makes metadata = seen array_made (mapping_made metadata)
-made_by_name (Some Squeeze) inside makes metadata = seen array_made (mapping_made metadata)
+made_by_name (Some Array) inside makes metadata = seen array_made (mapping_made metadata)
 made_by_name (Some Bytes) inside makes metadata = seen (λ order. to_bytes_made (bytes_codec order)) (bytes_made metadata)
 made_by_name (Some PackBits) inside makes metadata = seen (λ settings. to_bytes_made (packbits_codec settings)) (settings_made metadata)
 made_by_name (Some VlenV2) inside makes metadata = seen (λ codec. to_bytes_made (vlen_v2_codec codec)) (vlen_v2_made metadata)

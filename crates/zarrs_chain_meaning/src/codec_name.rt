@@ -1,9 +1,10 @@
 //! The names of the codecs: in metadata, and those of `vlen` and `optional` in errors.
 ghost use Rattle.std.specs.Prelude.{◌≡◌};
-ghost use Rattle.zarrs_metadata.specs.CodecMetadata.{is_bytes_name, is_squeeze_name};
+ghost use Rattle.zarrs_metadata.specs.CodecMetadata.{is_bytes_name};
 ghost use Rattle.zarrs_chain_meaning.specs.CodecNames.{is_vlen_name, is_optional_name, is_sharding_name};
 ghost use Rattle.zarrs_chain_meaning.specs.MadeChain.{codec_named as codec_named_of};
 
+use zarrs_array_to_array::ArrayToArrayCodec;
 use zarrs_chunk::CodecName;
 use zarrs_vlen_v2::VlenV2Codec;
 
@@ -20,12 +21,8 @@ pub const OPTIONAL: CodecName = CodecName {
 /// The codecs that a chain knows by their names.
 #[derive(Clone, Copy)]
 pub enum KnownCodec {
-    /// `transpose`.
-    Transpose,
-    /// `reshape`.
-    Reshape,
-    /// `zarrs.squeeze`.
-    Squeeze,
+    /// An array-to-array codec.
+    Array,
     /// `bytes`.
     Bytes,
     /// `packbits`.
@@ -38,13 +35,6 @@ pub enum KnownCodec {
     Optional,
     /// `sharding_indexed`.
     Sharding,
-}
-
-/// Whether the codec `squeeze` is known by this name.
-fn is_squeeze(name: &str) -> bool
-    ensures value { result ≡ is_squeeze_name name.now }
-{
-    name == "zarrs.squeeze" || name == "https://codec.zarrs.dev/array_to_array/squeeze"
 }
 
 /// Whether the codec `bytes` is known by this name.
@@ -81,14 +71,8 @@ pub fn is_sharding(name: &str) -> bool
 pub fn codec_named(name: &str) -> Option<KnownCodec>
     ensures value { result ≡ codec_named_of name.now }
 {
-    if name == "transpose" {
-        return Some(KnownCodec::Transpose);
-    }
-    if name == "reshape" {
-        return Some(KnownCodec::Reshape);
-    }
-    if is_squeeze(name) {
-        return Some(KnownCodec::Squeeze);
+    if ArrayToArrayCodec::is_named(name) {
+        return Some(KnownCodec::Array);
     }
     if is_bytes(name) {
         return Some(KnownCodec::Bytes);

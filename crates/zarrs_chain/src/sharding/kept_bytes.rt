@@ -1,27 +1,14 @@
 //! Which chains hand on the bytes of elements as they are.
-ghost use Rattle.std.specs.List.{list_all};
-ghost use Rattle.std.specs.Prelude.{◌≡◌, is_none, map, true};
-ghost use Rattle.zarrs_array_to_array.specs.Mapping.{mapping_of};
+ghost use Rattle.std.specs.Prelude.{◌≡◌, is_none, true};
 ghost use Rattle.zarrs_bytes.specs.BytesCodec.{turn_size};
 ghost use Rattle.zarrs_chain_meaning.specs.KeptBytes.{KeepsBytes, codec_keeps_bytes};
-ghost use Rattle.zarrs_array_to_array.specs.ArrayToArrayCodec.{keeps_places};
 ghost use Rattle.zarrs_chain.specs.ChainView.{plain_chain, plain_codec};
 
 use crate::array_to_bytes_codec::ArrayToBytesCodec;
 use crate::codec_chain::CodecChain;
-use zarrs_array_to_array::ArrayToArrayCodec;
+use zarrs_array_to_array::keep_places;
 use zarrs_bytes::BytesCodec;
 use zarrs_data_type::{DataType, Endianness, HasComponents};
-
-/// Whether each of these codecs hands on a container as it is.
-fn hand_on(codecs: &[ArrayToArrayCodec]) -> bool
-    ensures value { result ≡ list_all keeps_places (map mapping_of codecs.now) }
-{
-    match codecs {
-        [] => true,
-        [first, rest @ ..] => !matches!(first, ArrayToArrayCodec::Transpose(_)) && hand_on(rest),
-    }
-}
 
 /// Whether the codec leaves all bytes of elements of this type in their places.
 fn turns_nothing(codec: &BytesCodec, data_type: &DataType) -> bool
@@ -53,6 +40,6 @@ pub(crate) fn keeps_bytes<B>(chain: &CodecChain<B>, data_type: &DataType) -> boo
     ensures only { KeepsBytes (plain_chain chain.now) data_type.now → result ≡ true }
 {
     chain.bytes_to_bytes.is_empty()
-        && hand_on(&chain.array_to_array)
+        && keep_places(&chain.array_to_array)
         && codec_keeps(&chain.array_to_bytes, data_type)
 }

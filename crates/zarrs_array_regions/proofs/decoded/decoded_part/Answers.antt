@@ -1,12 +1,8 @@
-use Rattle.std.proofs.Common.{refl, inl, inr}
-use Rattle.zarrs_chunk.specs.ChunkShape.{product}
-use Rattle.zarrs_array_to_array.proofs.MappedChunks.{holds_elements}
+use Rattle.std.proofs.Common.{sym, ◌∙◌}
+use Rattle.zarrs_array_to_array.specs.Mapping.{mapping_of}
+use Rattle.zarrs_array_regions.proofs.PartCalls.{decoded_kept, decoded_moved}
 use Rattle.zarrs_array_regions.proofs.decoded.decoded_part.Goals as goal
 
-pub returns-in-Reshape-clause-decoded : goal.returns-in-Reshape-clause-decoded
-returns-in-Reshape-clause-decoded c =
-    let held = holds_elements c.args.data_type.now (product c.args.part.now.lengths) c.args.held c.requires.valid in
-    elim c.in-Reshape.is [
-      | inl reshape ↦ rw reshape.1 (record { is = held; no_fault = refl })
-      | inr squeeze ↦ rw squeeze.1 (record { is = held; no_fault = refl })
-    ]
+pub returns-then-keeps_places-clause-decoded : goal.returns-then-keeps_places-clause-decoded
+returns-then-keeps_places-clause-decoded c =
+    decoded_kept (mapping_of c.args.codec.now) c.args.data_type.now c.args.part.now c.args.held (sym c.keeps_places.ensures.value ∙ c.if-keeps_places.true) c.requires.valid

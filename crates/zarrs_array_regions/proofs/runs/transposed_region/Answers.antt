@@ -1,11 +1,11 @@
 use Rattle.std.proofs.Common.{◌∷◌, []}
 use Rattle.zarrs_array_to_array.specs.ArrayToArrayCodec.{transpose}
-use Rattle.zarrs_array_regions.proofs.RegionRuns.{encoded_there, region_fits}
+use Rattle.zarrs_array_regions.proofs.RegionRuns.{encoded_there, region_axes}
 use Rattle.zarrs_array_regions.proofs.WindowCalls.{few_places}
 use Rattle.zarrs_array_regions.proofs.runs.transposed_region.Goals as goal
 
 pub transposed_part-requires-clause-axes : goal.transposed_part-requires-clause-axes
-transposed_part-requires-clause-axes c = region_fits c.args.codec.now c.args.shape.now c.args.region.now c.requires.region
+transposed_part-requires-clause-axes c = region_axes c.args.codec.now c.args.shape.now c.args.region.now c.requires.region
 
 pub transposed_part-requires-clause-counted : goal.transposed_part-requires-clause-counted
 transposed_part-requires-clause-counted c = few_places (transpose c.args.codec.now ∷ []) c.args.shape.now c.args.region.now c.requires.region

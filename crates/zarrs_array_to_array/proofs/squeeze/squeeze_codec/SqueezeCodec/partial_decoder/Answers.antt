@@ -1,6 +1,6 @@
 use Rattle.std.proofs.Common.{rules}
 use Rattle.zarrs_array_to_array.specs.ArrayToArrayCodec.{squeeze}
-use Rattle.zarrs_array_to_array.proofs.Refusals.{making_no_fault}
+use Rattle.zarrs_array_to_array.proofs.StageFaults.{making_no_fault}
 use Rattle.zarrs_array_to_array.proofs.squeeze.squeeze_codec.SqueezeCodec.partial_decoder.Goals as goal
 
 pub returns-clause-answer : goal.returns-clause-answer

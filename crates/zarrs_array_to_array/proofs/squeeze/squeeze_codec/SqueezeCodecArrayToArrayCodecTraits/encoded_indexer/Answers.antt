@@ -7,7 +7,7 @@ use Rattle.zarrs_array_to_array.specs.ArrayToArrayCodec.{coordinates, squeeze}
 use Rattle.zarrs_array_to_array.specs.EncodedSelection.{selection_in}
 use Rattle.zarrs_codec.specs.MappedSelection.{IsImageBy}
 use Rattle.zarrs_array_to_array.specs.Squeeze.{squeezed}
-use Rattle.zarrs_array_to_array.proofs.Indexers.{squeezed_image}
+use Rattle.zarrs_array_to_array.proofs.Images.{squeezed_image}
 use Rattle.zarrs_array_to_array.proofs.squeeze.squeeze_codec.SqueezeCodecArrayToArrayCodecTraits.encoded_indexer.Goals as goal
 
 pub returns-clause-places : goal.returns-clause-places

@@ -1,7 +1,7 @@
 use Rattle.std.proofs.Common.{◌∙◌, ap, rules}
 use Rattle.zarrs_array_to_array.specs.Orders.{permuted}
-use Rattle.zarrs_array_regions.proofs.WindowCalls.{permuted_made}
-use Rattle.zarrs_array_regions.proofs.next.permuted_subset.Goals as goal
+use Rattle.zarrs_array_to_array.proofs.PermutedBoxes.{permuted_made}
+use Rattle.zarrs_array_to_array.proofs.encoded_boxes.permuted_subset.Goals as goal
 
 pub returns : goal.returns
 returns c =
