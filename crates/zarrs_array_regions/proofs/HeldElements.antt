@@ -1,5 +1,5 @@
 -- How many elements a region has, and its encoded part.
-use Rattle.std.proofs.Common.{◌≡◌, ◌∙◌, ◌<◌, ◌^◌, nat_lt, ℕ, true, List, length, Result, Ok, Err, refl, subst}
+use Rattle.std.proofs.Common.{◌≡◌, ◌∙◌, ◌<◌, ◌^◌, nat_lt, ℕ, true, List, Result, Ok, Err, refl, subst}
 use Rattle.std.proofs.lemmas.Bool.{lt-ltb}
 use Rattle.zarrs_chunk.specs.Answer.{checked_u64, GivesBy}
 use Rattle.zarrs_chunk.specs.ChunkShape.{product}
@@ -9,7 +9,7 @@ use Rattle.zarrs_data_type.specs.ElementType.{ElementType}
 use Rattle.zarrs_array_bytes.specs.Elements.{elements}
 use Rattle.zarrs_array_bytes.specs.Held.{Held}
 use Rattle.zarrs_array_bytes.specs.Validity.{Holds}
-use Rattle.zarrs_array_to_array.specs.ArrayToArrayCodec.{ArrayMapping, transpose}
+use Rattle.zarrs_array_to_array.specs.ArrayToArrayCodec.{transpose}
 use Rattle.zarrs_array_to_array.specs.Transpose.{transposed_chunk}
 use Rattle.zarrs_array_regions.specs.Parts.{EncodesPart}
 

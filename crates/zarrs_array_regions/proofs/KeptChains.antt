@@ -83,8 +83,8 @@ module _ (codec : ArrayMapping) (codecs : List ArrayMapping) (sizes : List ℕ) 
       let keeps = codec_keeps codec sizes region first.0 next mapping first.1 inside e in
       let same : first.0.encoded ≡ next.sizes = next_sizes codec sizes region first.0 next first.1 e in
       let there : chained codecs next.sizes ≡ Ok rest.0 = ap (chained codecs) (sym same) ∙ rest.1 in
-      let then = more next.sizes rest.0 next.region (subst (All (λ size. 0 < size)) same (one.positive positive)) there (rest_keeps codec codecs (window_of sizes region) next e kept) keeps.next_is.inside in
-      let both = windows_compose (product sizes) first.0 rest.0 (window_of sizes region) next (last_window codecs next) (part_map codec (window_of sizes region)) (region_map codecs next) keeps (subst (λ n. KeepsWindow n rest.0 next (last_window codecs next) (region_map codecs next)) keeps.next_is.count_is then) in
+      let further = more next.sizes rest.0 next.region (subst (All (λ size. 0 < size)) same (one.positive positive)) there (rest_keeps codec codecs (window_of sizes region) next e kept) keeps.next_is.inside in
+      let both = windows_compose (product sizes) first.0 rest.0 (window_of sizes region) next (last_window codecs next) (part_map codec (window_of sizes region)) (region_map codecs next) keeps (subst (λ n. KeepsWindow n rest.0 next (last_window codecs next) (region_map codecs next)) keeps.next_is.count_is further) in
       subst (λ x. KeepsWindow (product sizes) x (window_of sizes region) (last_window codecs next) (composition (part_map codec (window_of sizes region)) (region_map codecs next))) (same_map m (composition first.0 rest.0) rest.2) both
 
   one_more : (o : Option Window) → next_window codec (window_of sizes region) ≡ o

@@ -1,5 +1,5 @@
 -- The elements of a region, moved by one codec as a chunk of the region's own lengths.
-use Rattle.std.proofs.Common.{◌≡◌, ◌<◌, ◌^◌, ℕ, Bool, true, false, if◌then◌else◌, List, Result, Ok, refl, subst, sym}
+use Rattle.std.proofs.Common.{◌≡◌, ◌<◌, ◌^◌, ℕ, true, false, List, Result, Ok, refl, subst}
 use Rattle.zarrs_array_bytes.specs.Elements.{elements}
 use Rattle.zarrs_array_bytes.specs.Held.{Held}
 use Rattle.zarrs_array_bytes.specs.Validity.{Holds, validity}
@@ -8,9 +8,8 @@ use Rattle.zarrs_chunk.specs.ChunkShape.{product}
 use Rattle.zarrs_chunk.specs.Region.{Region}
 use Rattle.zarrs_chunk.specs.declared.codec_error.CodecError.{CodecError}
 use Rattle.zarrs_chunk.proofs.Inside.{lt_test}
-use Rattle.zarrs_data_type.specs.Element.{Chunk}
 use Rattle.zarrs_data_type.specs.ElementType.{ElementType}
-use Rattle.zarrs_array_to_array.specs.ArrayToArrayCodec.{ArrayMapping, coordinates, keeps_places}
+use Rattle.zarrs_array_to_array.specs.ArrayToArrayCodec.{ArrayMapping, keeps_places}
 use Rattle.zarrs_array_to_array.specs.CodecAnswers.{type_taken, MovesBack}
 use Rattle.zarrs_array_to_array.specs.EncodedBoxes.{box_encoded}
 use Rattle.zarrs_array_to_array.proofs.MappedChunks.{holds_elements}

@@ -1,10 +1,8 @@
 -- What the calls on windows ask for and answer.
-use Rattle.std.proofs.Common.{◌≡◌, ◌==◌, ◌^◌, ◌<◌, ◌+◌, ℕ, suc, true, false, Option, Some, None, List, [], ◌∷◌, length, get_or, map, Result, Ok, Err, ◌≤◌, arith, refl, ap, ◌∙◌, sym, subst, inl, inr}
+use Rattle.std.proofs.Common.{◌≡◌, ◌^◌, ◌<◌, ℕ, true, Option, Some, None, List, [], ◌∷◌, length, get_or, map, Result, Ok, Err, ◌≤◌, arith, refl, ap, ◌∙◌, sym, subst}
 use Rattle.std.specs.Prelude.{is_ok, IsSome}
-use Rattle.std.proofs.lemmas.Bool.{and_from, eq-eqb, eqb-true, lt-ltb, cases_Bool}
 use Rattle.std.proofs.lemmas.List.Elements.{All-tail}
 use Rattle.zarrs_chunk.specs.Answer.{◌>>=◌}
-use Rattle.zarrs_chunk.specs.ArraySubset.{ends_fit, subset_of_start_shape}
 use Rattle.zarrs_chunk.specs.ChunkShape.{product, shape_of}
 use Rattle.zarrs_chunk.specs.Region.{Region}
 use Rattle.zarrs_chunk.specs.Tuples.{is_box_inside}
@@ -13,15 +11,10 @@ use Rattle.zarrs_chunk.proofs.Inside.{is_box_inside-lengths}
 use Rattle.zarrs_chunk.proofs.Rising.{Rises-box, Rises-room}
 use Rattle.zarrs_data_type.specs.ElementType.{ElementType}
 use Rattle.zarrs_codec.specs.CoordinateMap.{CoordinateMap, IsCoordinateMap, same_places, composition}
-use Rattle.zarrs_metadata.specs.Orders.{is_order}
-use Rattle.zarrs_metadata.proofs.Orders.{order_parts}
 use Rattle.zarrs_array_to_array.specs.ArrayToArrayCodec.{ArrayMapping, IsMapping, coordinates, chained}
 use Rattle.zarrs_array_to_array.specs.CodecAnswers.{type_taken}
 use Rattle.zarrs_array_to_array.specs.Mapping.{mapping_of}
-use Rattle.zarrs_array_to_array.specs.Orders.{permuted}
-use Rattle.zarrs_array_to_array.specs.TransposeMeaning.{permuted_region}
 use Rattle.zarrs_array_to_array.specs.declared.array_to_array_codec.ArrayToArrayCodec.{ArrayToArrayCodec}
-use Rattle.zarrs_array_to_array.proofs.Orders.{length-permuted}
 use Rattle.zarrs_array_to_array.proofs.Transposition.{shape_of-positive}
 use Rattle.zarrs_array_regions.specs.declared.window.Window.{Window}
 use Rattle.zarrs_array_regions.specs.Parts.{FitsRegion}

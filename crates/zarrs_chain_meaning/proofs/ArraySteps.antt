@@ -373,3 +373,30 @@ decode_at type all codec codecs sizes next held made r is positive h maps found 
 pub ok_or_not : {A : Type 0} {P : Type 0} (r : Result A CodecError) → P → IfOk r (λ _. P)
 ok_or_not (Ok x) h = h
 ok_or_not (Err e) h = tt
+
+-- ---- a shape that the first codec refuses
+
+shape_known : (type : ElementType) (codec : ArrayMapping) (codecs : List ArrayMapping) (sizes : List ℕ) (m : CoordinateMap) (error : CodecError) → arrays_map type (codec ∷ codecs) sizes ≡ Ok m → seen (λ (n : CoordinateMap). n.encoded) (coordinates codec sizes) ≡ Err error → ⊥
+shape_known type codec codecs sizes m error e refused =
+    let p = map_parts type codec codecs sizes m e in
+    ok_no_err p.first.encoded error (sym (ap (λ r. seen (λ (n : CoordinateMap). n.encoded) r) p.done) ∙ refused)
+
+pub encode_shape_refused_at : (type : ElementType) (all : List ArrayMapping) (codec : ArrayMapping) (codecs : List ArrayMapping) (sizes : List ℕ) (held : Held) (error : CodecError)
+    → all ≡ codec ∷ codecs
+    → (memory error ≡ false → seen (λ (n : CoordinateMap). n.encoded) (coordinates codec sizes) ≡ Err error)
+    → IfOk (encoded_chunk (Ok tt) (arrays_map type all sizes) type sizes held) (λ chunk. AnswersBy memory (Holds type) (Err error) (Ok chunk))
+encode_shape_refused_at type all codec codecs sizes held error is refused =
+    if_ok (encoded_chunk (Ok tt) (arrays_map type all sizes) type sizes held) (λ chunk. AnswersBy memory (Holds type) (Err error) (Ok chunk)) (λ chunk e.
+    let p = encoded_parts (Ok tt) (arrays_map type all sizes) type sizes held chunk e in
+    let done : arrays_map type (codec ∷ codecs) sizes ≡ Ok p.0.map_is = ap (λ cs. arrays_map type cs sizes) (sym is) ∙ p.0.done in
+    λ known. absurd (shape_known type codec codecs sizes p.0.map_is error done (refused known)))
+
+pub decode_shape_refused_at : (type : ElementType) (all : List ArrayMapping) (codec : ArrayMapping) (codecs : List ArrayMapping) (sizes : List ℕ) (held : Held) (error : CodecError)
+    → all ≡ codec ∷ codecs
+    → (memory error ≡ false → seen (λ (n : CoordinateMap). n.encoded) (coordinates codec sizes) ≡ Err error)
+    → IfOk (decoded_chunk (Ok tt) (arrays_map type all sizes) type sizes held) (λ chunk. AnswersBy memory (Holds type) (Err error) (Ok chunk))
+decode_shape_refused_at type all codec codecs sizes held error is refused =
+    if_ok (decoded_chunk (Ok tt) (arrays_map type all sizes) type sizes held) (λ chunk. AnswersBy memory (Holds type) (Err error) (Ok chunk)) (λ chunk e.
+    let p = decoded_parts (Ok tt) (arrays_map type all sizes) type sizes held chunk e in
+    let done : arrays_map type (codec ∷ codecs) sizes ≡ Ok p.0.map_is = ap (λ cs. arrays_map type cs sizes) (sym is) ∙ p.0.done in
+    λ known. absurd (shape_known type codec codecs sizes p.0.map_is error done (refused known)))

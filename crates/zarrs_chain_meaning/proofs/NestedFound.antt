@@ -1,8 +1,7 @@
 -- What array-to-bytes codecs answer of chunks that they take is written, with chains inside too.
-use Rattle.std.proofs.Common.{◌≡◌, ℕ, suc, ◌<◌, ◌^◌, nat_eq, nat_lt, if◌then◌else◌, Bool, true, false, List, [], ◌∷◌, length, map, Ok, arith, refl, ap, sym, subst, ◌∙◌}
+use Rattle.std.proofs.Common.{◌≡◌, ℕ, suc, ◌<◌, ◌^◌, nat_eq, if◌then◌else◌, Bool, true, false, List, [], ◌∷◌, length, map, Ok, arith, refl, ap, sym, subst, ◌∙◌}
 use Rattle.std.specs.Cmp.Lexicographic.{pointwise}
 use Rattle.std.specs.List.{All}
-use Rattle.std.proofs.lemmas.Bool.Decides.{nat_tests}
 use Rattle.std.proofs.lemmas.List.{length-map}
 use Rattle.std.proofs.lemmas.List.Elements.{All-nil, All-cons}
 use Rattle.zarrs_chunk.specs.Answer.{demand}
@@ -17,10 +16,10 @@ use Rattle.zarrs_codec.specs.declared.bytes_representation.BytesRepresentation.{
 use Rattle.zarrs_array_to_array.specs.ArrayToArrayCodec.{ArrayMapping, IsMapping}
 use Rattle.zarrs_bytes.specs.ByteOrder.{bytes_of}
 use Rattle.zarrs_bytes.specs.BytesCodec.{IsChunk}
-use Rattle.zarrs_bytes.proofs.Coding.{demand_ok, ok, bind_ok}
+use Rattle.zarrs_bytes.proofs.Coding.{demand_ok, bind_ok}
 use Rattle.zarrs_codec.proofs.Fences.{second_true, first_true}
 use Rattle.zarrs_chain_meaning.specs.ArrayStages.{arrays_map}
-use Rattle.zarrs_chain_meaning.specs.BytesStages.{in_memory, outer_value}
+use Rattle.zarrs_chain_meaning.specs.BytesStages.{in_memory}
 use Rattle.zarrs_chain_meaning.specs.Meaning.{Encoder, around_value, Measure, around_representation, Standing, WrittenThrough, Keeping, in_a_row}
 use Rattle.zarrs_chain_meaning.specs.vlen.Vlen.{chunk_offsets, offset_bytes, offset_elements, offset_fits, is_same_bytes, vlen_value, offset_type, VlenWritten, arranged}
 use Rattle.zarrs_chain_meaning.specs.Parts.{byte_elements, all_bytes, byte_type, part_length_bytes}

@@ -1,5 +1,5 @@
 -- What an array-to-bytes codec means, as one record, and a chain by that of its array-to-bytes codec.
-use Rattle.std.specs.Prelude.{ℕ, List, [], ◌∷◌, Result, Ok, ◌≡◌, length, zero, suc, All}
+use Rattle.std.specs.Prelude.{ℕ, List, [], ◌∷◌, Result, Ok, ◌≡◌, zero, suc, All}
 use Rattle.zarrs_array_bytes.specs.Validity.{sizes_fit}
 use Rattle.zarrs_array_to_array.specs.ArrayToArrayCodec.{ArrayMapping, IsMapping}
 use Rattle.zarrs_bytes.specs.BytesCodec.{IsChunk}

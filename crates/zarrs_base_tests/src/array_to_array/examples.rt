@@ -32,13 +32,15 @@ pub(crate) struct Mapped {
     pub(crate) places: Result<&'static [u64], CodecError>,
 }
 
-/// A codec by its metadata; a chunk and its moved chunk, with the elements of
-/// both, the lowest byte of each first. Then the value of a stage's input, the highest byte of an
+/// A codec by its metadata, and whether it keeps places and boxes; a chunk and its moved chunk, with the
+/// elements of both, the lowest byte of each first. Then the value of a stage's input, the highest byte of an
 /// element first, what is done with the stage, and the value that this leaves, after so many
 /// writing calls.
 pub(crate) struct Example {
     pub(crate) name: &'static str,
     pub(crate) metadata: &'static str,
+    pub(crate) keeps_places: bool,
+    pub(crate) keeps_boxes: bool,
     pub(crate) chunk: Chunk,
     pub(crate) encoded: Chunk,
     pub(crate) mapped: Mapped,
@@ -54,6 +56,8 @@ pub(crate) struct Example {
 pub(crate) const TURNED: &'static Example = &Example {
     name: "transpose",
     metadata: r#"{"configuration":{"order":[2,1,0]},"name":"transpose"}"#,
+    keeps_places: false,
+    keeps_boxes: true,
     chunk: Chunk {
         sizes: &[2, 1, 3],
         data_type: Type::Word,
@@ -125,6 +129,8 @@ pub(crate) const TURNED: &'static Example = &Example {
 pub(crate) const RESHAPED: &'static Example = &Example {
     name: "reshape",
     metadata: r#"{"configuration":{"shape":[-1]},"name":"reshape"}"#,
+    keeps_places: true,
+    keeps_boxes: false,
     chunk: Chunk {
         sizes: &[2, 3],
         data_type: Type::Byte,
@@ -185,6 +191,8 @@ pub(crate) const RESHAPED: &'static Example = &Example {
 pub(crate) const SQUEEZED: &'static Example = &Example {
     name: "squeeze",
     metadata: r#"{"configuration":{},"name":"zarrs.squeeze"}"#,
+    keeps_places: true,
+    keeps_boxes: true,
     chunk: Chunk {
         sizes: &[2, 1, 2],
         data_type: Type::Long,

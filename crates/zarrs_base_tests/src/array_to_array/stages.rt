@@ -10,6 +10,7 @@ use std::alloc::Global;
 use std::process::Abort;
 use zarrs_array_to_array::{
     ArrayToArrayCodec, ArrayToArrayCodecPartial, ReshapeCodec, SqueezeCodec, TransposeCodec,
+    keep_places,
 };
 use zarrs_bytes::{BytesCodec, BytesCodecPartial};
 use zarrs_chunk::{CodecError, Indexer};
@@ -252,6 +253,17 @@ fn any_works(
     works(rt, alloc, made, example)
 }
 
+/// What the codec keeps of a chunk.
+fn keeps(rt: &impl Abort, codec: &ArrayToArrayCodec, example: &Example) {
+    is(
+        rt,
+        example.name,
+        &codec.keeps_places(),
+        &example.keeps_places,
+    );
+    is(rt, example.name, &codec.keeps_boxes(), &example.keeps_boxes);
+}
+
 /// All calls of the codec behind the enum.
 fn any_does(
     rt: &impl Abort,
@@ -260,6 +272,7 @@ fn any_does(
     forms: &Forms,
     example: &Example,
 ) -> Result<(), CodecError> {
+    keeps(rt, codec, example);
     does_chunk(rt, alloc, codec, &forms.decoded, example)?;
     maps(rt, alloc, example.name, codec, &example.mapped)?;
     any_works(rt, alloc, codec, forms, example)
@@ -288,6 +301,9 @@ fn any_of_example(rt: &impl Abort, alloc: Global, example: &Example) -> Result<(
 
 #[test]
 fn behind_the_enum(rt: HostRuntime) -> Result<(), CodecError> {
+    let known = ArrayToArrayCodec::is_named("reshape");
+    is(&rt, "known by its name", &known, &true);
+    is(&rt, "none moves an element", &keep_places(&[]), &true);
     any_of_example(&rt, rt.alloc(), TURNED)?;
     any_of_example(&rt, rt.alloc(), RESHAPED)?;
     any_of_example(&rt, rt.alloc(), SQUEEZED)

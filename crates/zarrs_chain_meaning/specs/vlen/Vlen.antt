@@ -18,7 +18,7 @@ use Rattle.zarrs_chunk.specs.ChunkShape.{product}
 use Rattle.zarrs_chunk.specs.declared.codec_error.CodecError.TheVariants.{UnsupportedDataType, OffsetTooLarge, OffsetNotKept, InvalidOffsets}
 use Rattle.zarrs_chunk.specs.declared.codec_error.CodecError.{CodecError}
 use Rattle.zarrs_codec.specs.declared.bytes_representation.BytesRepresentation.TheVariants.{UnboundedSize}
-use Rattle.zarrs_data_type.specs.Element.{Element, plain, Chunk}
+use Rattle.zarrs_data_type.specs.Element.{plain, Chunk}
 use Rattle.zarrs_data_type.specs.ElementType.{ElementType, fixed, text, bytes, is_variable}
 
 -- ---- which chunks, and how many bytes

@@ -1,6 +1,6 @@
 use Rattle.std.proofs.Common.{sym, ◌∙◌}
 use Rattle.zarrs_array_to_array.specs.Mapping.{mapping_of}
-use Rattle.zarrs_array_regions.proofs.PartCalls.{decoded_kept, decoded_moved}
+use Rattle.zarrs_array_regions.proofs.PartCalls.{decoded_kept}
 use Rattle.zarrs_array_regions.proofs.decoded.decoded_part.Goals as goal
 
 pub returns-then-keeps_places-clause-decoded : goal.returns-then-keeps_places-clause-decoded

@@ -2,8 +2,16 @@ use Rattle.std.proofs.Common.{arith, map}
 use Rattle.std.proofs.lemmas.Result.{err_from_is_err_and}
 use Rattle.zarrs_array_to_array.specs.Mapping.{mapping_of}
 use Rattle.zarrs_array_to_array.proofs.CodecLists.{rest_of, mappings_are, no_mappings}
-use Rattle.zarrs_chain_meaning.proofs.ArraySteps.{map_if_ok, encode_none_at, encode_refused_at, encode_at}
+use Rattle.zarrs_chain_meaning.proofs.ArraySteps.{map_if_ok, encode_none_at, encode_refused_at, encode_shape_refused_at, encode_at}
 use Rattle.zarrs_chain_meaning.proofs.array_stages.+encode_arrays.Goals as goal
+
+pub returns-in_err-next-in-len1-up-clause-moved : goal.returns-in_err-next-in-len1-up-clause-moved
+returns-in_err-next-in-len1-up-clause-moved t c =
+    let first = c.first-item.result in
+    let codecs = c.args.codecs.now in
+    let is = mappings_are codecs first (omega arith) c.first-item.is in
+    let p = err_from_is_err_and c.from_residual.result c.from_residual.ensures.1 in
+    rw (p.1, p.2) (encode_shape_refused_at c.args.data_type.now (map mapping_of codecs) (mapping_of first) (map mapping_of (rest_of codecs)) c.args.shape.now c.args.chunk c.in_err-next-in-len1-up.field-0.0 is c.in_err-next-in-len1-up.ensures.answer.is)
 
 pub returns-in_err-chunk-in-len1-up-clause-moved : goal.returns-in_err-chunk-in-len1-up-clause-moved
 returns-in_err-chunk-in-len1-up-clause-moved t c =
