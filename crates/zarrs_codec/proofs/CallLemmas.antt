@@ -1,6 +1,9 @@
 -- Records of calls, of some calls after others.
-use Rattle.std.proofs.Common.{◌≡◌, ◌∙◌, ℕ, zero, suc, ◌+◌, true, Option, Some, None, refl, ap, arith}
-use Rattle.zarrs_codec.specs.Calls.{Calls, after_reads, count_more}
+use Rattle.std.proofs.Common.{◌≡◌, ◌∙◌, ℕ, zero, suc, ◌+◌, true, Option, Some, None, Result, Ok, Err, List, [], ◌++◌, refl, ap, arith}
+use Rattle.std.specs.Prelude.{OnOk}
+use Rattle.std.proofs.lemmas.List.{append_assoc, append-nil}
+use Rattle.zarrs_codec.specs.ByteSpan.{ByteSpan}
+use Rattle.zarrs_codec.specs.Calls.{Calls, after_asking, after_ranges, after_reads, count_more}
 use Rattle.zarrs_codec.specs.StorageState.{count_if}
 
 count_more-more : (n m count : ℕ) → count_more n (count_more m count) ≡ count_more (m + n) count
@@ -18,3 +21,19 @@ after_reads-none (Some calls) = refl
 pub after_reads-more : (m n : ℕ) (calls : Option Calls) → after_reads n (after_reads m calls) ≡ after_reads (m + n) calls
 after_reads-more m n None = refl
 after_reads-more m n (Some calls) = ap (λ (reads : ℕ). Some (record calls { reads = reads })) (count_more-more n m calls.reads)
+
+-- no range leaves those that are kept
+pub after_asking-none : (asked : Option (List ByteSpan)) → after_asking [] asked ≡ asked
+after_asking-none None = refl
+after_asking-none (Some asked) = ap Some (append-nil asked)
+
+-- ranges, and then more of them
+pub after_asking-more : (first more : List ByteSpan) (asked : Option (List ByteSpan)) → after_asking more (after_asking first asked) ≡ after_asking (first ++ more) asked
+after_asking-more first more None = refl
+after_asking-more first more (Some asked) = ap Some (append_assoc asked first more)
+
+-- a reading call that is accepted has asked for its ranges
+pub ranges_asked : {E T : Type 0} (r : Result T E) (ranges : List ByteSpan) (before after : Option (List ByteSpan)) → after ≡ after_ranges r ranges before → OnOk r (after ≡ after_asking ranges before)
+ranges_asked (Ok x) ranges None after is = is
+ranges_asked (Ok x) ranges (Some asked) after is = is
+ranges_asked (Err e) ranges before after is = tt

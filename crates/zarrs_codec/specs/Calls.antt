@@ -1,5 +1,6 @@
 -- What a handle that keeps a record of its calls has in it.
 use Rattle.std.specs.Prelude.{◌≡◌, ℕ, zero, suc, true, Option, Some, None, List, ◌++◌, Result, Ok, Err, OnOk}
+use Rattle.zarrs_codec.specs.ByteSpan.{ByteSpan}
 use Rattle.zarrs_codec.specs.StorageState.{count_if}
 
 -- How many reading calls have succeeded, modulo 2^64; and the numbers of the bytes that accepted writing calls have replaced, in order.
@@ -41,6 +42,23 @@ after_write result numbers (Some calls) = Some (record calls { replaced = replac
 abbrev pub CountsWrite : {C E T : Type 0} → (C → Option Calls) → C → C → List ℕ → Result T E → Type 0
 CountsWrite calls before after numbers result = calls after ≡ after_write result numbers (calls before)
 
+-- ---- which ranges of bytes were asked for, where that is kept
+
+-- the ranges, where they are kept, and these behind them
+abbrev pub after_asking : List ByteSpan → Option (List ByteSpan) → Option (List ByteSpan)
+after_asking ranges None = None
+after_asking ranges (Some asked) = Some (asked ++ ranges)
+
+-- the ranges that were asked for with those of one more reading call, where it was accepted
+abbrev pub asked_with : {E T : Type 0} → Result T E → List ByteSpan → List ByteSpan → List ByteSpan
+asked_with (Ok _) ranges asked = asked ++ ranges
+asked_with (Err _) ranges asked = asked
+
+-- the ranges, where they are kept, after a reading call of these that answered this: an accepted one adds them, in order
+abbrev pub after_ranges : {E T : Type 0} → Result T E → List ByteSpan → Option (List ByteSpan) → Option (List ByteSpan)
+after_ranges result ranges None = None
+after_ranges result ranges (Some asked) = Some (asked_with result ranges asked)
+
 -- ---- what is stated of a coder's call: `calls` is the record of its handle
 
 -- a call that answers has made so many reading calls, and none that writes
@@ -51,3 +69,7 @@ MakesReads calls n before after result = OnOk result (calls after ≡ after_read
 abbrev pub MakesWrite : {C E T : Type 0} → (C → Option Calls) → ℕ → List ℕ → C → C → Result T E → Type 0
 MakesWrite calls n numbers before after result =
     OnOk result (calls after ≡ after_replacing numbers (after_reads n (calls before)))
+
+-- a call that answers has asked for these ranges, in order, and for no others (`asked` states which ones its handle was asked for)
+abbrev pub AsksRanges : {C E T : Type 0} → (C → Option (List ByteSpan)) → List ByteSpan → C → C → Result T E → Type 0
+AsksRanges asked ranges before after result = OnOk result (asked after ≡ after_asking ranges (asked before))

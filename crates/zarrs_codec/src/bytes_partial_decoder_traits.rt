@@ -1,7 +1,8 @@
 //! Storage handles that can be read.
 ghost use Rattle.std.specs.Prelude.{◌≡◌, ℕ, Bool, Option, None, Ok, List, is_some};
 ghost use Rattle.zarrs_codec.specs.ByteRanges.{ranges_are_sure, read_ranges};
-ghost use Rattle.zarrs_codec.specs.Calls.{Calls, after_reads, ok_count};
+ghost use Rattle.zarrs_codec.specs.ByteSpan.{ByteSpan};
+ghost use Rattle.zarrs_codec.specs.Calls.{Calls, after_ranges, after_reads, ok_count};
 ghost use Rattle.zarrs_codec.specs.HandleCalls.{NeverFailsIf, ReadsBytes, Tells};
 ghost use Rattle.zarrs_codec.specs.Lent.{Lent};
 ghost use Rattle.zarrs_codec.specs.StorageState.{StorageState, after_reading, value_is_sure, value_size};
@@ -22,8 +23,9 @@ use zarrs_chunk::CodecError;
 /// nor a read of such bytes alone answers `Storage`. Bytes past the value's end may be sure too.
 ///
 /// A handle may keep a **record** of its calls: how many of the four reading calls succeeded, and the
-/// numbers of the bytes that accepted writing calls replaced. Code that is generic over its handle
-/// can't see whether one is kept, so what it states of the record holds of every handle's traffic.
+/// numbers of the bytes that accepted writing calls replaced. It may also keep which **ranges** those
+/// calls of `partial_decode_many` asked for that succeeded. Code that is generic over its handle
+/// can't see whether they are kept, so what it states of them holds of every handle's traffic.
 pub trait BytesPartialDecoderTraits {
     // The value, the sure bytes, the failures, and the count of writing calls.
     ghost state: { Self → StorageState };
@@ -33,6 +35,9 @@ pub trait BytesPartialDecoderTraits {
 
     // The record of its calls, where it keeps one: how many reading calls succeeded, and which bytes were replaced. A handle that keeps none states nothing of them.
     ghost calls: { Self → Option Calls } = { λ _. None };
+
+    // The ranges that reading calls asked for and were given, in order, where the handle keeps them. One that keeps none states nothing of them.
+    ghost asked: { Self → Option (List ByteSpan) } = { λ _. None };
 
     // How many bytes the handle keeps in memory.
     ghost held: { Self → ℕ };
@@ -46,6 +51,7 @@ pub trait BytesPartialDecoderTraits {
         ensures sure { NeverFailsIf (is_some (state self.old).sure) result }
         ensures left { state self.new ≡ after_reading result (state self.old) }
         ensures counted { calls self.new ≡ after_reads (ok_count result) (calls self.old) }
+        ensures asked { asked self.new ≡ asked self.old }
         ensures same_reference { lent self.new ≡ lent self.old };
 
     /// How many bytes the value has, or `None` where there is no value. Errors: `Storage`, but never
@@ -55,6 +61,7 @@ pub trait BytesPartialDecoderTraits {
         ensures sure { NeverFailsIf (is_some (state self.old).sure) result }
         ensures left { state self.new ≡ after_reading result (state self.old) }
         ensures counted { calls self.new ≡ after_reads (ok_count result) (calls self.old) }
+        ensures asked { asked self.new ≡ asked self.old }
         ensures same_reference { lent self.new ≡ lent self.old };
 
     /// How many bytes the handle keeps in memory.
@@ -73,6 +80,7 @@ pub trait BytesPartialDecoderTraits {
         ensures sure { NeverFailsIf (ranges_are_sure (state self.old) ranges.now) result }
         ensures left { state self.new ≡ after_reading result (state self.old) }
         ensures counted { calls self.new ≡ after_reads (ok_count result) (calls self.old) }
+        ensures asked { asked self.new ≡ after_ranges result ranges.now (asked self.old) }
         ensures same_reference { lent self.new ≡ lent self.old };
 
     /// The whole value, or `None`. Errors: `OutOfMemory`; `Storage`, but never where all bytes of
@@ -82,6 +90,7 @@ pub trait BytesPartialDecoderTraits {
         ensures sure { NeverFailsIf (value_is_sure (state self.old)) result }
         ensures left { state self.new ≡ after_reading result (state self.old) }
         ensures counted { calls self.new ≡ after_reads (ok_count result) (calls self.old) }
+        ensures asked { asked self.new ≡ asked self.old }
         ensures same_reference { lent self.new ≡ lent self.old };
 
     /// Whether the handle reads ranges without the rest of the value. No contract can measure it: it is
@@ -99,6 +108,8 @@ impl<H: BytesPartialDecoderTraits> BytesPartialDecoderTraits for &mut H {
     ghost lent = { λ handle. whole_reference handle.ghost_name ∷ H.lent handle.now };
 
     ghost calls = { λ handle. H.calls handle.now };
+
+    ghost asked = { λ handle. H.asked handle.now };
 
     ghost held = { λ handle. H.held handle.now };
 

@@ -16,7 +16,8 @@ use zarrs_chunk::CodecError;
 /// answers. One that fails leaves the value as it was where the handle is atomic, and else may
 /// leave any. What else the state has is kept, but for the failure that is answered. To the record,
 /// where the handle keeps one, an accepted call adds the numbers of the bytes that it replaced: those
-/// of the pieces in their order, or all of a new value; an erasure adds none.
+/// of the pieces in their order, or all of a new value; an erasure adds none. No writing call asks for
+/// a range.
 pub trait BytesPartialEncoderTraits: BytesPartialDecoderTraits {
     // Whether a writing call that fails leaves the value as it was.
     ghost atomic: { Bool };
@@ -43,6 +44,7 @@ pub trait BytesPartialEncoderTraits: BytesPartialDecoderTraits {
         ensures kept_if_atomic { KeptIfAtomic atomic Self.state self.old self.new result }
         ensures left { LeftByWriting Self.state self.old self.new result }
         ensures counted { CountsWrite Self.calls self.old self.new (joined_runs pieces.now) result }
+        ensures asked { Self.asked self.new ≡ Self.asked self.old }
         ensures same_reference { Self.lent self.new ≡ Self.lent self.old };
 
     /// Makes these bytes the value. Errors: `OutOfMemory`, `Storage`.
@@ -52,6 +54,7 @@ pub trait BytesPartialEncoderTraits: BytesPartialDecoderTraits {
         ensures kept_if_atomic { KeptIfAtomic atomic Self.state self.old self.new result }
         ensures left { LeftByWriting Self.state self.old self.new result }
         ensures counted { CountsWrite Self.calls self.old self.new (value_indices (Some bytes.now)) result }
+        ensures asked { Self.asked self.new ≡ Self.asked self.old }
         ensures same_reference { Self.lent self.new ≡ Self.lent self.old };
 
     /// Leaves no value; there may have been none. Errors: `Storage`.
@@ -61,6 +64,7 @@ pub trait BytesPartialEncoderTraits: BytesPartialDecoderTraits {
         ensures kept_if_atomic { KeptIfAtomic atomic Self.state self.old self.new result }
         ensures left { LeftByWriting Self.state self.old self.new result }
         ensures counted { Self.calls self.new ≡ Self.calls self.old }
+        ensures asked { Self.asked self.new ≡ Self.asked self.old }
         ensures same_reference { Self.lent self.new ≡ Self.lent self.old };
 
     /// Whether the handle writes pieces without the rest of the value. No contract can measure it: it

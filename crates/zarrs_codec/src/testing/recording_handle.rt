@@ -2,7 +2,7 @@
 ghost use Rattle.std.specs.Prelude.{◌≡◌, [], Some};
 ghost use Rattle.std.specs.Option.{option_map};
 ghost use Rattle.zarrs_chunk.specs.Runs.{joined_runs};
-ghost use Rattle.zarrs_codec.specs.RecordingHandle.{recorded_calls, recorded_state};
+ghost use Rattle.zarrs_codec.specs.RecordingHandle.{asked_ranges, recorded_calls, recorded_state};
 
 use crate::byte_range::ByteRange;
 use crate::bytes_partial_decoder_traits::BytesPartialDecoderTraits;
@@ -11,14 +11,15 @@ use crate::memory_handle::MemoryHandle;
 use std::alloc::Global;
 use zarrs_chunk::CodecError;
 
-/// A handle over memory that keeps how many reading calls succeeded, and which bytes accepted writing
-/// calls replaced: of each call its pieces, as they were given.
+/// A handle over memory that keeps how many reading calls succeeded and which ranges they asked for,
+/// and which bytes accepted writing calls replaced: of each call its pieces, as they were given.
 ///
-/// It never fails, but for lack of memory: the record of a write takes some too.
+/// It never fails, but for lack of memory: the record of ranges and of a write takes some too.
 #[derive(Drop)]
 pub struct RecordingHandle {
     memory: MemoryHandle,
     reads: u64,
+    asked: Vec<ByteRange>,
     replaced: Vec<(u64, u64)>,
 }
 
@@ -29,6 +30,7 @@ impl RecordingHandle {
         ensures no_writes { (recorded_state result).writes ≡ 0 }
         ensures none_accepted { (recorded_state result).accepted_writes ≡ 0 }
         ensures empty { recorded_calls result ≡ record { reads = 0; replaced = [] } }
+        ensures none_asked { asked_ranges result ≡ [] }
     {
         let memory = match value {
             None => MemoryHandle::new(),
@@ -37,6 +39,7 @@ impl RecordingHandle {
         RecordingHandle {
             memory,
             reads: 0,
+            asked: Vec::new(alloc),
             replaced: Vec::new(alloc),
         }
     }
@@ -53,6 +56,14 @@ impl RecordingHandle {
         ensures value { result ≡ (recorded_calls self.now).reads }
     {
         self.reads
+    }
+
+    /// The ranges that reading calls asked for and were given, in order. A read of the whole value asks
+    /// for none.
+    pub fn asked(&self) -> &[ByteRange]
+        ensures value { result.now ≡ asked_ranges self.now }
+    {
+        self.asked.as_slice()
     }
 
     /// The bytes that accepted writing calls replaced, in order: of each run of them the number of its
@@ -88,6 +99,8 @@ impl BytesPartialDecoderTraits for RecordingHandle {
 
     ghost calls = { λ handle. Some (recorded_calls handle) };
 
+    ghost asked = { λ handle. Some (asked_ranges handle) };
+
     ghost held = { λ handle. held_bytes (recorded_state handle).value };
 
     ghost reads_ranges = { true };
@@ -114,6 +127,7 @@ impl BytesPartialDecoderTraits for RecordingHandle {
         ranges: &[ByteRange],
     ) -> Result<Option<Vec<u8>>, CodecError> {
         let bytes = self.memory.partial_decode_many(alloc, ranges)?;
+        self.asked.extend_from_slice(ranges)?;
         self.reads = self.reads.wrapping_add(1);
         Ok(bytes)
     }
