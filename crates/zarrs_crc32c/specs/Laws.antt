@@ -1,9 +1,10 @@
 -- What the checksum owes beside its definition.
-use Rattle.std.specs.Prelude.{◌≡◌, ◌≢◌, ◌<◌, ℕ, List, [], ◌∷◌, ◌++◌, map, replicate, reverse, codes, Err}
+use Rattle.std.specs.Prelude.{◌≡◌, ◌≢◌, ◌<◌, ℕ, bit_xor, List, [], ◌∷◌, ◌++◌, length, map, replicate, reverse, codes, Err}
 use Rattle.std.specs.List.{range_with_len}
+use Rattle.std.specs.Simd.Lanes.{zip2}
 use Rattle.zarrs_chunk.specs.declared.codec_error.CodecError.TheVariants.{BytesCodec}
 use Rattle.zarrs_codec.specs.BytesToBytesCodec.{AreBytes}
-use Rattle.zarrs_crc32c.specs.Checksum.{crc32c}
+use Rattle.zarrs_crc32c.specs.Checksum.{after_bytes, crc32c}
 use Rattle.zarrs_crc32c.specs.Crc32cCodec.{with_checksum, checked_bytes}
 
 -- The examples of RFC 3720, B.4, with the lowest byte first there: 32 bytes of zeros, of ones, rising and falling; and the check value of the catalogues of checksums.
@@ -17,3 +18,9 @@ abbrev pub FindsReplacedByte : Type 0
 FindsReplacedByte =
     (bytes front back : List ℕ) (byte other : ℕ) → AreBytes bytes → other < 256 → with_checksum bytes ≡ front ++ byte ∷ back → other ≢ byte
     → checked_bytes (front ++ other ∷ back) ≡ Err (BytesCodec 2)
+
+-- The register is linear: bytes that are the sums of two lists of equal length leave the sum of what these leave.
+abbrev pub IsLinear : Type 0
+IsLinear =
+    (first second : ℕ) (xs ys : List ℕ) → length xs ≡ length ys
+    → after_bytes (bit_xor first second) (zip2 bit_xor xs ys) ≡ bit_xor (after_bytes first xs) (after_bytes second ys)

@@ -4,3 +4,4 @@ pub mod Crc32cCodec
 pub mod Crc32cMetadata
 pub mod Lawful
 pub mod Laws
+pub mod Quotient

@@ -1,7 +1,8 @@
-//! The checksum of some bytes, by eight bytes a step.
+//! The checksum of some bytes, by eight bytes a step where they are few.
 ghost use Rattle.std.specs.Prelude.{◌≡◌, bit_xor};
 ghost use Rattle.zarrs_crc32c.specs.Checksum.{crc32c, after_bits, after_byte, after_bytes};
 
+use crate::quotient::take_long;
 use crate::table::look_up;
 
 /// The register after a byte.
@@ -50,7 +51,7 @@ fn take_each(register: u32, bytes: &[u8]) -> u32
 }
 
 /// The register after some bytes, taken by eights.
-fn take_bytes(register: u32, bytes: &[u8]) -> u32
+pub(crate) fn take_bytes(register: u32, bytes: &[u8]) -> u32
     ensures value { result ≡ after_bytes register bytes.now }
 {
     let mut current = register;
@@ -67,5 +68,10 @@ fn take_bytes(register: u32, bytes: &[u8]) -> u32
 pub fn checksum_of(bytes: &[u8]) -> u32
     ensures value { result ≡ crc32c bytes.now }
 {
-    take_bytes(0xffff_ffff, bytes) ^ 0xffff_ffff
+    let register = if bytes.len() < 700 {
+        take_bytes(0xffff_ffff, bytes)
+    } else {
+        take_long(bytes)
+    };
+    register ^ 0xffff_ffff
 }

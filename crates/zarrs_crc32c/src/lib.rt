@@ -6,6 +6,7 @@ mod checksum;
 mod crc32c_codec;
 mod crc32c_maker;
 pub mod laws;
+mod quotient;
 mod table;
 
 pub use checksum::checksum_of;
