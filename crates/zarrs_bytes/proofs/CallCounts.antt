@@ -60,7 +60,7 @@ many size runs h =
     let first = both.0 in
     grind (arith, nat_tests, first)
 
-abbrev no_bytes : Result (Option (List ℕ)) CodecError
+abbrev pub no_bytes : Result (Option (List ℕ)) CodecError
 no_bytes = Ok None
 
 -- nothing is stored where a read answers nothing: the one call is all
@@ -101,10 +101,18 @@ some_by_batches (Some value) places rest before mid after there is one more =
     ∙ ap (λ (n : ℕ). after_reads n before) all
 
 -- few places are not scattered
-few_not_scattered : (places : List ℕ) → length places ≤ 1024 → are_scattered places ≡ false
+pub few_not_scattered : (places : List ℕ) → length places ≤ 1024 → are_scattered places ≡ false
 few_not_scattered places few =
     let no : nat_lt 1024 (length places) ≡ false = grind (arith, nat_tests) in
     ap (λ (b : Bool). b && nat_lt (following_count places) (length places / 2)) no
+
+-- and have few runs
+pub few_not_short : (size : ℕ) (places : List ℕ) → length places ≤ 1024 → are_many_short size (consecutive_runs places) ≡ false
+few_not_short size places few =
+    let runs = consecutive_runs places in
+    let within = runs_within places in
+    let no : nat_lt 1024 (length runs) ≡ false = grind (arith, nat_tests) in
+    ap (λ (b : Bool). b && nat_lt (length (joined_runs runs) * size) (length runs * 16)) no
 
 -- nor are places of which a test of both says so
 pub not_scattered : (places : List ℕ) → (nat_le (length places) 1024 || are_scattered places) ≡ false → are_scattered places ≡ false
@@ -127,11 +135,8 @@ scattered_counted size (Some value) places test =
 few_counted : (size : ℕ) (stored : Option (List ℕ)) (places : List ℕ) → length places ≤ 1024 → calls_by_batches stored places ≡ calls_for_places size stored places
 few_counted size None places few = refl
 few_counted size (Some value) places few =
-    let runs = consecutive_runs places in
-    let within = runs_within places in
-    let no_runs : nat_lt 1024 (length runs) ≡ false = grind (arith, nat_tests) in
     let whole = few_not_scattered places few in
-    let long : are_many_short size runs ≡ false = ap (λ (b : Bool). b && nat_lt (length (joined_runs runs) * size) (length runs * 16)) no_runs in
+    let long = few_not_short size places few in
     let one : suc (batch_count (length places - 1024)) ≡ 1 = omega (arith, few) in
     rw (whole, long) one
 

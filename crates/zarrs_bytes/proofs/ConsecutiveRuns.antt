@@ -15,14 +15,14 @@ begins_elsewhere : (run : ℕ × ℕ) (runs : List (ℕ × ℕ)) → AreApart (r
 begins_elsewhere run [] apart = tt
 begins_elsewhere run (next ∷ runs) apart = apart 0 run (omega arith)
 
-tested : (a b : ℕ) (xs ys : List (ℕ × ℕ)) → a ≡ b → (if a == b then xs else ys) ≡ xs
+pub tested : (a b : ℕ) (xs ys : List (ℕ × ℕ)) → a ≡ b → (if a == b then xs else ys) ≡ xs
 tested a b xs ys e = let t : (a == b) ≡ true = grind (arith, nat_tests) in rw t refl
 
-untested : (a b : ℕ) (xs ys : List (ℕ × ℕ)) → b ≢ a → (if a == b then xs else ys) ≡ ys
+pub untested : (a b : ℕ) (xs ys : List (ℕ × ℕ)) → b ≢ a → (if a == b then xs else ys) ≡ ys
 untested a b xs ys n = let t : (a == b) ≡ false = grind (arith, nat_tests) in rw t refl
 
 -- one run
-one_run : (start len : ℕ) (runs : List (ℕ × ℕ)) → 0 < len → BeginsElsewhere (start + len) runs → consecutive_runs (joined_runs runs) ≡ runs → consecutive_runs (range_with_len start len ++ joined_runs runs) ≡ (start, len) ∷ runs
+pub one_run : (start len : ℕ) (runs : List (ℕ × ℕ)) → 0 < len → BeginsElsewhere (start + len) runs → consecutive_runs (joined_runs runs) ≡ runs → consecutive_runs (range_with_len start len ++ joined_runs runs) ≡ (start, len) ∷ runs
 one_run start zero runs some ends rest = absurd (omega arith)
 one_run start (suc zero) [] some ends rest = refl
 one_run start (suc zero) (next ∷ runs) some ends rest =

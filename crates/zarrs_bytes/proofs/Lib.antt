@@ -22,3 +22,5 @@ pub mod ConsecutiveRuns
 pub mod PlaceRanges
 pub mod Scattered
 pub mod CallCounts
+pub mod JoinedPlaces
+pub mod AskedCalls

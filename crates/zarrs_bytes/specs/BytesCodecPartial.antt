@@ -10,10 +10,12 @@ use Rattle.zarrs_data_type.specs.declared.endianness.Endianness.{Endianness}
 use Rattle.zarrs_array_bytes.specs.Held.{Held}
 use Rattle.zarrs_codec.specs.ArrayReader.{ArrayReader}
 use Rattle.zarrs_codec.specs.ArrayWriter.{ArrayWriter}
-use Rattle.zarrs_codec.specs.Calls.{Calls, MakesReads, MakesWrite}
+use Rattle.zarrs_codec.specs.ByteSpan.{ByteSpan}
+use Rattle.zarrs_codec.specs.Calls.{AsksRanges, Calls, MakesReads, MakesWrite}
 use Rattle.zarrs_codec.specs.ChunkEdits.{data_checked}
 use Rattle.zarrs_codec.specs.StorageState.{StorageState, are_sure}
 use Rattle.zarrs_codec.specs.declared.refused.Refused.{Refused}
+use Rattle.zarrs_bytes.specs.AskedRanges.{asked_for_runs}
 use Rattle.zarrs_bytes.specs.BytesGrammar.{bytes_grammar, bytes_reads_part}
 use Rattle.zarrs_data_type.specs.Form.{Form, form_of}
 use Rattle.zarrs_codec.specs.CodersOverHandles.{ReadsPart, OnlyReads, EditsPart}
@@ -58,6 +60,10 @@ coder_lent lent coder = lent (bytes_handle_of coder)
 abbrev pub coder_calls : {H : Type 0} → (H → Option Calls) → BytesCodecPartial H → Option Calls
 coder_calls calls coder = calls (bytes_handle_of coder)
 
+-- the ranges that a coder's handle was asked for, where it keeps them
+abbrev pub coder_asked : {H : Type 0} → (H → Option (List ByteSpan)) → BytesCodecPartial H → Option (List ByteSpan)
+coder_asked asked coder = asked (bytes_handle_of coder)
+
 -- a coder that is made has this byte order, and is one of chunks of this form
 abbrev pub HasForm : {H : Type 0} → Option Endianness → Form → Result (BytesCodecPartial H) (Refused H) → Type 0
 HasForm order form result =
@@ -73,6 +79,12 @@ abbrev pub CountsReads : {H T : Type 0} → (H → StorageState) → (H → Opti
 CountsReads state calls before after indexer result =
     IfOk (places_of (selection_of indexer) before.shape) (λ places.
     MakesReads (coder_calls calls) (calls_for_runs (place_size before.data_type) (stored_in state before) (consecutive_runs places)) before after result)
+
+-- an accepted read asks for the ranges of its places: one for each run of consecutive places (`asked` states which ranges a handle was asked for)
+abbrev pub AsksReads : {H T : Type 0} → (H → StorageState) → (H → Option (List ByteSpan)) → BytesCodecPartial H → BytesCodecPartial H → Indexer → Result T CodecError → Type 0
+AsksReads state asked before after indexer result =
+    IfOk (places_of (selection_of indexer) before.shape) (λ places.
+    AsksRanges (coder_asked asked) (asked_for_runs (place_size before.data_type) (stored_in state before) (consecutive_runs places)) before after result)
 
 -- a reading call of a coder leaves all as it was, but for the failure that it answers
 abbrev pub Leaves : {H T L : Type 0} → (H → StorageState) → (H → L) → BytesCodecPartial H → BytesCodecPartial H → Result T CodecError → Type 0

@@ -1,4 +1,5 @@
 -- The codec `bytes`.
+pub mod AskedRanges
 pub mod ByteOrder
 pub mod BytesCodec
 pub mod BytesCodecPartial

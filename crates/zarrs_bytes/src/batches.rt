@@ -4,9 +4,10 @@
 //! short ranges, they are made and asked for a batch at a time.
 ghost use Rattle.std.specs.Prelude.{◌≡◌, ◌<◌, ◌≤◌, ◌+◌, ◌*◌, ◌^◌, if◌then◌else◌, true, IfOk, All, is_some, length};
 ghost use Rattle.zarrs_codec.specs.ByteRanges.{range_indices};
-ghost use Rattle.zarrs_codec.specs.Calls.{MakesReads};
+ghost use Rattle.zarrs_codec.specs.Calls.{AsksRanges, MakesReads};
 ghost use Rattle.zarrs_codec.specs.StorageState.{after_reading};
 ghost use Rattle.zarrs_codec.specs.HandleCalls.{NeverFailsIf, ReadsBytes};
+ghost use Rattle.zarrs_bytes.specs.AskedRanges.{ranges_of_runs, AsksForRuns};
 ghost use Rattle.zarrs_bytes.specs.PartialRead.{bytes_at_runs, run_byte_numbers, runs_are_sure, AddsRuns};
 ghost use Rattle.zarrs_bytes.specs.PlannedRanges.{NoneIsEmpty, AreOfRuns};
 ghost use Rattle.zarrs_bytes.specs.ReadingCalls.{are_many_short, CountsRuns, MakesBatches};
@@ -76,6 +77,7 @@ fn read_batch<H: BytesPartialDecoderTraits>(
     ensures left { H.state handle.new ≡ after_reading result (H.state handle.old) }
     ensures same_reference { H.lent handle.new ≡ H.lent handle.old }
     ensures counted { MakesReads H.calls 1 handle.old handle.new result }
+    ensures asked { AsksRanges H.asked (ranges_of_runs size runs.now) handle.old handle.new result }
 {
     let ranges = run_ranges(alloc, size, runs)?;
     handle.partial_decode_many(alloc, ranges.as_slice())
@@ -98,6 +100,7 @@ fn append_batch<H: BytesPartialDecoderTraits>(
     ensures left { H.state handle.new ≡ after_reading result (H.state handle.old) }
     ensures same_reference { H.lent handle.new ≡ H.lent handle.old }
     ensures counted { MakesReads H.calls 1 handle.old handle.new result }
+    ensures asked { AsksRanges H.asked (ranges_of_runs size runs.now) handle.old handle.new result }
 {
     match read_batch(alloc, handle, size, runs)? {
         None => unreachable!(),
@@ -123,6 +126,7 @@ fn append_batches<H: BytesPartialDecoderTraits>(
     ensures left { H.state handle.new ≡ after_reading result (H.state handle.old) }
     ensures same_reference { H.lent handle.new ≡ H.lent handle.old }
     ensures counted { MakesBatches H.calls (length runs.now) handle.old handle.new result }
+    ensures asked { AsksRanges H.asked (ranges_of_runs size runs.now) handle.old handle.new result }
 {
     let mut rest = runs;
     while !rest.is_empty() {
@@ -150,6 +154,7 @@ pub fn read_bytes<H: BytesPartialDecoderTraits>(
     ensures left { H.state handle.new ≡ after_reading result (H.state handle.old) }
     ensures same_reference { H.lent handle.new ≡ H.lent handle.old }
     ensures counted { CountsRuns size H.state H.calls handle.old handle.new runs.now result }
+    ensures asked { AsksForRuns size H.state H.asked handle.old handle.new runs.now result }
 {
     let (first, rest) = runs.split_at(first_batch(size, runs));
     match read_batch(alloc, handle, size, first)? {

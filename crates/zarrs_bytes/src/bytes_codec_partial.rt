@@ -15,6 +15,7 @@ ghost use Rattle.zarrs_codec.specs.CodersOverHandles.{OnlyWrites};
 ghost use Rattle.zarrs_codec.specs.StorageState.{after_reading, KeptIfAtomic, LeftByWriting};
 ghost use Rattle.zarrs_bytes.specs.BytesCodec.{bytes_length, BytesTakes};
 ghost use Rattle.zarrs_codec.specs.HandleCalls.{NeverFailsIf, Tells};
+ghost use Rattle.zarrs_bytes.specs.AskedRanges.{AsksForRuns};
 ghost use Rattle.zarrs_bytes.specs.MadeCoders.{GivesBytesCoder};
 ghost use Rattle.zarrs_bytes.specs.PartialRead.{place_size, IsFilledType, ReadsPlaces, ReadsPlacesSurely, RepeatsFill};
 ghost use Rattle.zarrs_bytes.specs.PartialWrite.{FailsByWriting, FitRuns};
@@ -83,7 +84,8 @@ impl BytesCodec {
     /// sure.
     ///
     /// The handle is asked by one reading call; where the runs are more than 1,024, and their ranges
-    /// would take more memory than their bytes, by one for each 1,024 of them.
+    /// would take more memory than their bytes, by one for each 1,024 of them. It asks for a range for
+    /// each run, in order: the bytes of its places.
     pub fn read_runs<H: BytesPartialDecoderTraits>(
         &self,
         alloc: Global,
@@ -105,6 +107,8 @@ impl BytesCodec {
         ensures same_reference { H.lent handle.new ≡ H.lent handle.old }
         ensures counted { CountsRuns (place_size data_type.now)
             H.state H.calls handle.old handle.new runs.now result }
+        ensures asked { AsksForRuns (place_size data_type.now)
+            H.state H.asked handle.old handle.new runs.now result }
     {
         let size = element_size(data_type, fill_value);
         match read_bytes(alloc, handle, size as u64, runs)? {
@@ -202,7 +206,7 @@ fn runs_for(
 }
 
 impl<H: BytesPartialDecoderTraits> BytesCodecPartial<H> {
-    ghost use Rattle.zarrs_bytes.specs.BytesCodecPartial.{bytes_form_of, bytes_handle_of, coder_calls, coder_state, stored_in, CountsReads, Reads, Leaves};
+    ghost use Rattle.zarrs_bytes.specs.BytesCodecPartial.{bytes_form_of, bytes_handle_of, coder_asked, coder_calls, coder_state, stored_in, AsksReads, CountsReads, Reads, Leaves};
 
     /// The type of the elements.
     pub fn data_type(&self) -> &DataType
@@ -216,6 +220,8 @@ impl<H: BytesPartialDecoderTraits> BytesCodecPartial<H> {
     /// that holds: those of `Indexer::places`; `InvalidByteRange` where a place's bytes lie past the
     /// value's end; `OutOfMemory` and `Storage`. `Storage` comes after the errors of the indexer,
     /// and never where all bytes of the places are sure.
+    ///
+    /// The handle is asked for the ranges that `planned_ranges` gives.
     pub fn partial_decode(
         &mut self,
         alloc: Global,
@@ -223,6 +229,7 @@ impl<H: BytesPartialDecoderTraits> BytesCodecPartial<H> {
     ) -> Result<ArrayBytes<'static>, CodecError>
         ensures reads { Reads H.state self.old indexer.now result }
         ensures counted { CountsReads H.state H.calls self.old self.new indexer.now result }
+        ensures asked { AsksReads H.state H.asked self.old self.new indexer.now result }
         ensures tight { IfOk result (IsTight (bytes_form_of self.old).type) }
         ensures left { Leaves H.state H.lent self.old self.new result }
     {
@@ -260,6 +267,7 @@ impl<H: BytesPartialDecoderTraits> BytesCodecPartial<H> {
         ensures sure { NeverFailsIf (is_some (coder_state H.state self.old).sure) result }
         ensures counted { coder_calls H.calls self.new
             ≡ after_reads (ok_count result) (coder_calls H.calls self.old) }
+        ensures asked { coder_asked H.asked self.new ≡ coder_asked H.asked self.old }
         ensures left { Leaves H.state H.lent self.old self.new result }
     {
         self.handle.exists()

@@ -1,4 +1,5 @@
 //! Laws of the codec, over its definitions. The functions do nothing; their contracts are the laws.
+ghost use Rattle.zarrs_bytes.specs.AskedRanges.{AskedAsPlanned, RunIsOneRange};
 ghost use Rattle.zarrs_bytes.specs.Laws.{WrittenStands, StandsForOne, WrittenAlike, HasRepresentedLength, ReadSelects, ReadsAlike, WriteUpdates, LengthByCount, LengthGrows};
 
 /// A value that is written for a chunk stands for it.
@@ -46,4 +47,15 @@ pub fn length_by_count()
 /// Each element more makes a value longer by the bytes of one element.
 pub fn length_grows()
     ensures law { LengthGrows }
+{}
+
+/// The ranges that are asked for at places are their plan: one for each run of consecutive places,
+/// none of them empty, and none beginning where the one before it ends.
+pub fn asked_as_planned()
+    ensures law { AskedAsPlanned }
+{}
+
+/// Consecutive places are one range.
+pub fn run_is_one_range()
+    ensures law { RunIsOneRange }
 {}

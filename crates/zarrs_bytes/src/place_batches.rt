@@ -9,9 +9,10 @@ ghost use Rattle.zarrs_data_type.specs.ElementType.{fixed_size_of};
 ghost use Rattle.zarrs_data_type.specs.FillValue.{fill_fits};
 ghost use Rattle.zarrs_array_bytes.specs.Tight.{IsTight};
 ghost use Rattle.zarrs_codec.specs.ByteRanges.{range_indices};
-ghost use Rattle.zarrs_codec.specs.Calls.{MakesReads};
+ghost use Rattle.zarrs_codec.specs.Calls.{AsksRanges, MakesReads};
 ghost use Rattle.zarrs_codec.specs.StorageState.{after_reading};
 ghost use Rattle.zarrs_codec.specs.HandleCalls.{NeverFailsIf, ReadsBytes};
+ghost use Rattle.zarrs_bytes.specs.AskedRanges.{ranges_by_batches, ranges_of_places, with_range, AsksByBatches, AsksForPlaces, GoesOn};
 ghost use Rattle.zarrs_bytes.specs.PartialRead.{bytes_at_places, place_bytes, place_size, places_are_sure, with_read, AreCounted, ReadsPlaces, ReadsPlacesSurely, RepeatsFill};
 ghost use Rattle.zarrs_bytes.specs.PlannedRanges.{NoneIsEmpty, indices_until};
 ghost use Rattle.zarrs_bytes.specs.ReadingCalls.{are_scattered, calls_for_places, follows_count, CountsBatches, MakesBatches};
@@ -64,6 +65,7 @@ fn push_range(ranges: &mut Vec<ByteRange>, start: u64, end: u64) -> Result<(), A
     requires ordered { start ≤ end }
     ensures bytes { OnOk result
         (range_indices ranges.new.items ≡ indices_until ranges.old.items start end) }
+    ensures pushed { OnOk result (ranges.new.items ≡ with_range ranges.old.items start end) }
     ensures filled { OnOk result (NoneIsEmpty ranges.old.items → NoneIsEmpty ranges.new.items) }
 {
     if start < end {
@@ -88,6 +90,8 @@ fn begin_range(
     ensures ordered { IfOk result (λ begin. begin ≤ here) }
     ensures bytes { IfOk result (λ begin. indices_until ranges.new.items begin here
         ≡ indices_until ranges.old.items start end) }
+    ensures goes_on { IfOk result (λ begin.
+        GoesOn ranges.old.items ranges.new.items start end here begin) }
     ensures filled { OnOk result (NoneIsEmpty ranges.old.items → NoneIsEmpty ranges.new.items) }
 {
     if here == end {
@@ -105,6 +109,7 @@ fn place_ranges(alloc: Global, size: u64, places: &[u64]) -> Result<Vec<ByteRang
     ensures bytes { IfOk result
         (λ ranges. range_indices ranges.items ≡ place_bytes size places.now) }
     ensures filled { IfOk result (λ ranges. NoneIsEmpty ranges.items) }
+    ensures each { IfOk result (λ ranges. ranges.items ≡ ranges_of_places size places.now) }
 {
     let mut ranges = Vec::with_capacity(alloc, places.len())?;
     let mut start = 0;
@@ -134,6 +139,7 @@ fn read_batch<H: BytesPartialDecoderTraits>(
     ensures left { H.state handle.new ≡ after_reading result (H.state handle.old) }
     ensures same_reference { H.lent handle.new ≡ H.lent handle.old }
     ensures counted { MakesReads H.calls 1 handle.old handle.new result }
+    ensures asked { AsksRanges H.asked (ranges_of_places size places.now) handle.old handle.new result }
 {
     let ranges = place_ranges(alloc, size, places)?;
     handle.partial_decode_many(alloc, ranges.as_slice())
@@ -156,6 +162,7 @@ fn append_batch<H: BytesPartialDecoderTraits>(
     ensures left { H.state handle.new ≡ after_reading result (H.state handle.old) }
     ensures same_reference { H.lent handle.new ≡ H.lent handle.old }
     ensures counted { MakesReads H.calls 1 handle.old handle.new result }
+    ensures asked { AsksRanges H.asked (ranges_of_places size places.now) handle.old handle.new result }
 {
     match read_batch(alloc, handle, size, places)? {
         None => unreachable!(),
@@ -181,6 +188,7 @@ fn append_places<H: BytesPartialDecoderTraits>(
     ensures left { H.state handle.new ≡ after_reading result (H.state handle.old) }
     ensures same_reference { H.lent handle.new ≡ H.lent handle.old }
     ensures counted { MakesBatches H.calls (length places.now) handle.old handle.new result }
+    ensures asked { AsksRanges H.asked (ranges_by_batches size places.now) handle.old handle.new result }
 {
     let mut rest = places;
     while !rest.is_empty() {
@@ -206,6 +214,7 @@ fn read_place_bytes<H: BytesPartialDecoderTraits>(
     ensures left { H.state handle.new ≡ after_reading result (H.state handle.old) }
     ensures same_reference { H.lent handle.new ≡ H.lent handle.old }
     ensures counted { CountsBatches H.state H.calls handle.old handle.new places.now result }
+    ensures asked { AsksByBatches size H.state H.asked handle.old handle.new places.now result }
 {
     let (first, rest) = places.split_at(BATCH.min(places.len()));
     match read_batch(alloc, handle, size, first)? {
@@ -257,6 +266,8 @@ impl BytesCodec {
         ensures left { H.state handle.new ≡ after_reading result (H.state handle.old) }
         ensures same_reference { H.lent handle.new ≡ H.lent handle.old }
         ensures counted { CountsBatches H.state H.calls handle.old handle.new places.now result }
+        ensures asked { AsksByBatches (place_size data_type.now)
+            H.state H.asked handle.old handle.new places.now result }
     {
         let size = element_size(data_type, fill_value);
         match read_place_bytes(alloc, handle, size as u64, places)? {
@@ -273,6 +284,9 @@ impl BytesCodec {
     /// list of their runs is made, and else the places are let go before they are read. The type is fixed and the fill value
     /// one of its elements, and 64 bits count the bytes up to the end of each place. Errors: those of
     /// `read_runs`. Many places are asked for in more than one call of the handle.
+    ///
+    /// Of each call places that follow one another are one range, as long as it can be: the range of
+    /// 1,024 consecutive places is one.
     pub fn read_places<H: BytesPartialDecoderTraits>(
         &self,
         alloc: Global,
@@ -292,6 +306,8 @@ impl BytesCodec {
         ensures same_reference { H.lent handle.new ≡ H.lent handle.old }
         ensures counted { MakesReads H.calls (calls_for_places (place_size data_type.now)
             (H.state handle.old).value places.items) handle.old handle.new result }
+        ensures asked { AsksForPlaces (place_size data_type.now)
+            H.state H.asked handle.old handle.new places.items result }
     {
         if are_read_by_batches(&places) {
             return self.read_scattered(alloc, handle, data_type, fill_value, &places);

@@ -7,6 +7,7 @@ use Rattle.zarrs_codec.specs.StorageState.{StorageState, after_reading}
 use Rattle.zarrs_bytes.proofs.BytesAt.{batches_read, batches_refused, batches_end, sure_runs}
 use Rattle.zarrs_bytes.proofs.CallCounts.{batch_counted, batches_done}
 use Rattle.zarrs_bytes.proofs.Reading.{Excused-weaker}
+use Rattle.zarrs_bytes.proofs.AskedCalls.{runs_asked, runs_done}
 use Rattle.zarrs_bytes.proofs.batches.append_batches.Goals as goal
 
 pub loop-rest-init : goal.loop-rest-init
@@ -18,6 +19,7 @@ loop-rest-init g c = record {
   state = refl;
   lent = refl;
   calls = refl;
+  asked = refl;
 }
 
 pub append_batch-requires-clause-filled : goal.append_batch-requires-clause-filled
@@ -76,6 +78,7 @@ loop-rest-preserved g c =
       state = c.in_ok-append_batch.ensures.left ∙ inv.state;
       lent = c.in_ok-append_batch.ensures.same_reference ∙ inv.lent;
       calls = batch_counted (length c.loop-rest.rest.now) (length c.split_at.result.1.now) (D.calls c.loop-rest.handle) (D.calls c.append_batch.new.handle) _ c.in_ok-append_batch.ensures.counted (let some : 0 < length c.loop-rest.rest.now = grind (arith, nat_tests) in some) (let left : length c.split_at.result.1.now ≡ length c.loop-rest.rest.now - min 1024 (length c.loop-rest.rest.now) = omega (arith, c.split_at.ensures.back_len, c.min.ensures) in left) inv.calls;
+      asked = runs_asked c.args.size c.loop-rest.rest.now c.split_at.result.0.now c.split_at.result.1.now (D.asked c.loop-rest.handle) (D.asked c.append_batch.new.handle) _ parts c.in_ok-append_batch.ensures.asked inv.asked;
     }
 
 pub returns-clause-answer : goal.returns-clause-answer
@@ -95,3 +98,9 @@ returns-clause-counted g c =
     let D = g.H.BytesPartialDecoderTraits in
     let empty : length c.loop-rest.rest.now ≡ 0 = grind (arith, nat_tests) in
     batches_done (length c.loop-rest.rest.now) (D.calls c.loop-rest.handle) _ empty c.loop-rest.invariant.calls
+
+pub returns-clause-asked : goal.returns-clause-asked
+returns-clause-asked g c =
+    let D = g.H.BytesPartialDecoderTraits in
+    let empty : length c.loop-rest.rest.now ≡ 0 = grind (arith, nat_tests) in
+    runs_done c.args.size c.loop-rest.rest.now (D.asked c.loop-rest.handle) _ empty c.loop-rest.invariant.asked

@@ -1,8 +1,9 @@
 use Rattle.std.proofs.Common.{◌≡◌, ◌<◌, ◌+◌, ◌*◌, ◌^◌, true, length}
 use Rattle.std.specs.List.{All}
 use Rattle.zarrs_chunk.specs.Runs.{joined_runs}
-use Rattle.zarrs_codec.specs.Calls.{after_reads}
+use Rattle.zarrs_codec.specs.Calls.{after_asking, after_reads}
 use Rattle.zarrs_codec.specs.StorageState.{are_sure}
+use Rattle.zarrs_bytes.specs.AskedRanges.{ranges_of_runs}
 use Rattle.zarrs_bytes.specs.PartialRead.{place_bytes}
 use Rattle.zarrs_bytes.specs.ReadingCalls.{batch_count}
 use Rattle.zarrs_bytes.proofs.BytesAt.{left}
@@ -17,6 +18,7 @@ invariant-loop-rest g l = record {
   state : g.H.BytesPartialDecoderTraits.state l.handle ≡ g.H.BytesPartialDecoderTraits.state l.fn.handle;
   lent : g.H.BytesPartialDecoderTraits.lent l.handle ≡ g.H.BytesPartialDecoderTraits.lent l.fn.handle;
   calls : after_reads (batch_count (length l.rest)) (g.H.BytesPartialDecoderTraits.calls l.handle) ≡ after_reads (batch_count (length l.runs)) (g.H.BytesPartialDecoderTraits.calls l.fn.handle);
+  asked : after_asking (ranges_of_runs l.size l.rest) (g.H.BytesPartialDecoderTraits.asked l.handle) ≡ after_asking (ranges_of_runs l.size l.runs) (g.H.BytesPartialDecoderTraits.asked l.fn.handle);
 }
 
 abbrev pub decreases-loop-rest : goal.decreases-loop-rest

@@ -1,4 +1,4 @@
-use Rattle.std.proofs.Common.{◌≡◌, ◌∙◌, ◌-◌, if◌then◌else◌, length, arith, ap, sym}
+use Rattle.std.proofs.Common.{◌≡◌, ◌∙◌, ◌-◌, if◌then◌else◌, length, take, arith, ap, sym}
 use Rattle.std.proofs.lemmas.Result.{err_from_is_err_and}
 use Rattle.zarrs_chunk.specs.Answer.{memory_or_fault}
 use Rattle.zarrs_chunk.specs.Runs.{joined_runs}
@@ -7,6 +7,7 @@ use Rattle.zarrs_bytes.specs.ReadingCalls.{are_many_short}
 use Rattle.zarrs_bytes.proofs.BytesAt.{first_refused, first_then_rest}
 use Rattle.zarrs_bytes.proofs.CallCounts.{none_counted, some_counted, stored_where_found}
 use Rattle.zarrs_bytes.proofs.Reading.{Excused-weaker}
+use Rattle.zarrs_bytes.proofs.AskedCalls.{none_asked, some_asked}
 use Rattle.zarrs_bytes.proofs.batches.read_bytes.Goals as goal
 
 pub returns-in_err-read_batch-clause-answer : goal.returns-in_err-read_batch-clause-answer
@@ -48,3 +49,18 @@ returns-in_ok-append_batches-in-Some-clause-counted g c =
     let read = rw c.in-Some.is at c.in_ok-read_batch.ensures.answer in
     let rest : length c.split_at.result.1.now ≡ length c.args.runs.now - (if are_many_short c.args.size c.args.runs.now then 1024 else length c.args.runs.now) = omega (arith, c.split_at.ensures.back_len, c.first_batch.ensures.count) in
     some_counted c.args.size stored c.args.runs.now c.split_at.result.1.now (D.calls c.args.handle.now) (D.calls c.read_batch.new.handle) (D.calls c.append_batches.new.handle) (stored_where_found c.args.size stored (joined_runs c.split_at.result.0.now) c.in-Some.bytes.items read) rest c.in_ok-read_batch.ensures.counted c.in_ok-append_batches-in-Some.ensures.counted
+
+pub returns-in-None-clause-asked : goal.returns-in-None-clause-asked
+returns-in-None-clause-asked g c =
+    let D = g.H.BytesPartialDecoderTraits in
+    let stored = (D.state c.args.handle.now).value in
+    let read = rw c.in-None.is at c.in_ok-read_batch.ensures.answer in
+    let first = c.split_at.ensures.front ∙ ap (λ n. take n c.args.runs.now) c.first_batch.ensures.count in
+    none_asked c.args.size stored (joined_runs c.split_at.result.0.now) c.args.runs.now c.split_at.result.0.now (D.asked c.args.handle.now) (D.asked c.read_batch.new.handle) read first c.in_ok-read_batch.ensures.asked
+
+pub returns-in_ok-append_batches-in-Some-clause-asked : goal.returns-in_ok-append_batches-in-Some-clause-asked
+returns-in_ok-append_batches-in-Some-clause-asked g c =
+    let D = g.H.BytesPartialDecoderTraits in
+    let stored = (D.state c.args.handle.now).value in
+    let read = rw c.in-Some.is at c.in_ok-read_batch.ensures.answer in
+    some_asked c.args.size stored c.args.runs.now c.split_at.result.0.now c.split_at.result.1.now (D.asked c.args.handle.now) (D.asked c.read_batch.new.handle) (D.asked c.append_batches.new.handle) (stored_where_found c.args.size stored (joined_runs c.split_at.result.0.now) c.in-Some.bytes.items read) c.split_at.ensures.by_index.0 c.in_ok-read_batch.ensures.asked c.in_ok-append_batches-in-Some.ensures.asked

@@ -1,10 +1,14 @@
-use Rattle.std.proofs.Common.{◌∙◌, List, Option, Result, ℕ, ap, subst}
+use Rattle.std.proofs.Common.{◌≡◌, ◌∙◌, List, Option, Result, ℕ, ap, subst}
 use Rattle.zarrs_chunk.specs.declared.codec_error.CodecError.{CodecError}
 use Rattle.zarrs_codec.specs.ByteRanges.{range_indices, read_ranges}
 use Rattle.zarrs_codec.specs.HandleCalls.{ReadsBytes}
 use Rattle.zarrs_codec.specs.StorageState.{are_sure}
 use Rattle.zarrs_bytes.proofs.BytesAt.{ranges_read}
 use Rattle.zarrs_bytes.proofs.CallCounts.{one_read}
+use Rattle.zarrs_codec.specs.ByteSpan.{ByteSpan}
+use Rattle.zarrs_codec.specs.Calls.{after_ranges}
+use Rattle.zarrs_codec.proofs.CallLemmas.{ranges_asked}
+use Rattle.zarrs_bytes.specs.AskedRanges.{ranges_of_places}
 use Rattle.zarrs_bytes.proofs.place_batches.read_batch.Goals as goal
 
 pub returns-clause-answer : goal.returns-clause-answer
@@ -22,3 +26,11 @@ pub returns-clause-counted : goal.returns-clause-counted
 returns-clause-counted g c =
     let D = g.H.BytesPartialDecoderTraits in
     one_read c.partial_decode_many.result (D.calls c.args.handle.now) (D.calls c.partial_decode_many.new.self) c.partial_decode_many.ensures.counted
+
+pub returns-clause-asked : goal.returns-clause-asked
+returns-clause-asked g c =
+    let D = g.H.BytesPartialDecoderTraits in
+    let r = c.partial_decode_many.result in
+    let all = ranges_of_places c.args.size c.args.places.now in
+    let is : c.as_slice.result.now ≡ all = c.as_slice.ensures.value ∙ c.in_ok-ranges.ensures.each in
+    ranges_asked r all (D.asked c.args.handle.now) (D.asked c.partial_decode_many.new.self) (c.partial_decode_many.ensures.asked ∙ ap (λ (rs : List ByteSpan). after_ranges r rs (D.asked c.args.handle.now)) is)

@@ -6,6 +6,7 @@ use Rattle.zarrs_codec.specs.StorageState.{StorageState}
 use Rattle.zarrs_bytes.proofs.CallCounts.{none_by_batches, some_by_batches, stored_where_found}
 use Rattle.zarrs_bytes.proofs.PlaceBatches.{first_refused, first_then_rest}
 use Rattle.zarrs_bytes.proofs.Reading.{Excused-weaker}
+use Rattle.zarrs_bytes.proofs.AskedCalls.{none_by_batches_asked, some_by_batches_asked}
 use Rattle.zarrs_bytes.proofs.place_batches.read_place_bytes.Goals as goal
 
 pub read_batch-requires-clause-ends : goal.read_batch-requires-clause-ends
@@ -54,3 +55,17 @@ returns-in_ok-append_places-in-Some-clause-counted g c =
     let read = rw c.in-Some.is at c.in_ok-read_batch.ensures.answer in
     let rest : length c.split_at.result.1.now ≡ length c.args.places.now - 1024 = omega (arith, c.split_at.ensures.back_len, c.min.ensures) in
     some_by_batches stored c.args.places.now c.split_at.result.1.now (D.calls c.args.handle.now) (D.calls c.read_batch.new.handle) (D.calls c.append_places.new.handle) (stored_where_found c.args.size stored c.split_at.result.0.now c.in-Some.bytes.items read) rest c.in_ok-read_batch.ensures.counted c.in_ok-append_places-in-Some.ensures.counted
+
+pub returns-in-None-clause-asked : goal.returns-in-None-clause-asked
+returns-in-None-clause-asked g c =
+    let D = g.H.BytesPartialDecoderTraits in
+    let stored = (D.state c.args.handle.now).value in
+    let read = rw c.in-None.is at c.in_ok-read_batch.ensures.answer in
+    none_by_batches_asked c.args.size stored c.args.places.now c.split_at.result.0.now c.min.result (D.asked c.args.handle.now) (D.asked c.read_batch.new.handle) read c.min.ensures c.split_at.ensures.front c.in_ok-read_batch.ensures.asked
+
+pub returns-in_ok-append_places-in-Some-clause-asked : goal.returns-in_ok-append_places-in-Some-clause-asked
+returns-in_ok-append_places-in-Some-clause-asked g c =
+    let D = g.H.BytesPartialDecoderTraits in
+    let stored = (D.state c.args.handle.now).value in
+    let read = rw c.in-Some.is at c.in_ok-read_batch.ensures.answer in
+    some_by_batches_asked c.args.size stored c.args.places.now c.split_at.result.0.now c.split_at.result.1.now c.min.result (D.asked c.args.handle.now) (D.asked c.read_batch.new.handle) (D.asked c.append_places.new.handle) (stored_where_found c.args.size stored c.split_at.result.0.now c.in-Some.bytes.items read) c.min.ensures c.split_at.ensures.front c.split_at.ensures.back c.in_ok-read_batch.ensures.asked c.in_ok-append_places-in-Some.ensures.asked

@@ -4,7 +4,8 @@ use Rattle.std.proofs.lemmas.Result.{err_from_is_err_and}
 use Rattle.zarrs_chunk.specs.Answer.{memory_or_fault}
 use Rattle.zarrs_chunk.specs.Runs.{joined_runs}
 use Rattle.zarrs_array_bytes.specs.Held.{owned_bytes}
-use Rattle.zarrs_codec.specs.Calls.{after_reads}
+use Rattle.zarrs_codec.specs.Calls.{after_asking, after_reads}
+use Rattle.zarrs_bytes.specs.AskedRanges.{asked_for_runs}
 use Rattle.zarrs_bytes.specs.ByteOrder.{turned_bytes}
 use Rattle.zarrs_bytes.specs.BytesCodec.{turn_size}
 use Rattle.zarrs_bytes.specs.PartialRead.{bytes_at}
@@ -64,3 +65,15 @@ returns-in_ok-bytes-in-None-clause-tight g c =
 pub returns-in-Some-clause-tight : goal.returns-in-Some-clause-tight
 returns-in-Some-clause-tight g c =
     rw c.hold_turned.ensures.held (flen_tight c.args.data_type.now (owned_bytes (turned_bytes c.turn_size.result c.in-Some.bytes.items)))
+
+pub returns-in_ok-bytes-in-None-clause-asked : goal.returns-in_ok-bytes-in-None-clause-asked
+returns-in_ok-bytes-in-None-clause-asked g c =
+    let D = g.H.BytesPartialDecoderTraits in
+    let stored = (D.state c.args.handle.now).value in
+    c.in_ok-read_bytes.ensures.asked ∙ ap (λ (n : ℕ). after_asking (asked_for_runs n stored c.args.runs.now) (D.asked c.args.handle.now)) c.element_size-size.ensures.size
+
+pub returns-in-Some-clause-asked : goal.returns-in-Some-clause-asked
+returns-in-Some-clause-asked g c =
+    let D = g.H.BytesPartialDecoderTraits in
+    let stored = (D.state c.args.handle.now).value in
+    c.in_ok-read_bytes.ensures.asked ∙ ap (λ (n : ℕ). after_asking (asked_for_runs n stored c.args.runs.now) (D.asked c.args.handle.now)) c.element_size-size.ensures.size

@@ -8,6 +8,8 @@ use Rattle.zarrs_bytes.specs.BytesCodec.{turn_size}
 use Rattle.zarrs_bytes.specs.PartialRead.{bytes_at}
 use Rattle.zarrs_array_bytes.proofs.TightLemmas.{flen_tight}
 use Rattle.zarrs_bytes.proofs.Reading.{at_some, at_err, at_none, Excused-weaker}
+use Rattle.zarrs_codec.specs.Calls.{after_asking}
+use Rattle.zarrs_bytes.specs.AskedRanges.{asked_by_batches}
 use Rattle.zarrs_bytes.proofs.bytes_codec.BytesCodec.read_scattered.Goals as goal
 
 pub returns-in_err-read_place_bytes-clause-answer : goal.returns-in_err-read_place_bytes-clause-answer
@@ -49,3 +51,15 @@ returns-in_ok-bytes-in-None-clause-tight g c =
 pub returns-in-Some-clause-tight : goal.returns-in-Some-clause-tight
 returns-in-Some-clause-tight g c =
     rw c.hold_turned.ensures.held (flen_tight c.args.data_type.now (owned_bytes (turned_bytes c.turn_size.result c.in-Some.bytes.items)))
+
+pub returns-in_ok-bytes-in-None-clause-asked : goal.returns-in_ok-bytes-in-None-clause-asked
+returns-in_ok-bytes-in-None-clause-asked g c =
+    let D = g.H.BytesPartialDecoderTraits in
+    let stored = (D.state c.args.handle.now).value in
+    c.in_ok-read_place_bytes.ensures.asked ∙ ap (λ (n : ℕ). after_asking (asked_by_batches n stored c.args.places.now) (D.asked c.args.handle.now)) c.element_size-size.ensures.size
+
+pub returns-in-Some-clause-asked : goal.returns-in-Some-clause-asked
+returns-in-Some-clause-asked g c =
+    let D = g.H.BytesPartialDecoderTraits in
+    let stored = (D.state c.args.handle.now).value in
+    c.in_ok-read_place_bytes.ensures.asked ∙ ap (λ (n : ℕ). after_asking (asked_by_batches n stored c.args.places.now) (D.asked c.args.handle.now)) c.element_size-size.ensures.size

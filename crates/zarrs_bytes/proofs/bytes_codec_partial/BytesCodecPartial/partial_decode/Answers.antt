@@ -7,7 +7,8 @@ use Rattle.zarrs_chunk.specs.Indexer.{selection_of}
 use Rattle.zarrs_chunk.specs.Runs.{joined_runs}
 use Rattle.zarrs_chunk.specs.Selection.{places_of}
 use Rattle.zarrs_array_bytes.specs.Validity.{Holds}
-use Rattle.zarrs_codec.specs.Calls.{after_reads}
+use Rattle.zarrs_codec.specs.Calls.{after_asking, after_reads}
+use Rattle.zarrs_bytes.specs.AskedRanges.{asked_for_runs}
 use Rattle.zarrs_bytes.specs.BytesCodecPartial.{bytes_handle_of}
 use Rattle.zarrs_bytes.specs.PartialRead.{place_size}
 use Rattle.zarrs_bytes.specs.ReadingCalls.{calls_for_runs, consecutive_runs}
@@ -53,3 +54,15 @@ returns-clause-counted g c =
     let is = c.as_slice.ensures.value ∙ runs_of_places places runs c.in_ok-runs.ensures.filled c.in_ok-runs.ensures.apart refl in
     let counted = subst (λ (rs : List (ℕ × ℕ)). OnOk c.read_runs.result (D.calls c.read_runs.new.handle ≡ after_reads (calls_for_runs size stored rs) (D.calls (bytes_handle_of form)))) is c.read_runs.ensures.counted in
     subst (λ (r : Result (List ℕ) CodecError). IfOk r (λ (ps : List ℕ). OnOk c.read_runs.result (D.calls c.read_runs.new.handle ≡ after_reads (calls_for_runs size stored (consecutive_runs ps)) (D.calls (bytes_handle_of form))))) (sym c.in_ok-runs.ensures.places.is) counted
+
+pub returns-clause-asked : goal.returns-clause-asked
+returns-clause-asked g c =
+    let D = g.H.BytesPartialDecoderTraits in
+    let form = c.args.self.now in
+    let size = place_size form.data_type in
+    let stored = (D.state (bytes_handle_of form)).value in
+    let runs = c.in_ok-runs.runs.items in
+    let places = joined_runs runs in
+    let is = c.as_slice.ensures.value ∙ runs_of_places places runs c.in_ok-runs.ensures.filled c.in_ok-runs.ensures.apart refl in
+    let asked = subst (λ (rs : List (ℕ × ℕ)). OnOk c.read_runs.result (D.asked c.read_runs.new.handle ≡ after_asking (asked_for_runs size stored rs) (D.asked (bytes_handle_of form)))) is c.read_runs.ensures.asked in
+    subst (λ (r : Result (List ℕ) CodecError). IfOk r (λ (ps : List ℕ). OnOk c.read_runs.result (D.asked c.read_runs.new.handle ≡ after_asking (asked_for_runs size stored (consecutive_runs ps)) (D.asked (bytes_handle_of form))))) (sym c.in_ok-runs.ensures.places.is) asked
