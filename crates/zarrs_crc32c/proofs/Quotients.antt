@@ -5,7 +5,7 @@ use Rattle.std.proofs.lemmas.List.{length-drop, drop-drop, get_or-drop}
 use Rattle.std.specs.Int.Bits.{xor_zero_l, xor_zero_r}
 use Rattle.std.proofs.lemmas.Bool.{cases_lt, cases_eq, lt-ltb, le-ltb}
 use Rattle.zarrs_crc32c.specs.Checksum.{after_bits, after_bytes, all_ones}
-use Rattle.zarrs_crc32c.specs.Quotient.{sum_of_five, last_byte, owed, after_sums, divided, lower_terms, AreSums}
+use Rattle.zarrs_crc32c.specs.Quotient.{sum_of_five, last_byte, owed, after_sums, after_division, lower_terms, AreSums}
 use Rattle.zarrs_crc32c.specs.Lawful.{bits_small}
 use Rattle.zarrs_crc32c.proofs.Registers.{bits_more}
 use Rattle.zarrs_crc32c.proofs.Multiple.{sums_of_five, five_linear, six_terms}
@@ -120,7 +120,7 @@ ones_close number count total l e =
 -- ---- the division
 
 pub divided_next : (quotient : List ℕ) (at byte : ℕ) (bytes : List ℕ) → after_bits 8 (get_or quotient (at + 418) 0) < 2 ^ 32 → get_or quotient (at + 418) 0 ≡ bit_xor byte (owed quotient at 0) → 418 ≤ length bytes
-    → divided quotient at (byte ∷ bytes) ≡ divided quotient (at + 1) bytes
+    → after_division quotient at (byte ∷ bytes) ≡ after_division quotient (at + 1) bytes
 divided_next quotient at byte bytes l is long =
     let new : ℕ = get_or quotient (at + 418) 0 in
     let register : ℕ = after_bits 8 new in
@@ -132,16 +132,16 @@ divided_next quotient at byte bytes l is long =
     ∙ sym (sums_apart 0 0 f (ones new) (owed quotient (at + 1)) bytes (owed_next quotient at))
 
 divided_one : (quotient : List ℕ) (at byte next : ℕ) (bytes : List ℕ) → get_or quotient (at + 418) 0 < 256 → get_or quotient (at + 418) 0 ≡ bit_xor byte (owed quotient at 0) → next ≡ at + 1 → 418 ≤ length bytes
-    → divided quotient at (byte ∷ bytes) ≡ divided quotient next bytes
+    → after_division quotient at (byte ∷ bytes) ≡ after_division quotient next bytes
 divided_one quotient at byte next bytes small is e long =
     divided_next quotient at byte bytes (bits_small 8 (get_or quotient (at + 418) 0) (omega (arith, small))) is long
-    ∙ ap (λ (n : ℕ). divided quotient n bytes) (sym e)
+    ∙ ap (λ (n : ℕ). after_division quotient n bytes) (sym e)
 
 -- so many bytes
 pub divided_more : (count : ℕ) (quotient : List ℕ) (at : ℕ) (bytes : List ℕ) → ((place : ℕ) → place < count → get_or quotient (at + place + 418) 0 < 256)
     → ((place : ℕ) → place < count → get_or quotient (at + place + 418) 0 ≡ bit_xor (get_or bytes place 0) (owed quotient (at + place) 0)) → count + 418 ≤ length bytes
-    → divided quotient at bytes ≡ divided quotient (at + count) (drop count bytes)
-divided_more zero quotient at bytes small each long = ap (λ (n : ℕ). divided quotient n bytes) (let e : at ≡ at + 0 = omega arith in e)
+    → after_division quotient at bytes ≡ after_division quotient (at + count) (drop count bytes)
+divided_more zero quotient at bytes small each long = ap (λ (n : ℕ). after_division quotient n bytes) (let e : at ≡ at + 0 = omega arith in e)
 divided_more (suc count) quotient at [] small each long = absurd (omega (arith, long))
 divided_more (suc count) quotient at (byte ∷ bytes) small each long =
     let here : at + 0 ≡ at = omega arith in
@@ -151,7 +151,7 @@ divided_more (suc count) quotient at (byte ∷ bytes) small each long =
     (λ place l. subst (λ (n : ℕ). get_or quotient (n + 418) 0 < 256) (let e : at + suc place ≡ at + 1 + place = omega arith in e) (small (suc place) (omega (arith, l))))
     (λ place l. subst (λ (n : ℕ). get_or quotient (n + 418) 0 ≡ bit_xor (get_or bytes place 0) (owed quotient n 0)) (let e : at + suc place ≡ at + 1 + place = omega arith in e) (each (suc place) (omega (arith, l))))
     (omega (arith, long))
-    ∙ ap (λ (n : ℕ). divided quotient n (drop count bytes)) (let e : at + 1 + count ≡ at + suc count = omega arith in e)
+    ∙ ap (λ (n : ℕ). after_division quotient n (drop count bytes)) (let e : at + 1 + count ≡ at + suc count = omega arith in e)
 
 -- the last bytes alone count
 last_same : (quotient other : List ℕ) (at there place : ℕ) → ((i : ℕ) → i < 418 → get_or quotient (at + i) 0 ≡ get_or other (there + i) 0) → last_byte quotient at place ≡ last_byte other there place
@@ -161,7 +161,7 @@ last_same quotient other at there place each =
       | inr k ↦ last_outside quotient at place k ∙ sym (last_outside other there place k)
     ]
 
-pub divided_same : (quotient other : List ℕ) (at there : ℕ) (bytes : List ℕ) → ((i : ℕ) → i < 418 → get_or quotient (at + i) 0 ≡ get_or other (there + i) 0) → divided quotient at bytes ≡ divided other there bytes
+pub divided_same : (quotient other : List ℕ) (at there : ℕ) (bytes : List ℕ) → ((i : ℕ) → i < 418 → get_or quotient (at + i) 0 ≡ get_or other (there + i) 0) → after_division quotient at bytes ≡ after_division other there bytes
 divided_same quotient other at there bytes each =
     sums_same 0 (owed quotient at) (owed other there) bytes
     (λ place. five_same (last_byte quotient at place) (last_byte quotient at (place + 28)) (last_byte quotient at (place + 78)) (last_byte quotient at (place + 108)) (last_byte quotient at (place + 288))
@@ -178,7 +178,7 @@ five_small a b c d e p q r s t =
 -- sixteen bytes of the quotient, written behind those before
 pub divided_sixteen : (quotient new sums bytes : List ℕ) (at next : ℕ) → ((i : ℕ) → get_or quotient i 0 < 256) → ((i : ℕ) → get_or bytes i 0 < 256) → ((i : ℕ) → i < at + 418 → get_or new i 0 ≡ get_or quotient i 0)
     → ((place : ℕ) → place < 16 → get_or new (at + 418 + place) 0 ≡ get_or sums place 0) → AreSums quotient bytes at sums → next ≡ at + 16 → at + 434 ≤ length bytes
-    → divided new next (drop next bytes) ≡ divided quotient at (drop at bytes)
+    → after_division new next (drop next bytes) ≡ after_division quotient at (drop at bytes)
 divided_sixteen quotient new sums bytes at next small each kept written are e long =
     let rest : length (drop at bytes) ≡ length bytes - at = length-drop at bytes in
     sym (divided_same quotient new at at (drop at bytes) (λ i l. sym (kept (at + i) (omega (arith, l))))
@@ -196,8 +196,8 @@ divided_sixteen quotient new sums bytes at next small each kept written are e lo
     (stands place 108 (at + 108 + place) l (omega arith) (omega arith))
     (stands place 288 (at + 288 + place) l (omega arith) (omega arith))))
     (omega (arith, rest, long))
-    ∙ ap (divided new (at + 16)) (drop-drop 16 at bytes)
-    ∙ ap (λ (n : ℕ). divided new n (drop n bytes)) (sym e))
+    ∙ ap (after_division new (at + 16)) (drop-drop 16 at bytes)
+    ∙ ap (λ (n : ℕ). after_division new n (drop n bytes)) (sym e))
   where
     is : (place : ℕ) → place < 16 → get_or new (at + place + 418) 0 ≡ bit_xor (get_or bytes (at + place) 0) (lower_terms quotient at place)
     is place l = ap (λ (i : ℕ). get_or new i 0) (let f : at + place + 418 ≡ at + 418 + place = omega arith in f) ∙ written place l ∙ are.1 place l
@@ -239,7 +239,7 @@ four_taken (suc (suc zero)) l = absurd (omega (arith, l))
 four_taken (suc (suc (suc zero))) l = absurd (omega (arith, l))
 four_taken (suc (suc (suc (suc count)))) l = refl
 
-pub begun : (quotient bytes : List ℕ) → ((i : ℕ) → i < 418 → get_or quotient i 0 ≡ ones_in_four i) → 4 ≤ length bytes → divided quotient 0 bytes ≡ after_bytes all_ones bytes
+pub begun : (quotient bytes : List ℕ) → ((i : ℕ) → i < 418 → get_or quotient i 0 ≡ ones_in_four i) → 4 ≤ length bytes → after_division quotient 0 bytes ≡ after_bytes all_ones bytes
 begun quotient bytes each long =
     let none : ℕ → ℕ = λ (place : ℕ). 0 in
     sums_same 0 (owed quotient 0) ones_in_four bytes (λ place.

@@ -3,8 +3,8 @@ use Rattle.std.proofs.Common.{◌≡◌, ℕ, ◌+◌, ◌-◌, ◌<◌, ◌≤�
 use Rattle.std.specs.List.{copy_within}
 use Rattle.std.proofs.Math.Seq.{paste}
 use Rattle.std.proofs.lemmas.List.Edits.{take-paste}
-use Rattle.std.specs.Simd.Lanes.{zip2}
-use Rattle.std.proofs.lemmas.Simd.{length-zip2, get_or-zip2, length-chunk, get_or-chunk}
+use Rattle.std.specs.Simd.Lanes.{zip2, put_chunk}
+use Rattle.std.proofs.lemmas.Simd.{put_chunk_whole, length-zip2, get_or-zip2, length-chunk, get_or-chunk}
 use Rattle.std.specs.Prelude.{replicate}
 use Rattle.std.proofs.lemmas.Bool.{cases_lt}
 use Rattle.std.proofs.lemmas.List.{get_or-replicate, length-replicate, get_or_past, get_or-take, get_or-drop, get_or_append_left, get_or-append_right, length-take-le, length-drop}
@@ -23,6 +23,13 @@ sixteen_added xs ys f g first second = (
   λ place l. get_or-zip2 bit_xor xs ys place 0 0 0 (omega (arith, l, first.0)) (omega (arith, l, second.0)) ∙ ap₂ bit_xor (first.1 place l) (second.1 place l),
 )
 
+-- a vector that is written over as many items
+pub lanes_written : (items vector : List ℕ) (at count : ℕ) → count ≡ length vector → at + length vector ≤ length items
+    → take at items ++ (put_chunk 0 (take count (drop at items)) vector ++ drop count (drop at items)) ≡ take at items ++ (vector ++ drop (length vector) (drop at items))
+lanes_written items vector at count e inside =
+    let same : length (take count (drop at items)) ≡ length vector = length-take-le count (drop at items) (omega (arith, e, length-drop at items, inside)) ∙ e in
+    ap₂ (λ (xs : List ℕ) (n : ℕ). take at items ++ (xs ++ drop n (drop at items))) (put_chunk_whole (take count (drop at items)) vector same) e
+
 -- ---- items of which some are written over
 
 module _ (items written : List ℕ) (at : ℕ) (inside : at + length written ≤ length items) where
@@ -39,14 +46,6 @@ module _ (items written : List ℕ) (at : ℕ) (inside : at + length written ≤
       get_or-append_right (take at items) (written ++ drop (length written) (drop at items)) at i 0 front_long (omega (arith, e))
       ∙ ap (λ (k : ℕ). get_or (written ++ drop (length written) (drop at items)) k 0) (let f : i - at ≡ place = omega (arith, e) in f)
       ∙ get_or_append_left written (drop (length written) (drop at items)) 0 place l
-
-  pub behind_written : (i : ℕ) → at + length written ≤ i → get_or (take at items ++ (written ++ drop (length written) (drop at items))) i 0 ≡ get_or items i 0
-  behind_written i l =
-      get_or-append_right (take at items) (written ++ drop (length written) (drop at items)) at i 0 front_long (omega (arith, l))
-      ∙ get_or-append_right written (drop (length written) (drop at items)) (length written) (i - at) 0 refl (omega (arith, l))
-      ∙ get_or-drop (length written) (drop at items) (i - at - length written) 0
-      ∙ get_or-drop at items (length written + (i - at - length written)) 0
-      ∙ ap (λ (k : ℕ). get_or items k 0) (let f : at + (length written + (i - at - length written)) ≡ i = omega (arith, l) in f)
 
 -- items that were copied to the front
 pub moved_front : (items : List ℕ) (from end i there : ℕ) → there ≡ from + i → from + i < end → end ≤ length items → get_or (copy_within items from end 0) i 0 ≡ get_or items there 0

@@ -29,12 +29,6 @@ sums_same register f g (byte ∷ bytes) each =
     ap (λ (x : ℕ). after_sums (after_byte register (bit_xor byte x)) (λ place. f (suc place)) bytes) (each 0)
     ∙ sums_same (after_byte register (bit_xor byte (g 0))) (λ place. f (suc place)) (λ place. g (suc place)) bytes (λ place. each (suc place))
 
-pub alone_same : (register : ℕ) (f g : ℕ → ℕ) (count : ℕ) → ((place : ℕ) → f place ≡ g place) → after_alone register f count ≡ after_alone register g count
-alone_same register f g zero each = refl
-alone_same register f g (suc count) each =
-    ap (λ (x : ℕ). after_alone (after_byte register x) (λ place. f (suc place)) count) (each 0)
-    ∙ alone_same (after_byte register (g 0)) (λ place. f (suc place)) (λ place. g (suc place)) count (λ place. each (suc place))
-
 -- what is added moves by itself
 pub sums_apart : (r s : ℕ) (f g h : ℕ → ℕ) (bytes : List ℕ) → ((place : ℕ) → h place ≡ bit_xor (f place) (g place))
     → after_sums (bit_xor r s) h bytes ≡ bit_xor (after_sums r f bytes) (after_alone s g (length bytes))

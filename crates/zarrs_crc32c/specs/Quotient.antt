@@ -27,9 +27,9 @@ abbrev pub after_sums : ℕ → (ℕ → ℕ) → List ℕ → ℕ
 after_sums register more [] = register
 after_sums register more (byte ∷ bytes) = after_sums (after_byte register (bit_xor byte (more 0))) (λ place. more (suc place)) bytes
 
--- the register after all bytes, of which these are left to be divided, by what the quotient's last bytes owe to them
-abbrev pub divided : List ℕ → ℕ → List ℕ → ℕ
-divided quotient at bytes = after_sums 0 (owed quotient at) bytes
+-- the register after all bytes, of which these are left to be divided: by what the quotient's last bytes add to them
+abbrev pub after_division : List ℕ → ℕ → List ℕ → ℕ
+after_division quotient at bytes = after_sums 0 (owed quotient at) bytes
 
 -- what the quotient's bytes at the lower terms add up to, from a place on and so far behind it
 abbrev pub lower_terms : List ℕ → ℕ → ℕ → ℕ

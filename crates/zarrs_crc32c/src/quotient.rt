@@ -5,7 +5,7 @@
 //! with no table. What is left at the end, 418 bytes, is taken as other bytes are.
 ghost use Rattle.std.specs.Prelude.{◌≡◌, ◌+◌, ◌*◌, ◌≤◌, length, take, drop, ◌++◌};
 ghost use Rattle.zarrs_crc32c.specs.Checksum.{after_bytes, all_ones};
-ghost use Rattle.zarrs_crc32c.specs.Quotient.{AreSums, divided};
+ghost use Rattle.zarrs_crc32c.specs.Quotient.{AreSums, after_division};
 
 use crate::checksum::take_bytes;
 use std::cmp::min;
@@ -24,7 +24,7 @@ fn sixteen_at(bytes: &[u8], at: usize) -> u8x16
 #[inline(always)]
 fn sums_at(quotient: &[u8], bytes: &[u8], at: usize) -> u8x16
     requires inside { at + 304 ≤ length quotient.now }
-    requires long { at + 16 ≤ length bytes.now }
+    requires len { at + 16 ≤ length bytes.now }
     ensures value { AreSums quotient.now bytes.now at result }
 {
     sixteen_at(bytes, at)
@@ -44,23 +44,32 @@ fn put_at(items: &mut [u8], at: usize, bytes: &[u8])
     items[at..at + bytes.len()].copy_from_slice(bytes);
 }
 
+/// Writes sixteen bytes from a place on.
+#[inline(always)]
+fn put_sixteen(items: &mut [u8; 1442], at: usize, sixteen: u8x16)
+    requires inside { at + 16 ≤ 1442 }
+    ensures written { items.new ≡ take at items.old ++ (sixteen ++ drop (length sixteen) (drop at items.old)) }
+{
+    sixteen.copy_to_slice(&mut items[at..at + 16]);
+}
+
 /// Divides sixteen bytes: the quotient's next sixteen bytes are written behind the 418 that stand from a place on.
 #[inline(always)]
 fn divide_sixteen(quotient: &mut [u8; 1442], bytes: &[u8], at: usize)
     requires inside { at + 434 ≤ 1442 }
-    requires long { at + 434 ≤ length bytes.now }
-    ensures divided { divided quotient.new (at + 16) (drop (at + 16) bytes.now) ≡ divided quotient.old at (drop at bytes.now) }
+    requires len { at + 434 ≤ length bytes.now }
+    ensures same { after_division quotient.new (at + 16) (drop (at + 16) bytes.now) ≡ after_division quotient.old at (drop at bytes.now) }
 {
     let sums = sums_at(quotient, bytes, at);
-    put_at(quotient, at + 418, sums.as_array());
+    put_sixteen(quotient, at + 418, sums);
 }
 
 /// Divides so many bytes. The quotient's last 418 bytes stand in front, before and after.
 #[inline(always)]
 fn divide(quotient: &mut [u8; 1442], bytes: &[u8], sixteens: usize)
     requires few { sixteens ≤ 64 }
-    requires long { sixteens * 16 + 418 ≤ length bytes.now }
-    ensures divided { divided quotient.new 0 (drop (sixteens * 16) bytes.now) ≡ divided quotient.old 0 bytes.now }
+    requires len { sixteens * 16 + 418 ≤ length bytes.now }
+    ensures same { after_division quotient.new 0 (drop (sixteens * 16) bytes.now) ≡ after_division quotient.old 0 bytes.now }
 {
     for index in 0..sixteens {
         divide_sixteen(quotient, bytes, index * 16);
@@ -72,8 +81,8 @@ fn divide(quotient: &mut [u8; 1442], bytes: &[u8], sixteens: usize)
 /// The register after the last bytes, with what the quotient adds to them.
 #[inline(always)]
 fn take_last(quotient: &[u8; 1442], bytes: &[u8]) -> u32
-    requires long { 432 ≤ length bytes.now }
-    ensures value { result ≡ divided quotient.now 0 bytes.now }
+    requires len { 432 ≤ length bytes.now }
+    ensures value { result ≡ after_division quotient.now 0 bytes.now }
 {
     let mut last = [0u8; 720];
     put_at(&mut last, 0, &quotient[..418]);
@@ -88,7 +97,7 @@ fn take_last(quotient: &[u8; 1442], bytes: &[u8]) -> u32
 /// The register after bytes, where it began as all ones.
 #[inline(never)]
 pub(crate) fn take_long(bytes: &[u8]) -> u32
-    requires long { 432 ≤ length bytes.now }
+    requires len { 432 ≤ length bytes.now }
     ensures value { result ≡ after_bytes all_ones bytes.now }
 {
     let mut quotient = [0u8; 1442];

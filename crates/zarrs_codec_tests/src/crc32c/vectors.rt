@@ -70,6 +70,11 @@ const VECTORS: &'static [Vector] = &[
         ],
         checksum: 0xd996_3a56,
     },
+    Vector {
+        name: "1,500 bytes of ones, which are divided",
+        bytes: &[255; 1500],
+        checksum: 0x4d1a_8959,
+    },
 ];
 
 #[test]

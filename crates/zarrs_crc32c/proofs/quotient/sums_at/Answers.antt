@@ -29,7 +29,7 @@ returns c =
     record {
       value =
           sixteen_added c.sixteen_at.result (zip2 bit_xor s3 r4) (λ (place : ℕ). get_or bytes (at + place) 0) g4
-          (sixteen_of bytes c.sixteen_at.result at c.sixteen_at.ensures.value c.requires.long)
+          (sixteen_of bytes c.sixteen_at.result at c.sixteen_at.ensures.value c.requires.len)
           (sixteen_added s3 r4 g3 f4
           (sixteen_added s2 r3 g2 f3
           (sixteen_added s1 r2 g1 f2

@@ -1,7 +1,7 @@
 use Rattle.std.proofs.Common.{◌≡◌, ℕ, ◌+◌, ◌-◌, ◌*◌, List, ◌++◌, length, take, drop, sym, ap, subst, ◌∙◌, arith}
 use Rattle.std.proofs.lemmas.List.{length-take-le, get_or-take, length-drop, take_all}
 use Rattle.zarrs_crc32c.specs.Checksum.{after_bytes}
-use Rattle.zarrs_crc32c.specs.Quotient.{AreSums, after_sums, owed, divided}
+use Rattle.zarrs_crc32c.specs.Quotient.{AreSums, after_sums, owed, after_division}
 use Rattle.zarrs_crc32c.proofs.Sixteen.{zeros, front_read, behind_read}
 use Rattle.zarrs_crc32c.proofs.Sums.{sums_same}
 use Rattle.zarrs_crc32c.proofs.Quotients.{divided_same, taken_sixteen, all_taken}
@@ -32,7 +32,7 @@ loop-index-preserved c =
     ap (λ (register : ℕ). after_sums register (λ (place : ℕ). owed last 0 (next + place)) (drop next c.args.bytes.now)) c.take_bytes-register.ensures.value
     ∙ taken_sixteen last c.args.bytes.now sums c.loop-index.register at next
     (λ i l. behind_read last front 720 (omega (arith, long)) is i (omega (arith, l, long)))
-    are (omega arith) (omega (arith, c.requires.long, c.loop-index-test.true))
+    are (omega arith) (omega (arith, c.requires.len, c.loop-index-test.true))
     ∙ c.loop-index.invariant
 
 pub returns : goal.returns
@@ -45,5 +45,5 @@ returns c =
           c.take_bytes.ensures.value
           ∙ ap (after_bytes c.loop-index.register) (take_all (length bytes - 432) (drop 432 bytes) (omega (arith, length-drop 432 bytes)))
           ∙ sym (all_taken last (drop 432 bytes) c.loop-index.register 432 (omega arith))
-          ∙ subst (λ (n : ℕ). after_sums c.loop-index.register (λ (place : ℕ). owed last 0 (n * 16 + place)) (drop (n * 16) bytes) ≡ divided c.args.quotient.now 0 bytes) end c.loop-index.invariant;
+          ∙ subst (λ (n : ℕ). after_sums c.loop-index.register (λ (place : ℕ). owed last 0 (n * 16 + place)) (drop (n * 16) bytes) ≡ after_division c.args.quotient.now 0 bytes) end c.loop-index.invariant;
     }

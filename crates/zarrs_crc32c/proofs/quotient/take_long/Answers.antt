@@ -7,4 +7,4 @@ pub loop-rest-init : goal.loop-rest-init
 loop-rest-init c =
     let quotient : List ℕ = c.put_at.new.items in
     let is : quotient ≡ (255 ∷ 255 ∷ 255 ∷ 255 ∷ []) ++ drop 4 (zeros 1442) = c.put_at.ensures.written in
-    record { long = c.requires.long; same = begun quotient c.args.bytes.now (λ i l. ap (λ (xs : List ℕ). get_or xs i 0) is ∙ ones_read i) (omega (arith, c.requires.long)) }
+    record { long = c.requires.len; same = begun quotient c.args.bytes.now (λ i l. ap (λ (xs : List ℕ). get_or xs i 0) is ∙ ones_read i) (omega (arith, c.requires.len)) }
