@@ -1,5 +1,8 @@
 """Files that others replace while they are read, and attributes that threads set."""
 
+import contextlib
+import itertools
+import struct
 import threading
 import time
 from datetime import datetime, timezone
@@ -7,11 +10,11 @@ from email.utils import format_datetime
 
 import numpy as np
 import pytest
-from samples import LITTLE, VLEN, make_array, same
+from samples import LITTLE, VLEN, loose_values, make_array, optional, same, same_masked, some_texts
 from test_sharding import GZIP, sharded
 from test_stores import Ranging, files_of
 
-from zarrs_codecs import Array, _chunks, _stores
+from zarrs_codecs import Array, Chain, Refused, _chunks, _stores
 
 CHUNK = "bucket/a/c/0"
 SHARDS = {
@@ -60,6 +63,18 @@ def versions(folder, name, count, monkeypatch):
     return {**files, CHUNK: values[0]}, values, elements
 
 
+def put_behind_info(store, value, monkeypatch):
+    """Has a value put in the place of a chunk's behind each `info` of that."""
+
+    def replaced(path, info=store.info):
+        found = info(path)
+        if path == CHUNK:
+            store.files[CHUNK] = value
+        return found
+
+    monkeypatch.setattr(store, "info", replaced)
+
+
 @pytest.mark.parametrize("name", SHARDS)
 def test_a_read_answers_of_one_value(name, tmp_path, monkeypatch):
     files, values, elements = versions(tmp_path / "a", name, 3, monkeypatch)
@@ -75,14 +90,42 @@ def test_what_was_kept_is_of_the_same_value(name, tmp_path, monkeypatch):
     store = Replacing(dict(files))
     array = Array("bucket/a", store=store)
     same(array[3], elements[0][3])
-
-    def replaced(path, info=store.info):
-        found = info(path)
-        store.files[CHUNK] = values[1]
-        return found
-
-    monkeypatch.setattr(store, "info", replaced)
+    put_behind_info(store, values[1], monkeypatch)
     same(array[13], elements[1][13])
+
+
+@pytest.mark.parametrize("small", [0, 1 << 16])
+@pytest.mark.parametrize("name", SHARDS)
+def test_a_file_of_another_length_is_put_before_the_first_call(name, small, tmp_path, monkeypatch):
+    files, values, elements = versions(tmp_path / "a", name, 3, monkeypatch)
+    monkeypatch.setattr(_chunks, "_SMALL", small)
+    for first, last in itertools.permutations(range(3), 2):
+        for index in (np.s_[:], np.s_[3:14:5], np.s_[0], np.s_[4], np.s_[15]):
+            store = Replacing({**files, CHUNK: values[first]})
+            put_behind_info(store, values[last], monkeypatch)
+            same(Array("bucket/a", store=store, cache=0)[index], elements[last][index])
+
+
+def texts_like_an_index():
+    """Codecs of byte strings with an index behind, and two of these, twice: of the second ones a value is made that is
+    longer, and has another index where the first ones' value ends."""
+    *_, (behind, value) = loose_values([0, 1, 2], b"ab")
+    yield [behind], [b"c", b"d"], [value, b"e"]
+    in_shard = {**VLEN["configuration"], "data_codecs": sharded([16], ["bytes"])}
+    one, entry = b"\1" * 16, struct.pack("<QQ", 0, 16)
+    yield [{**VLEN, "configuration": in_shard}], [one, bytes(16)], [one, entry]
+
+
+@pytest.mark.parametrize("codecs, first, last", texts_like_an_index())
+def test_texts_that_look_like_an_index(codecs, first, last, tmp_path, monkeypatch):
+    array = make_array(tmp_path / "a", (2,), (2,), "bytes", codecs, "")
+    array[...] = first
+    store = Replacing(files_of(tmp_path / "a"))
+    array[...] = last
+    value = array.chunk_path((0,)).read_bytes()
+    assert array._chunks._chain.decode(value[: len(store.files[CHUNK])]).tolist() not in (first, last)
+    put_behind_info(store, value, monkeypatch)
+    assert Array("bucket/a", store=store)[...].tolist() == last
 
 
 def test_a_file_that_is_replaced_each_time(tmp_path, monkeypatch):
@@ -103,13 +146,71 @@ def test_a_file_that_is_deleted_while_it_is_read(tmp_path, monkeypatch):
     assert Array("bucket/a", store=store, cache=0)[3:5].tolist() == [0, 0]
 
 
-def test_info_is_asked_twice_of_reads_in_rounds_alone(tmp_path, monkeypatch):
-    files, _, elements = versions(tmp_path / "a", "numbers", 1, monkeypatch)
-    for small, told, calls in ((0, 2, 2), (1 << 16, 1, 1)):
+CUT = {
+    "offsets in front": ([VLEN], "string"),
+    "texts": (["vlen-utf8"], "string"),
+    "optional": ([optional(LITTLE)], {"optional": "int32"}),
+    "optional texts": ([optional(VLEN)], {"optional": "string"}),
+    "checksum": ([VLEN, "crc32c"], "string"),
+    "gzip": ([*sharded([4], [LITTLE]), GZIP], "int32"),
+}
+
+
+@pytest.mark.parametrize("name", CUT)
+def test_a_cut_value_without_an_index_behind_is_refused_or_read_rightly(name, rng):
+    codecs, kind = CUT[name]
+    chain = Chain(codecs, (4,), kind)
+    assert not chain._rests_on_length
+    for _ in range(3):
+        chunk = some_texts(rng, (4,)) if "string" in str(kind) else rng.integers(-9, 9, 4).astype("<i4")
+        if "optional" in str(kind):
+            chunk = np.ma.MaskedArray(chunk, rng.integers(0, 2, 4).astype(bool))
+        value = chain.encode(chunk)
+        for size, read in itertools.product(range(len(value)), (chain.decode, lambda cut: chain.read(cut, np.s_[:2]))):
+            with contextlib.suppress(Refused):
+                found = read(value[:size])
+                same_masked(found, chunk[: len(found)])
+
+
+# Codecs; of reads of a large and a small value, how often `info` is asked and how many calls fetch; of these again behind a
+# read that has kept what it could.
+ASKED = {
+    "bytes": ([LITTLE], [(1, 1), (1, 1)], [(1, 1), (1, 1)]),
+    "checksum": ([LITTLE, "crc32c"], [(1, 1), (1, 1)], [(1, 0), (1, 0)]),
+    "gzip": ([LITTLE, GZIP], [(1, 1), (1, 1)], [(1, 0), (1, 0)]),
+    "shards": (sharded([4], [LITTLE]), [(2, 2), (2, 1)], [(2, 1), (1, 0)]),
+    "shards of gzip": (sharded([4], [LITTLE, GZIP]), [(2, 2), (2, 2)], [(2, 1), (2, 1)]),
+    "shards in gzip": ([*sharded([4], [LITTLE]), GZIP], [(1, 1), (1, 1)], [(1, 0), (1, 0)]),
+    "offsets": ([VLEN], [(2, 3), (1, 1)], [(2, 1), (1, 0)]),
+    "texts": (["vlen-utf8"], [(1, 1), (1, 1)], [(1, 0), (1, 0)]),
+}
+
+
+@pytest.mark.parametrize("name", ASKED)
+def test_info_is_asked_again_of_several_calls_and_of_an_index_behind(name, tmp_path, monkeypatch):
+    codecs, *due = ASKED[name]
+    kind, fill = ("string", "") if name in ("offsets", "texts") else ("int32", 0)
+    array = make_array(tmp_path / "a", (16,), (16,), kind, codecs, fill)
+    array[...] = [str(number) if kind == "string" else number for number in range(1, 17)]
+    for small, *each in zip((0, 1 << 16), *due, strict=True):
         monkeypatch.setattr(_chunks, "_SMALL", small)
-        store = Replacing(dict(files))
-        same(Array("bucket/a", store=store, cache=0)[3:5], elements[0][3:5])
-        assert (store.told, len(store.calls)) == (told, calls)
+        store = Replacing(files_of(tmp_path / "a"))
+        lent = Array("bucket/a", store=store)
+        for asked in each:
+            store.told, store.calls = 0, []
+            same(lent[3:5], array[3:5])
+            assert (store.told, len(store.calls)) == asked
+
+
+def test_info_is_asked_once_where_an_index_that_was_kept_says_all(tmp_path, monkeypatch):
+    array = make_array(tmp_path / "a", (16,), (16,), "int32", sharded([4], [LITTLE, GZIP]), 7)
+    array[4] = 1
+    store = Replacing(files_of(tmp_path / "a"))
+    lent = Array("bucket/a", store=store)
+    for asked in ((2, 1), (1, 0)):
+        store.told, store.calls = 0, []
+        assert lent[8:12].tolist() == [7] * 4
+        assert (store.told, len(store.calls)) == asked
 
 
 def test_what_a_read_changes_is_no_change(tmp_path, monkeypatch):

@@ -72,6 +72,7 @@ class Chunks:
         self.cache = Cache(cache)
         self._is_plain = kind.is_plain
         self._is_whole, self._is_planned = chain._is_read_whole, chain._is_planned
+        self._rests_on_length = chain._rests_on_length
         representation, size = chain.representation
         # how many bytes each chunk's file has, where that is always the same
         self._file_size = size if representation == "fixed" and not chain.unproved else None
@@ -150,7 +151,7 @@ class Chunks:
             try:
                 with _naming(path):
                     found = self._read(path, source, selection, out)
-                if source.is_same():
+                if source.is_same(self._rests_on_length):
                     return found
             except (Refused, EOFError):
                 if source.is_same(was_refused=True):

@@ -77,8 +77,9 @@ def bytes_of(said: Any, most: int | None = None) -> Any:
 class Source:
     """Where a value's bytes are."""
 
-    # from how many moments what was read of it is, where each call looks it up anew
-    parts = 0
+    # how many calls have fetched of it, where each looks it up anew, and whether what was kept of it is read as well
+    calls = 0
+    has_kept = False
 
     @property
     def part_bytes(self) -> int | None:
@@ -97,9 +98,9 @@ class Source:
         """What it is, by which a later change is seen; None where one might not be."""
         return None
 
-    def is_same(self, was_refused: bool = False) -> bool:
-        """Whether all that was read is of one value, or may be so; of what was refused, whether it is still the one that
-        was begun with."""
+    def is_same(self, rests_on_length: bool = False, was_refused: bool = False) -> bool:
+        """Whether all that was read is of one value, or may be so, and so the length, where the read rests on it; of what was
+        refused, whether it is still the one that was begun with."""
         return True
 
     def close(self) -> None:

@@ -38,7 +38,7 @@ class Fetched:
     def __init__(self, source: Source, kept: Pieces | None = None) -> None:
         self.source = source
         self.length = source.length()
-        source.parts += kept is not None
+        source.has_kept |= kept is not None
         self._pieces = _NOTHING if kept is None else kept
         # what every round but the last has fetched: it tells where the elements are
         self.first = self._pieces

@@ -153,8 +153,10 @@ class _Ranged(Source):
             return None
         return self.length(), repr(self._info)
 
-    def is_same(self, was_refused: bool = False) -> bool:
-        if self.parts < 2 and not was_refused:
+    def is_same(self, rests_on_length: bool = False, was_refused: bool = False) -> bool:
+        # what was kept is of the moment when `info` told of the file, and so is the length
+        moments = self.calls + (self.has_kept or rests_on_length)
+        if moments < 2 and not was_refused:
             return True
         try:
             with _named(self._path):
@@ -165,7 +167,7 @@ class _Ranged(Source):
     def pieces(self, ranges: AnyArray) -> AnyArray:
         if not len(ranges):
             return np.empty(0, np.uint8)
-        self.parts += 1
+        self.calls += 1
         begins, ends = (listed(column) for column in joined(ranges).T)
         parts = self._store.cat_ranges([self._path] * len(begins), begins, ends)
         if not isinstance(parts, (list, tuple)) or len(parts) != len(begins):

@@ -86,9 +86,9 @@ class Array:
     `seek`, and `readinto` or `read`, and one that isn't there is a `FileNotFoundError` or a `KeyError`, as
     `zipfile.ZipFile` has it. Where it has `info` and `cat_ranges`, as fsspec's file systems have, all ranges of a
     round of `Chain.read_from` are fetched by one call, and what `info` tells must differ
-    where a file was changed, else nothing of it is kept; a read of several calls is made anew where it was changed
-    meanwhile, and `OSError` is raised where it is so each time. Such an array isn't written: `io.UnsupportedOperation` is
-    raised.
+    where a file was changed, else nothing of it is kept; a read of several calls, or that looks for an index at the end,
+    is made anew where it was changed meanwhile, and `OSError` is raised where it is so each time. Such an array isn't
+    written: `io.UnsupportedOperation` is raised.
 
     >>> import tempfile
     >>> folder = tempfile.TemporaryDirectory()

@@ -256,6 +256,15 @@ class Chain:
         nothing_of = (_LONG, None, 0, None, 0)
         return bool(self._lacking(nothing_of, first.arguments()).tolist() == [[0, _LONG]])
 
+    @cached_property
+    def _rests_on_length(self) -> bool:
+        """Whether a read of a cut value may answer what the whole one doesn't have: where an index may stand behind, which
+        is looked for at a place that is counted from the end."""
+        # All else is at a place that is counted from the first byte, and is refused where it is cut; so is what codecs of
+        # Python have made. A shard has its index behind where nothing else is said, also one in the data of texts; other
+        # codecs have it there where they say "end".
+        return not self._outer and ('"sharding_indexed"' in self._text or '"end"' in self._text)
+
     @property
     def unproved(self) -> tuple[str, ...]:
         """The names of the codecs that Python runs behind those of the library, the first one first.
