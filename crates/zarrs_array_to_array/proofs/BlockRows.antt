@@ -60,7 +60,7 @@ module _ (f g : ℕ → List ℕ) (axes : List Axis) (front s : ℕ) where
 
 -- ---- an element of a block
 
-stretch_is : (len size : ℕ) (items : List ℕ) (place : ℕ) → stretch len size items place ≡ take len (drop (place * size) items)
+pub stretch_is : (len size : ℕ) (items : List ℕ) (place : ℕ) → stretch len size items place ≡ take len (drop (place * size) items)
 stretch_is len size items place = let e : place * size + len - place * size ≡ len = omega arith in ap (λ n. take n (drop (place * size) items)) e
 
 -- where an element of a block stands in it

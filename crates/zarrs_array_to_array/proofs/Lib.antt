@@ -25,6 +25,7 @@ pub mod SwappedAxes
 pub mod RowGroups
 pub mod ElementWords
 pub mod Tiles
+pub mod TileRows
 pub mod AxisRows
 pub mod FixedChunks
 pub mod Readers

@@ -1,14 +1,15 @@
 -- Tiles of elements, turned in vectors of sixteen bytes.
-use Rattle.std.proofs.Common.{◌≡◌, ℕ, zero, suc, ◌+◌, ◌-◌, ◌*◌, ◌<◌, ◌≤◌, List, [], ◌∷◌, ◌++◌, length, take, drop, slice_index_or, arith, refl, ap, ap₂, ◌∙◌, sym, append_assoc, drop-drop, length-append, length-take-le}
-use Rattle.std.specs.List.{between, flat_map}
-use Rattle.std.proofs.lemmas.List.{drop_more, take-append-le, drop-append-le, take_at, drop_at, take_all, length-drop, append-nil}
-use Rattle.std.proofs.lemmas.List.Concat.{flat_map-append}
-use Rattle.std.proofs.Math.Nat.{mul-le-mul_left}
-use Rattle.zarrs_array_bytes.proofs.Pieces.{take-drop-take}
-use lib.Lanes.{put_chunk}
-use Rattle.zarrs_array_to_array.specs.Axes.{stretch, BeginsWithRow}
-use Rattle.zarrs_array_to_array.specs.Strides.{row, next_rows}
-use Rattle.zarrs_array_to_array.proofs.RowGroups.{length-row, put_next, group_more}
+use Rattle.std.proofs.Common.{◌≡◌, ℕ, zero, suc, ◌+◌, ◌*◌, ◌<◌, ◌≤◌, List, [], ◌∷◌, ◌++◌, length, map, get_or, take, drop, slice_index_or, arith, refl, ap, ap₂, ◌∙◌, sym, subst, append_assoc, drop-drop, length-append}
+use Rattle.std.specs.List.{flat_map, range_with_len}
+use Rattle.std.proofs.lemmas.List.{drop_more, take-append-le, drop-append-le, drop_at, drop_all, length-drop, map-append}
+use Rattle.std.proofs.lemmas.List.FromFn.{get_or-range_with_len, length-range_with_len, length-map-range_with_len}
+use Rattle.std.proofs.Math.Nat.{mul-le-mul_right}
+use Rattle.zarrs_chunk.proofs.Consecutive.{range-append}
+use Rattle.zarrs_array_bytes.proofs.ElementLemmas.{piece_at}
+use Rattle.zarrs_array_to_array.specs.Axes.{stretch}
+use Rattle.zarrs_array_to_array.proofs.BlockRows.{stretch_is}
+use Rattle.zarrs_array_to_array.proofs.RowGroups.{length-stretch}
+use Rattle.zarrs_array_to_array.specs.Tiles.{AreVectors, interleaved, column, columns}
 
 -- ---- the lanes of a vector
 
@@ -17,152 +18,153 @@ abbrev pub lanes : List ℕ → ℕ → ℕ → List ℕ
 lanes items from zero = []
 lanes items from (suc n) = slice_index_or items from 0 ∷ lanes items (from + 1) n
 
-pub lanes_are : (items : List ℕ) (from n : ℕ) → from + n ≤ length items → lanes items from n ≡ take n (drop from items)
+lanes_are : (items : List ℕ) (from n : ℕ) → from + n ≤ length items → lanes items from n ≡ take n (drop from items)
 lanes_are items from zero h = refl
 lanes_are items from (suc n) h =
     ap (λ xs. slice_index_or items from 0 ∷ xs) (lanes_are items (from + 1) n (omega (arith, h)))
     ∙ sym (ap (take (suc n)) (drop_more items from 0 (omega (arith, h))))
 
 -- they are the first vector's, or those of the second behind it
-pub lanes_of_one : (one other : List ℕ) (from n : ℕ) → length one ≡ 16 → from + n ≤ 16 → lanes (one ++ other) from n ≡ take n (drop from one)
+lanes_of_one : (one other : List ℕ) (from n : ℕ) → length one ≡ 16 → from + n ≤ 16 → lanes (one ++ other) from n ≡ take n (drop from one)
 lanes_of_one one other from n e h =
     lanes_are (one ++ other) from n (omega (arith, length-append one other, e, h))
     ∙ ap (take n) (drop-append-le from one other (omega (arith, e, h)))
     ∙ take-append-le n (drop from one) other (omega (arith, length-drop from one, e, h))
 
-pub lanes_of_other : (one other : List ℕ) (from n : ℕ) → length one ≡ 16 → from + n ≤ length other → lanes (one ++ other) (16 + from) n ≡ take n (drop from other)
+lanes_of_other : (one other : List ℕ) (from n : ℕ) → length one ≡ 16 → from + n ≤ length other → lanes (one ++ other) (16 + from) n ≡ take n (drop from other)
 lanes_of_other one other from n e h =
     lanes_are (one ++ other) (16 + from) n (omega (arith, length-append one other, e, h))
     ∙ ap (take n) (sym (drop-drop from 16 (one ++ other)) ∙ ap (drop from) (drop_at one other 16 e))
 
--- ---- a tile turned
+-- the lanes that are elements of one vector and of another, in turn
+pub lanes_interleaved : (size from n : ℕ) (one other : List ℕ) → length one ≡ 16 → length other ≡ 16 → (from + n) * size ≤ 16
+    → flat_map (λ k. lanes (one ++ other) (k * size) size ++ lanes (one ++ other) (16 + k * size) size) (range_with_len from n) ≡ interleaved size from n one other
+lanes_interleaved size from zero one other e e' h = refl
+lanes_interleaved size from (suc n) one other e e' h =
+    let spread : (from + suc n) * size ≡ from * size + size + n * size = grind arith in
+    let next : from + 1 + n ≡ from + suc n = omega arith in
+    ap₂ (λ xs ys. xs ++ ys)
+    (ap₂ (λ xs ys. xs ++ ys)
+    (lanes_of_one one other (from * size) size e (omega (arith, spread, h)) ∙ sym (stretch_is size size one from))
+    (lanes_of_other one other (from * size) size e (omega (arith, spread, h, e')) ∙ sym (stretch_is size size other from)))
+    (lanes_interleaved size (from + 1) n one other e e' (rw next h))
 
-pub four_long : (items : List ℕ) (from : ℕ) → from + 4 ≤ length items → length (take 4 (drop from items)) ≡ 4
-four_long items from h = length-take-le 4 (drop from items) (omega (arith, length-drop from items, h))
+-- ---- columns, by those of rows in turn
 
-pub first_halves : (one other a b c d e f g h : List ℕ) → one ≡ a ++ b ++ e ++ f → other ≡ c ++ d ++ g ++ h
-    → length a ≡ 4 → length b ≡ 4 → length c ≡ 4 → length d ≡ 4 → take 8 one ++ take 8 other ≡ a ++ b ++ c ++ d
-first_halves one other a b c d e f g h is is' la lb lc ld =
-    ap₂ (λ xs ys. xs ++ ys) (half one a b e f is la lb) (half other c d g h is' lc ld) ∙ sym (append_assoc (a ++ b) c d)
-  where
-    half : (one a b e f : List ℕ) → one ≡ a ++ b ++ e ++ f → length a ≡ 4 → length b ≡ 4 → take 8 one ≡ a ++ b
-    half one a b e f is la lb =
-        ap (take 8) (is ∙ append_assoc (a ++ b) e f) ∙ take_at (a ++ b) (e ++ f) 8 (length-append a b ∙ ap₂ (λ m n. m + n) la lb)
+-- an index of a range is below its end
+below_end : (from n k size : ℕ) → k < n → (from + n) * size ≤ 16 → (from + k) * size + size ≤ 16
+below_end from n k size l h =
+    let spread : (from + k + 1) * size ≡ (from + k) * size + size = grind arith in
+    omega (arith, spread, mul-le-mul_right {m = from + k + 1} {n = from + n} size (omega arith), h)
 
-pub last_halves : (one other a b c d e f g h : List ℕ) → one ≡ e ++ f ++ a ++ b → other ≡ g ++ h ++ c ++ d
-    → length a ≡ 4 → length b ≡ 4 → length c ≡ 4 → length d ≡ 4 → length e ≡ 4 → length f ≡ 4 → length g ≡ 4 → length h ≡ 4
-    → take 8 (drop 8 one) ++ take 8 (drop 8 other) ≡ a ++ b ++ c ++ d
-last_halves one other a b c d e f g h is is' la lb lc ld le lf lg lh =
-    ap₂ (λ xs ys. xs ++ ys) (half one a b e f is la lb le lf) (half other c d g h is' lc ld lg lh) ∙ sym (append_assoc (a ++ b) c d)
-  where
-    half : (one a b e f : List ℕ) → one ≡ e ++ f ++ a ++ b → length a ≡ 4 → length b ≡ 4 → length e ≡ 4 → length f ≡ 4 → take 8 (drop 8 one) ≡ a ++ b
-    half one a b e f is la lb le lf =
-        ap (λ xs. take 8 (drop 8 xs)) (is ∙ append_assoc (e ++ f) a b)
-        ∙ ap (take 8) (drop_at (e ++ f) (a ++ b) 8 (length-append e f ∙ ap₂ (λ m n. m + n) le lf))
-        ∙ take_all 8 (a ++ b) (omega (arith, length-append a b, la, lb))
+-- an element of two rows in turn is one of the first, and that of the second behind it
+pair_at : (size from n k : ℕ) (one other : List ℕ) → length one ≡ 16 → length other ≡ 16 → (from + n) * size ≤ 16 → k < n
+    → stretch (size + size) (size + size) (interleaved size from n one other) k ≡ stretch size size one (from + k) ++ stretch size size other (from + k)
+pair_at size from n k one other e e' h l =
+    let f : ℕ → List ℕ = λ i. stretch size size one i ++ stretch size size other i in
+    let count : length (range_with_len from n) ≡ n = length-range_with_len from n in
+    let each : (i : ℕ) → i < length (range_with_len from n) → length (f (get_or (range_with_len from n) i 0)) ≡ size + size =
+    λ i m.
+    let here : get_or (range_with_len from n) i 0 ≡ from + i = get_or-range_with_len from n i 0 (omega (arith, m, count)) in
+    let within : (from + i) * size + size ≤ 16 = below_end from n i size (omega (arith, m, count)) h in
+    ap (λ j. length (f j)) here ∙ length-append (stretch size size one (from + i)) (stretch size size other (from + i))
+    ∙ ap₂ (λ a b. a + b) (length-stretch size size one (from + i) (omega (arith, within, e))) (length-stretch size size other (from + i) (omega (arith, within, e'))) in
+    stretch_is (size + size) (size + size) (flat_map f (range_with_len from n)) k
+    ∙ piece_at f (size + size) (range_with_len from n) k 0 each (omega (arith, l, count))
+    ∙ ap f (get_or-range_with_len from n k 0 l)
 
--- ---- the elements of a tile
+-- two rows of each two, in turn
+abbrev pub pairs : ℕ → ℕ → ℕ → List (List ℕ) → List (List ℕ)
+pairs size from n [] = []
+pairs size from n (one ∷ []) = []
+pairs size from n (one ∷ (other ∷ rows)) = interleaved size from n one other ∷ pairs size from n rows
 
--- an element of a stretch
-pub stretch_part : (items : List ℕ) (place k m n : ℕ) → m ≡ k * 4 → n ≡ m + 4 → n ≤ 16 → take (n - m) (drop m (stretch 16 4 items place)) ≡ stretch 4 4 items (place + k)
-stretch_part items place k m n e f h =
-    let four : n - m ≡ 4 = omega (arith, f) in
-    let sixteen : place * 4 + 16 - place * 4 ≡ 16 = omega arith in
-    let four' : 4 ≡ (place + k) * 4 + 4 - (place + k) * 4 = omega arith in
-    let at : place * 4 + m ≡ (place + k) * 4 = omega (arith, e) in
-    ap₂ (λ a b. take a (drop m (take b (drop (place * 4) items)))) four sixteen
-    ∙ take-drop-take 4 m 16 (drop (place * 4) items) (omega (arith, f, h))
-    ∙ ap (take 4) (drop-drop m (place * 4) items)
-    ∙ ap₂ (λ a b. take a (drop b items)) four' at
+-- a column of these is a column of the rows
+column_of_pairs : (size from n k m : ℕ) (rows : List (List ℕ)) → length rows ≡ m + m → AreVectors rows → (from + n) * size ≤ 16 → k < n
+    → column (size + size) (pairs size from n rows) k ≡ column size rows (from + k)
+column_of_pairs size from n k m [] e each h l = refl
+column_of_pairs size from n k m (one ∷ []) e each h l = absurd (omega (arith, e))
+column_of_pairs size from n k zero (one ∷ (other ∷ rows)) e each h l = absurd (omega (arith, e))
+column_of_pairs size from n k (suc m) (one ∷ (other ∷ rows)) e each h l =
+    ap₂ (λ xs ys. xs ++ ys) (pair_at size from n k one other (each 0 (omega arith)) (each 1 (omega arith)) h l)
+    (column_of_pairs size from n k m rows (omega (arith, e)) (λ i b. each (suc (suc i)) (omega (arith, b))) h l)
+    ∙ append_assoc (stretch size size one (from + k)) (stretch size size other (from + k)) (column size rows (from + k))
 
--- one of each is a row
-pub four_of_row : (f : ℕ → List ℕ) (front step : ℕ) → f front ++ f (front + step) ++ f (front + 2 * step) ++ f (front + 3 * step) ≡ flat_map f (row front step 4)
-four_of_row f front step =
-    let first : front ≡ front + 0 * step = omega arith in
-    let second : front + step ≡ front + 1 * step = omega arith in
-    let last : List ℕ = f (front + 3 * step) in
-    append_assoc (f front ++ f (front + step)) (f (front + 2 * step)) last
-    ∙ append_assoc (f front) (f (front + step)) (f (front + 2 * step) ++ last)
-    ∙ ap₂ (λ m n. f m ++ (f n ++ (f (front + 2 * step) ++ last))) first second
-    ∙ ap (λ xs. f (front + 0 * step) ++ (f (front + 1 * step) ++ (f (front + 2 * step) ++ xs))) (sym (append-nil last))
+map_same : (f g : ℕ → List ℕ) (a b n : ℕ) → ((k : ℕ) → k < n → f (a + k) ≡ g (b + k)) → map f (range_with_len a n) ≡ map g (range_with_len b n)
+map_same f g a b zero h = refl
+map_same f g a b (suc n) h =
+    let x : a ≡ a + 0 = omega arith in
+    let y : b + 0 ≡ b = omega arith in
+    ap₂ (λ x xs. x ∷ xs) (ap f x ∙ h 0 (omega arith) ∙ ap g y)
+    (map_same f g (a + 1) (b + 1) n
+    (λ k l.
+    let p : a + 1 + k ≡ a + suc k = omega arith in
+    let q : b + suc k ≡ b + 1 + k = omega arith in
+    ap f p ∙ h (suc k) (omega arith) ∙ ap g q))
 
--- what a tile has of the rows that begin k elements behind its front
-pub tile_row : (items one two three four : List ℕ) (front step at k m n : ℕ) → at ≡ front + k → m ≡ k * 4 → n ≡ m + 4 → n ≤ 16
-    → one ≡ stretch 16 4 items front → two ≡ stretch 16 4 items (front + step) → three ≡ stretch 16 4 items (front + 2 * step) → four ≡ stretch 16 4 items (front + 3 * step)
-    → between m n one ++ between m n two ++ between m n three ++ between m n four ≡ flat_map (stretch 4 4 items) (row at step 4)
-tile_row items one two three four front step at k m n a e f h is₁ is₂ is₃ is₄ =
-    ap₂ (λ xs ys. xs ++ ys) (ap₂ (λ xs ys. xs ++ ys) (ap₂ (λ xs ys. xs ++ ys)
-    (part one front at is₁ a)
-    (part two (front + step) (at + step) is₂ (omega (arith, a))))
-    (part three (front + 2 * step) (at + 2 * step) is₃ (omega (arith, a))))
-    (part four (front + 3 * step) (at + 3 * step) is₄ (omega (arith, a)))
-    ∙ four_of_row (stretch 4 4 items) at step
-  where
-    part : (one : List ℕ) (place to : ℕ) → one ≡ stretch 16 4 items place → to ≡ place + k → between m n one ≡ stretch 4 4 items to
-    part one place to is e' = ap (between m n) is ∙ stretch_part items place k m n e f h ∙ ap (stretch 4 4 items) (sym e')
+-- rows in turn are vectors as the rows are
+length_interleaved : (size from n : ℕ) (one other : List ℕ) → length one ≡ 16 → length other ≡ 16 → (from + n) * size ≤ 16 → length (interleaved size from n one other) ≡ n * (size + size)
+length_interleaved size from zero one other e e' h = omega arith
+length_interleaved size from (suc n) one other e e' h =
+    let next : from + 1 + n ≡ from + suc n = omega arith in
+    let whole : (from + 1 + n) * size ≤ 16 = rw next h in
+    let here : (from + 0) * size + size ≤ 16 = below_end from (suc n) 0 size (omega arith) h in
+    let first : from + 0 ≡ from = omega arith in
+    let within : from * size + size ≤ 16 = subst (λ m. m * size + size ≤ 16) first here in
+    let more : suc n * (size + size) ≡ size + size + n * (size + size) = omega arith in
+    length-append (stretch size size one from ++ stretch size size other from) (interleaved size (from + 1) n one other)
+    ∙ ap₂ (λ a b. a + b)
+    (length-append (stretch size size one from) (stretch size size other from)
+    ∙ ap₂ (λ a b. a + b) (length-stretch size size one from (omega (arith, within, e))) (length-stretch size size other from (omega (arith, within, e'))))
+    (length_interleaved size (from + 1) n one other e e' whole)
+    ∙ sym more
 
--- ---- a tile written
+pairs_are_whole : (size from n m : ℕ) (rows : List (List ℕ)) → length rows ≡ m + m → AreVectors rows → (from + n) * size ≤ 16 → n * (size + size) ≡ 16 → AreVectors (pairs size from n rows)
+pairs_are_whole size from n m [] e whole h s i l = absurd (omega arith)
+pairs_are_whole size from n m (one ∷ []) e whole h s i l = absurd (omega arith)
+pairs_are_whole size from n zero (one ∷ (other ∷ rows)) e whole h s i l = absurd (omega (arith, e))
+pairs_are_whole size from n (suc m) (one ∷ (other ∷ rows)) e whole h s zero l = length_interleaved size from n one other (whole 0 (omega arith)) (whole 1 (omega arith)) h ∙ s
+pairs_are_whole size from n (suc m) (one ∷ (other ∷ rows)) e whole h s (suc i) l =
+    pairs_are_whole size from n m rows (omega (arith, e)) (λ k b. whole (suc (suc k)) (omega (arith, b))) h s i (omega (arith, l))
 
--- a vector that is written over as many items
-pub written_there : (items vector : List ℕ) (at k : ℕ) → k ≡ 16 → length vector ≡ 16 → at + 16 ≤ length items
-    → take at items ++ (put_chunk 0 (take k (drop at items)) vector ++ drop k (drop at items)) ≡ take at items ++ (vector ++ drop 16 (drop at items))
-written_there items vector at k e v h =
-    let count : length (take k (drop at items)) ≡ length vector = length-take-le k (drop at items) (omega (arith, e, length-drop at items, h)) ∙ e ∙ sym v in
-    ap₂ (λ xs n. take at items ++ (xs ++ drop n (drop at items))) (all_written (take k (drop at items)) vector count) e
-  where
-    all_written : (old new : List ℕ) → length old ≡ length new → put_chunk 0 old new ≡ new
-    all_written [] [] e = refl
-    all_written [] (x ∷ xs) e = absurd (omega (arith, e))
-    all_written (x ∷ xs) [] e = absurd (omega (arith, e))
-    all_written (x ∷ xs) (y ∷ ys) e = ap (λ zs. y ∷ zs) (all_written xs ys (omega (arith, e)))
+-- the columns of rows are those of their pairs
+columns_of_pairs : (size n m : ℕ) (rows : List (List ℕ)) → length rows ≡ m + m → AreVectors rows → (n + n) * size ≤ 16
+    → columns (size + size) n (pairs size 0 n rows) ++ columns (size + size) n (pairs size n n rows) ≡ columns size (n + n) rows
+columns_of_pairs size n m rows e each h =
+    let f : ℕ → List ℕ = column size rows in
+    let half : (0 + n) * size ≤ 16 = omega (arith, mul-le-mul_right {m = 0 + n} {n = n + n} size (omega arith), h) in
+    ap₂ (λ xs ys. xs ++ ys)
+    (map_same (column (size + size) (pairs size 0 n rows)) f 0 0 n (λ k l. let z : 0 + k ≡ k = omega arith in ap (column (size + size) (pairs size 0 n rows)) z ∙ column_of_pairs size 0 n k m rows e each half l))
+    (map_same (column (size + size) (pairs size n n rows)) f 0 n n (λ k l. let z : 0 + k ≡ k = omega arith in ap (column (size + size) (pairs size n n rows)) z ∙ column_of_pairs size n n k m rows e each h l))
+    ∙ sym (map-append f (range_with_len 0 n) (range_with_len n n))
+    ∙ sym (ap (map f) (range-append 0 n n) ∙ (let z : 0 + n ≡ n = omega arith in ap (λ a. map f (range_with_len 0 n ++ range_with_len a n)) z))
 
--- a tile behind the tiles before it
-pub next_tile : (items first old new tile : List ℕ) (front at step i : ℕ) → ((k : ℕ) → k < i * 4 → (front + k * step) * 4 + 4 ≤ length items)
-    → BeginsWithRow items front step (i * 4) first old → new ≡ take (i * 16) old ++ (tile ++ drop 16 (drop (i * 16) old))
-    → tile ≡ flat_map (stretch 4 4 items) (row at step 4) → at ≡ front + i * 4 * step → BeginsWithRow items front step ((i + 1) * 4) first new
-next_tile items first old new tile front at step i h begins written is e =
-    let f : ℕ → List ℕ = stretch 4 4 items in
-    let sixteen : i * 4 * 4 ≡ i * 16 = omega arith in
-    let more : i * 16 + 16 ≡ (i + 1) * 4 * 4 = omega arith in
-    written
-    ∙ put_next (flat_map f (row front step (i * 4))) first old (flat_map f (row at step 4)) tile (i * 16) 16 16
-    (length-row 4 4 items front step (i * 4) h ∙ sixteen)
-    (begins ∙ ap (λ n. flat_map f (row front step (i * 4)) ++ drop n first) sixteen) refl is
-    ∙ ap₂ (λ xs n. xs ++ drop n first)
-    (ap (λ n. flat_map f (row front step (i * 4)) ++ flat_map f (row n step 4)) e ∙ group_more [] f front step (i * 4) 4 ((i + 1) * 4) (omega arith))
-    more
+-- a list by its items
+listed : (rows : List (List ℕ)) (from n : ℕ) → length rows ≡ from + n → map (λ k. get_or rows k []) (range_with_len from n) ≡ drop from rows
+listed rows from zero e = sym (drop_all from rows (omega (arith, e)))
+listed rows from (suc n) e =
+    ap (λ xs. get_or rows from [] ∷ xs) (listed rows (from + 1) n (omega (arith, e)))
+    ∙ sym (drop_more rows from [] (omega (arith, e)))
 
--- ---- whole rows
+pub all_listed : (rows : List (List ℕ)) (n : ℕ) → length rows ≡ n → map (λ k. get_or rows k []) (range_with_len 0 n) ≡ rows
+all_listed rows n e = listed rows 0 n (omega (arith, e))
 
--- the elements behind the tiles
-pub row_whole : (items first tiled new : List ℕ) (front step done count : ℕ) → ((k : ℕ) → k < done → (front + k * step) * 4 + 4 ≤ length items) → done ≤ count
-    → BeginsWithRow items front step done first tiled → new ≡ take (done * 4) tiled ++ flat_map (stretch 4 4 items) (row (front + done * step) step (count - done))
-    → new ≡ flat_map (stretch 4 4 items) (row front step count)
-row_whole items first tiled new front step done count h l begins written =
-    let f : ℕ → List ℕ = stretch 4 4 items in
-    written
-    ∙ ap (λ xs. xs ++ flat_map f (row (front + done * step) step (count - done)))
-    (ap (take (done * 4)) begins ∙ take_at (flat_map f (row front step done)) (drop (done * 4) first) (done * 4) (length-row 4 4 items front step done h))
-    ∙ group_more [] f front step done (count - done) count (omega (arith, l))
+-- the rows in turn that a tile is turned by
+pub whole_pairs : (size from n m : ℕ) (rows lows : List (List ℕ)) → length rows ≡ m + m → AreVectors rows → (from + n) * size ≤ 16 → n * (size + size) ≡ 16
+    → lows ≡ pairs size from n (map (λ k. get_or rows k []) (range_with_len 0 (m + m))) → AreVectors lows
+whole_pairs size from n m rows lows e whole h s is =
+    subst AreVectors (sym (is ∙ ap (pairs size from n) (all_listed rows (m + m) e))) (pairs_are_whole size from n m rows e whole h s)
 
--- four rows, one after another
-pub four_rows : (f : ℕ → List ℕ) (a b c d e g h k : List ℕ) → e ≡ flat_map f a → g ≡ flat_map f b → h ≡ flat_map f c → k ≡ flat_map f d
-    → e ++ (g ++ (h ++ k)) ≡ flat_map f (a ++ (b ++ (c ++ (d ++ []))))
-four_rows f a b c d e g h k is₁ is₂ is₃ is₄ =
-    ap₂ (λ xs ys. xs ++ ys) is₁ (ap₂ (λ xs ys. xs ++ ys) is₂ (ap₂ (λ xs ys. xs ++ ys) is₃ (is₄ ∙ ap (flat_map f) (sym (append-nil d)))
-    ∙ sym (flat_map-append f c (d ++ []))) ∙ sym (flat_map-append f b (c ++ (d ++ [])))) ∙ sym (flat_map-append f a (b ++ (c ++ (d ++ []))))
-
--- rows behind the rows before them
-pub rows_more : (out : List ℕ) (f : ℕ → List ℕ) (s m front at n k next : ℕ) → at ≡ front + n → next ≡ n + k
-    → (out ++ flat_map f (next_rows s m (row front 1 n))) ++ flat_map f (next_rows s m (row at 1 k)) ≡ out ++ flat_map f (next_rows s m (row front 1 next))
-rows_more out f s m front at n k next is e =
-    let from : at ≡ front + n * 1 = omega (arith, is) in
-    append_assoc out (flat_map f (next_rows s m (row front 1 n))) (flat_map f (next_rows s m (row at 1 k)))
-    ∙ ap (λ xs. out ++ xs)
-    (sym (flat_map-append f (next_rows s m (row front 1 n)) (next_rows s m (row at 1 k)))
-    ∙ ap (flat_map f) (ap (λ p. next_rows s m (row front 1 n) ++ next_rows s m (row p 1 k)) from ∙ group_more [] (λ p. row p s m) front 1 n k next e))
-
--- rows of elements that stand four apart are no longer than what they come from
-pub rows_fit : (front size step len : ℕ) → 4 ≤ step → ((k : ℕ) → k < size → (front + k * step) * 4 + 16 ≤ len) → size * 16 ≤ len
-rows_fit front zero step len l h = omega arith
-rows_fit front (suc n) step len l h = omega (arith, h n (omega arith), mul-le-mul_left {m = 4} {n = step} n l)
+-- a tile turned, by the tiles of its pairs
+pub turned : (size n m : ℕ) (rows lows highs front back : List (List ℕ)) → length rows ≡ m + m → AreVectors rows → (n + n) * size ≤ 16
+    → lows ≡ pairs size 0 n (map (λ k. get_or rows k []) (range_with_len 0 (m + m))) → highs ≡ pairs size n n (map (λ k. get_or rows k []) (range_with_len 0 (m + m)))
+    → front ≡ columns (size + size) n lows → back ≡ columns (size + size) n highs
+    → map (λ k. get_or front k []) (range_with_len 0 n) ++ map (λ k. get_or back k []) (range_with_len 0 n) ≡ columns size (n + n) rows
+turned size n m rows lows highs front back e each h low high is is' =
+    let whole = all_listed rows (m + m) e in
+    let counted : (items : List (List ℕ)) → length (columns (size + size) n items) ≡ n = λ items. length-map-range_with_len (column (size + size) items) 0 n in
+    ap₂ (λ xs ys. xs ++ ys) (all_listed front n (ap length is ∙ counted lows)) (all_listed back n (ap length is' ∙ counted highs))
+    ∙ ap₂ (λ xs ys. xs ++ ys)
+    (is ∙ ap (columns (size + size) n) (low ∙ ap (pairs size 0 n) whole))
+    (is' ∙ ap (columns (size + size) n) (high ∙ ap (pairs size n n) whole))
+    ∙ columns_of_pairs size n m rows e each h

@@ -1,5 +1,5 @@
 -- The places of a chunk's elements, axis by axis.
-use Rattle.std.specs.Prelude.{◌≡◌, ℕ, ◌+◌, ◌*◌, ◌-◌, ◌<◌, ◌≤◌, List, Vec, [], ◌∷◌, ◌++◌, drop, length, map, slice_index, Result}
+use Rattle.std.specs.Prelude.{◌≡◌, ℕ, ◌+◌, ◌*◌, ◌-◌, ◌<◌, ◌≤◌, List, Vec, [], ◌∷◌, length, map, slice_index, Result}
 use Rattle.std.specs.List.{between, flat_map}
 use Rattle.std.specs.declared.alloc.Global.{Global}
 use Rattle.zarrs_chunk.specs.Answer.{Appends}
@@ -60,11 +60,6 @@ RowInside len size front step count items =
 abbrev pub PlaneInside : ℕ → ℕ → Axis → Axis → List ℕ → Type 0
 PlaneInside size front rows columns items =
     (r k : ℕ) → r < rows.size → k < columns.size → (front + r * rows.step + k * columns.step) * size + size ≤ length items
-
--- the bytes begin with the elements of a row, each of four bytes, and are what they were behind them
-abbrev pub BeginsWithRow : List ℕ → ℕ → ℕ → ℕ → List ℕ → List ℕ → Type 0
-BeginsWithRow items front step count old new =
-    new ≡ stretches_at 4 4 items (row front step count) ++ drop (count * 4) old
 
 -- ---- what a call that answers Ok has put at the end of bytes, where each element has `size` of them
 

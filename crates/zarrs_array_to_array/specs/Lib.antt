@@ -33,4 +33,5 @@ pub use Rattle.zarrs_codec.specs.ArrayWriter
 pub use Rattle.zarrs_codec.specs.ChunkEdits
 pub mod Axes
 pub mod Stages
+pub mod Tiles
 pub mod Vectors

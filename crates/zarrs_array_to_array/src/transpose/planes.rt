@@ -3,6 +3,7 @@ ghost use Rattle.std.specs.Prelude.{◌≡◌, ℕ, ◌<◌, ◌≤◌, ◌+◌,
 ghost use Rattle.zarrs_array_bytes.specs.Pieces.{pieces_at};
 ghost use Rattle.zarrs_array_to_array.specs.Axes.{reach, axes_places, plane_end, PlaneInside, AppendsColumns, AppendsPlane, behind, stretches_at};
 ghost use Rattle.zarrs_array_to_array.specs.Strides.{next_rows, row};
+ghost use Rattle.zarrs_array_to_array.specs.Tiles.{HasTiles};
 ghost use Rattle.zarrs_chunk.specs.Answer.{Appends};
 
 use crate::transpose::axis::Axis;
@@ -10,8 +11,8 @@ use crate::transpose::near_rows::append_near_rows;
 use crate::transpose::row_groups::{append_grouped_row, append_row};
 use std::alloc::{AllocError, Global};
 
-/// How many bytes a row of a block has, which is what memory brings at once.
-const BLOCK: usize = 64;
+/// How many bytes a row of a block has: two lines of memory, which are often brought together.
+const BLOCK: usize = 128;
 
 /// How many bytes stay in the nearest cache, so that blocks of them bring nothing.
 const NEAR: usize = 16384;
@@ -37,9 +38,31 @@ pub(crate) fn append_rows_of(
     Ok(())
 }
 
+/// Appends the elements of a plane, row by row, where elements of so many bytes have tiles. Rows that begin
+/// one behind another are made tile by tile, if they are as long as a tile.
+#[inline(always)]
+fn append_tiled_rows(
+    out: &mut Vec<u8>,
+    bytes: &[u8],
+    size: usize,
+    front: usize,
+    rows: Axis,
+    columns: Axis,
+) -> Result<(), AllocError>
+    requires tiles { HasTiles size }
+    requires starts { (r : ℕ) → r < rows.size → front + r * rows.step < 2 ^ 64 }
+    requires inside { PlaneInside size front rows columns bytes.now }
+    ensures appended { AppendsPlane size front rows columns bytes.now out.old out.new result }
+{
+    let group = 16 / size;
+    if rows.step == 1 && group <= columns.size && group <= columns.step {
+        return append_near_rows(out, bytes, size, front, rows, columns);
+    }
+    append_rows_of(out, bytes, size, front, rows, columns)
+}
+
 /// Appends the elements of a plane, row by row. The sizes of most are constants here, and chosen once,
-/// so that each element is a move or two. Rows of four bytes an element that begin one behind another
-/// are made four at a time.
+/// so that each element is a move or two, or a part of a tile.
 fn append_rows(
     out: &mut Vec<u8>,
     bytes: &[u8],
@@ -54,13 +77,10 @@ fn append_rows(
     ensures appended { AppendsPlane size front rows columns bytes.now out.old out.new result }
 {
     match size {
-        1 => append_rows_of(out, bytes, 1, front, rows, columns),
-        2 => append_rows_of(out, bytes, 2, front, rows, columns),
-        4 if rows.step == 1 && columns.step >= 4 => {
-            append_near_rows(out, bytes, front, rows, columns)
-        }
-        4 => append_rows_of(out, bytes, 4, front, rows, columns),
-        8 => append_rows_of(out, bytes, 8, front, rows, columns),
+        1 => append_tiled_rows(out, bytes, 1, front, rows, columns),
+        2 => append_tiled_rows(out, bytes, 2, front, rows, columns),
+        4 => append_tiled_rows(out, bytes, 4, front, rows, columns),
+        8 => append_tiled_rows(out, bytes, 8, front, rows, columns),
         16 => append_rows_of(out, bytes, 16, front, rows, columns),
         _ => append_rows_of(out, bytes, size, front, rows, columns),
     }

@@ -83,14 +83,7 @@ fn append_eights(
 
 /// Writes so many bytes from each element of a row on, one behind another.
 #[inline(always)]
-pub(crate) fn put_row(
-    items: &mut [u8],
-    bytes: &[u8],
-    size: usize,
-    front: usize,
-    axis: Axis,
-    len: usize,
-)
+fn put_row(items: &mut [u8], bytes: &[u8], size: usize, front: usize, axis: Axis, len: usize)
     requires len { length items.old ≡ axis.size * len }
     requires sized { 0 < size }
     requires inside { RowInside len size front axis.step axis.size bytes.now }
@@ -237,6 +230,7 @@ pub(crate) fn append_row(
         8 => append_grouped_row(out, bytes, size, front, axis, 8),
         16 => append_grouped_row(out, bytes, size, front, axis, 16),
         64 => append_row_of(out, bytes, size, front, axis, 64),
+        128 => append_row_of(out, bytes, size, front, axis, 128),
         _ => append_row_of(out, bytes, size, front, axis, len),
     }
 }

@@ -1,16 +1,60 @@
-//! Tiles of four by four elements of four bytes, turned in registers: four neighbours from each of four
-//! tuples, each four in one vector, become the first of each, the second of each, and so on.
-ghost use Rattle.std.specs.Prelude.{◌≡◌, ◌+◌, ◌*◌, ◌≤◌, ◌<◌, ◌++◌, take, drop, length};
-ghost use Rattle.std.specs.List.{between};
-ghost use Rattle.zarrs_array_to_array.specs.Axes.{stretch, stretches_at, RowInside, BeginsWithRow};
+//! Tiles of elements of 1, 2, 4 or 8 bytes, turned in registers. A row of a tile is a vector of sixteen
+//! bytes, and a tile has as many rows as a row has elements.
+ghost use Rattle.std.specs.Prelude.{◌≡◌, ◌+◌, ◌*◌, ◌/◌, ◌<◌, ◌≤◌, ◌++◌, map, take, drop, length};
+ghost use Rattle.zarrs_array_to_array.specs.Axes.{stretch, RowInside};
 ghost use Rattle.zarrs_array_to_array.specs.Strides.{row};
+ghost use Rattle.zarrs_array_to_array.specs.Tiles.{AreVectors, HasTiles, interleaved, columns, turned_rows, with_vectors};
 
 use std::simd::prelude::*;
 
-/// The first two elements of one and of the other, in turn.
+/// The first eight bytes of one and of the other, in turn.
+#[inline(always)]
+fn first_ones(one: u8x16, other: u8x16) -> u8x16
+    ensures value { result ≡ interleaved 1 0 8 one other }
+{
+    one.shuffle(
+        other,
+        [0, 16, 1, 17, 2, 18, 3, 19, 4, 20, 5, 21, 6, 22, 7, 23],
+    )
+}
+
+/// The last eight bytes of one and of the other, in turn.
+#[inline(always)]
+fn last_ones(one: u8x16, other: u8x16) -> u8x16
+    ensures value { result ≡ interleaved 1 8 8 one other }
+{
+    one.shuffle(
+        other,
+        [8, 24, 9, 25, 10, 26, 11, 27, 12, 28, 13, 29, 14, 30, 15, 31],
+    )
+}
+
+/// The first four pairs of bytes of one and of the other, in turn.
+#[inline(always)]
+fn first_twos(one: u8x16, other: u8x16) -> u8x16
+    ensures value { result ≡ interleaved 2 0 4 one other }
+{
+    one.shuffle(
+        other,
+        [0, 1, 16, 17, 2, 3, 18, 19, 4, 5, 20, 21, 6, 7, 22, 23],
+    )
+}
+
+/// The last four pairs of bytes of one and of the other, in turn.
+#[inline(always)]
+fn last_twos(one: u8x16, other: u8x16) -> u8x16
+    ensures value { result ≡ interleaved 2 4 4 one other }
+{
+    one.shuffle(
+        other,
+        [8, 9, 24, 25, 10, 11, 26, 27, 12, 13, 28, 29, 14, 15, 30, 31],
+    )
+}
+
+/// The first two groups of four bytes of one and of the other, in turn.
 #[inline(always)]
 fn first_fours(one: u8x16, other: u8x16) -> u8x16
-    ensures value { result ≡ between 0 4 one ++ between 0 4 other ++ between 4 8 one ++ between 4 8 other }
+    ensures value { result ≡ interleaved 4 0 2 one other }
 {
     one.shuffle(
         other,
@@ -18,10 +62,10 @@ fn first_fours(one: u8x16, other: u8x16) -> u8x16
     )
 }
 
-/// The last two elements of one and of the other, in turn.
+/// The last two groups of four bytes of one and of the other, in turn.
 #[inline(always)]
 fn last_fours(one: u8x16, other: u8x16) -> u8x16
-    ensures value { result ≡ between 8 12 one ++ between 8 12 other ++ between 12 16 one ++ between 12 16 other }
+    ensures value { result ≡ interleaved 4 2 2 one other }
 {
     one.shuffle(
         other,
@@ -32,7 +76,7 @@ fn last_fours(one: u8x16, other: u8x16) -> u8x16
 /// The first halves of one and of the other.
 #[inline(always)]
 fn first_eights(one: u8x16, other: u8x16) -> u8x16
-    ensures value { result ≡ between 0 8 one ++ between 0 8 other }
+    ensures value { result ≡ interleaved 8 0 1 one other }
 {
     one.shuffle(
         other,
@@ -43,7 +87,7 @@ fn first_eights(one: u8x16, other: u8x16) -> u8x16
 /// The last halves of one and of the other.
 #[inline(always)]
 fn last_eights(one: u8x16, other: u8x16) -> u8x16
-    ensures value { result ≡ between 8 16 one ++ between 8 16 other }
+    ensures value { result ≡ interleaved 8 1 1 one other }
 {
     one.shuffle(
         other,
@@ -51,50 +95,106 @@ fn last_eights(one: u8x16, other: u8x16) -> u8x16
     )
 }
 
-/// A tile turned: the first elements of all four, the second, the third and the fourth.
+/// A tile of two by two elements of eight bytes, turned: its columns.
 #[inline(always)]
-fn turned_fours(one: u8x16, two: u8x16, three: u8x16, four: u8x16) -> (u8x16, u8x16, u8x16, u8x16)
-    ensures first_row { result.0 ≡ between 0 4 one ++ between 0 4 two ++ between 0 4 three ++ between 0 4 four }
-    ensures second_row { result.1 ≡ between 4 8 one ++ between 4 8 two ++ between 4 8 three ++ between 4 8 four }
-    ensures third_row { result.2 ≡ between 8 12 one ++ between 8 12 two ++ between 8 12 three ++ between 8 12 four }
-    ensures fourth_row { result.3 ≡ between 12 16 one ++ between 12 16 two ++ between 12 16 three ++ between 12 16 four }
+fn turned_eights(rows: [u8x16; 2]) -> [u8x16; 2]
+    ensures value { result ≡ columns 8 2 rows }
 {
-    let front = first_fours(one, two);
-    let front_behind = first_fours(three, four);
-    let back = last_fours(one, two);
-    let back_behind = last_fours(three, four);
-    (
-        first_eights(front, front_behind),
-        last_eights(front, front_behind),
-        first_eights(back, back_behind),
-        last_eights(back, back_behind),
-    )
+    [
+        first_eights(rows[0], rows[1]),
+        last_eights(rows[0], rows[1]),
+    ]
 }
 
-/// Sixteen bytes from an element of four on.
+/// A tile of four by four elements of four bytes, turned: its columns. The elements of two rows, in turn,
+/// are rows of pairs of elements.
 #[inline(always)]
-fn sixteen_at(bytes: &[u8], place: usize) -> u8x16
-    requires inside { place * 4 + 16 ≤ length bytes.now }
-    ensures value { result ≡ stretch 16 4 bytes.now place }
+fn turned_fours(rows: [u8x16; 4]) -> [u8x16; 4]
+    requires whole { AreVectors rows }
+    ensures value { result ≡ columns 4 4 rows }
 {
-    let from = place * 4;
+    let front = turned_eights([first_fours(rows[0], rows[1]), first_fours(rows[2], rows[3])]);
+    let back = turned_eights([last_fours(rows[0], rows[1]), last_fours(rows[2], rows[3])]);
+    [front[0], front[1], back[0], back[1]]
+}
+
+/// A tile of eight by eight elements of two bytes, turned: its columns, by the same step.
+#[inline(always)]
+fn turned_twos(rows: [u8x16; 8]) -> [u8x16; 8]
+    requires whole { AreVectors rows }
+    ensures value { result ≡ columns 2 8 rows }
+{
+    let front = turned_fours([
+        first_twos(rows[0], rows[1]),
+        first_twos(rows[2], rows[3]),
+        first_twos(rows[4], rows[5]),
+        first_twos(rows[6], rows[7]),
+    ]);
+    let back = turned_fours([
+        last_twos(rows[0], rows[1]),
+        last_twos(rows[2], rows[3]),
+        last_twos(rows[4], rows[5]),
+        last_twos(rows[6], rows[7]),
+    ]);
+    [
+        front[0], front[1], front[2], front[3], back[0], back[1], back[2], back[3],
+    ]
+}
+
+/// A tile of sixteen by sixteen bytes, turned: its columns, by the same step.
+#[inline(always)]
+fn turned_ones(rows: [u8x16; 16]) -> [u8x16; 16]
+    requires whole { AreVectors rows }
+    ensures value { result ≡ columns 1 16 rows }
+{
+    let front = turned_twos([
+        first_ones(rows[0], rows[1]),
+        first_ones(rows[2], rows[3]),
+        first_ones(rows[4], rows[5]),
+        first_ones(rows[6], rows[7]),
+        first_ones(rows[8], rows[9]),
+        first_ones(rows[10], rows[11]),
+        first_ones(rows[12], rows[13]),
+        first_ones(rows[14], rows[15]),
+    ]);
+    let back = turned_twos([
+        last_ones(rows[0], rows[1]),
+        last_ones(rows[2], rows[3]),
+        last_ones(rows[4], rows[5]),
+        last_ones(rows[6], rows[7]),
+        last_ones(rows[8], rows[9]),
+        last_ones(rows[10], rows[11]),
+        last_ones(rows[12], rows[13]),
+        last_ones(rows[14], rows[15]),
+    ]);
+    [
+        front[0], front[1], front[2], front[3], front[4], front[5], front[6], front[7], back[0],
+        back[1], back[2], back[3], back[4], back[5], back[6], back[7],
+    ]
+}
+
+/// Sixteen bytes from an element on.
+#[inline(always)]
+fn sixteen_at(bytes: &[u8], size: usize, place: usize) -> u8x16
+    requires inside { place * size + 16 ≤ length bytes.now }
+    ensures value { result ≡ stretch 16 size bytes.now place }
+{
+    let from = place * size;
     u8x16::from_slice(&bytes[from..from + 16])
 }
 
-/// The elements of four rows, which begin one behind another: four of each.
+/// The rows of a tile: sixteen bytes from each of so many elements on, which stand a step apart.
 #[inline(always)]
-fn tile_at(bytes: &[u8], front: usize, step: usize) -> (u8x16, u8x16, u8x16, u8x16)
-    requires inside { RowInside 16 4 front step 4 bytes.now }
-    ensures first_row { result.0 ≡ stretches_at 4 4 bytes.now (row front step 4) }
-    ensures second_row { result.1 ≡ stretches_at 4 4 bytes.now (row (front + 1) step 4) }
-    ensures third_row { result.2 ≡ stretches_at 4 4 bytes.now (row (front + 2) step 4) }
-    ensures fourth_row { result.3 ≡ stretches_at 4 4 bytes.now (row (front + 3) step 4) }
+fn tile_at<const N: usize>(bytes: &[u8], size: usize, front: usize, step: usize) -> [u8x16; N]
+    requires sized { 0 < size }
+    requires inside { RowInside 16 size front step N bytes.now }
+    ensures value { result ≡ map (stretch 16 size bytes.now) (row front step N) }
 {
-    let one = sixteen_at(bytes, front);
-    let two = sixteen_at(bytes, front + step);
-    let three = sixteen_at(bytes, front + 2 * step);
-    let four = sixteen_at(bytes, front + 3 * step);
-    turned_fours(one, two, three, four)
+    let mut rows = [u8x16::splat(0); N];
+    for index in 0..N {
+        rows[index] = sixteen_at(bytes, size, front + index * step);
+    }
+    rows
 }
 
 /// Writes sixteen bytes behind so many.
@@ -106,33 +206,89 @@ fn put_sixteen(items: &mut [u8], at: usize, sixteen: u8x16)
     sixteen.copy_to_slice(&mut items[at..at + 16]);
 }
 
-/// Writes the elements of four rows, which begin one behind another: so many fours of each.
-pub(crate) fn put_tiles(
-    first: &mut [u8],
-    second: &mut [u8],
-    third: &mut [u8],
-    fourth: &mut [u8],
+/// Writes the rows of a tile into rows of `len` bytes, behind the first `at` bytes of each.
+#[inline(always)]
+fn put_tile<const N: usize>(items: &mut [u8], len: usize, at: usize, rows: [u8x16; N])
+    requires whole { AreVectors rows }
+    requires wide { at + 16 ≤ len }
+    requires room { N * len ≤ length items.old }
+    ensures written { items.new ≡ with_vectors len at rows.entry items.old }
+{
+    for index in 0..N {
+        put_sixteen(items, index * len + at, rows[index]);
+    }
+}
+
+/// Turns a tile of elements of one byte, as `turn_tile`.
+#[inline(always)]
+fn turn_ones(items: &mut [u8], len: usize, at: usize, bytes: &[u8], front: usize, step: usize)
+    requires inside { RowInside 16 1 front step 16 bytes.now }
+    requires wide { at + 16 ≤ len }
+    requires room { 16 * len ≤ length items.old }
+    ensures written { items.new ≡ with_vectors len at (turned_rows 1 front step 16 bytes.now) items.old }
+{
+    let rows = tile_at::<16>(bytes, 1, front, step);
+    put_tile::<16>(items, len, at, turned_ones(rows));
+}
+
+/// Turns a tile of elements of two bytes, as `turn_tile`.
+#[inline(always)]
+fn turn_twos(items: &mut [u8], len: usize, at: usize, bytes: &[u8], front: usize, step: usize)
+    requires inside { RowInside 16 2 front step 8 bytes.now }
+    requires wide { at + 16 ≤ len }
+    requires room { 8 * len ≤ length items.old }
+    ensures written { items.new ≡ with_vectors len at (turned_rows 2 front step 8 bytes.now) items.old }
+{
+    let rows = tile_at::<8>(bytes, 2, front, step);
+    put_tile::<8>(items, len, at, turned_twos(rows));
+}
+
+/// Turns a tile of elements of four bytes, as `turn_tile`.
+#[inline(always)]
+fn turn_fours(items: &mut [u8], len: usize, at: usize, bytes: &[u8], front: usize, step: usize)
+    requires inside { RowInside 16 4 front step 4 bytes.now }
+    requires wide { at + 16 ≤ len }
+    requires room { 4 * len ≤ length items.old }
+    ensures written { items.new ≡ with_vectors len at (turned_rows 4 front step 4 bytes.now) items.old }
+{
+    let rows = tile_at::<4>(bytes, 4, front, step);
+    put_tile::<4>(items, len, at, turned_fours(rows));
+}
+
+/// Turns a tile of elements of eight bytes, as `turn_tile`.
+#[inline(always)]
+fn turn_eights(items: &mut [u8], len: usize, at: usize, bytes: &[u8], front: usize, step: usize)
+    requires inside { RowInside 16 8 front step 2 bytes.now }
+    requires wide { at + 16 ≤ len }
+    requires room { 2 * len ≤ length items.old }
+    ensures written { items.new ≡ with_vectors len at (turned_rows 8 front step 2 bytes.now) items.old }
+{
+    let rows = tile_at::<2>(bytes, 8, front, step);
+    put_tile::<2>(items, len, at, turned_eights(rows));
+}
+
+/// Turns a tile: the elements of as many rows as a vector has elements, which begin one behind another,
+/// and as many of each. They are written into rows of `len` bytes, behind the first `at` bytes of each.
+#[inline(always)]
+pub(crate) fn turn_tile(
+    items: &mut [u8],
+    len: usize,
+    at: usize,
     bytes: &[u8],
+    size: usize,
     front: usize,
     step: usize,
-    fours: usize,
 )
-    requires first_row { fours * 16 ≤ length first.old }
-    requires second_row { fours * 16 ≤ length second.old }
-    requires third_row { fours * 16 ≤ length third.old }
-    requires fourth_row { fours * 16 ≤ length fourth.old }
-    requires inside { RowInside 16 4 front step (fours * 4) bytes.now }
-    ensures first_row { BeginsWithRow bytes.now front step (fours * 4) first.old first.new }
-    ensures second_row { BeginsWithRow bytes.now (front + 1) step (fours * 4) second.old second.new }
-    ensures third_row { BeginsWithRow bytes.now (front + 2) step (fours * 4) third.old third.new }
-    ensures fourth_row { BeginsWithRow bytes.now (front + 3) step (fours * 4) fourth.old fourth.new }
+    requires tiles { HasTiles size }
+    requires inside { RowInside 16 size front step (16 / size) bytes.now }
+    requires wide { at + 16 ≤ len }
+    requires room { 16 / size * len ≤ length items.old }
+    ensures written { items.new ≡ with_vectors len at (turned_rows size front step (16 / size) bytes.now) items.old }
 {
-    for index in 0..fours {
-        let (one, two, three, four) = tile_at(bytes, front + index * 4 * step, step);
-        let at = index * 16;
-        put_sixteen(first, at, one);
-        put_sixteen(second, at, two);
-        put_sixteen(third, at, three);
-        put_sixteen(fourth, at, four);
+    match size {
+        1 => turn_ones(items, len, at, bytes, front, step),
+        2 => turn_twos(items, len, at, bytes, front, step),
+        4 => turn_fours(items, len, at, bytes, front, step),
+        _ => turn_eights(items, len, at, bytes, front, step),
     }
 }

@@ -1,5 +1,5 @@
 use Rattle.std.proofs.Common.{◌+◌, ◌-◌, arith}
-use Rattle.zarrs_array_to_array.proofs.Tiles.{written_there}
+use Rattle.zarrs_array_to_array.proofs.TileRows.{written_there}
 use Rattle.zarrs_array_to_array.proofs.transpose.tiles.put_sixteen.Goals as goal
 
 pub returns : goal.returns

@@ -1,27 +1,26 @@
-use Rattle.std.proofs.Common.{arith, refl, ◌+◌, ◌∙◌}
-use Rattle.zarrs_array_to_array.proofs.Tiles.{tile_row}
+use Rattle.std.proofs.Common.{◌≡◌, ◌+◌, ◌*◌, ◌++◌, ◌∷◌, [], List, ℕ, map, arith, sym, ap, ap₂, ◌∙◌}
+use Rattle.std.proofs.lemmas.List.{length-set, take_more_set, take_all, map-append}
+use Rattle.zarrs_array_to_array.specs.Axes.{stretch}
+use Rattle.zarrs_array_to_array.specs.Strides.{row}
+use Rattle.zarrs_array_to_array.proofs.Rows.{row_more}
 use Rattle.zarrs_array_to_array.proofs.transpose.tiles.tile_at.Goals as goal
 
-pub returns-clause-first_row : goal.returns-clause-first_row
-returns-clause-first_row c =
-    c.turned_fours.ensures.first_row
-    ∙ tile_row c.args.bytes.now c.sixteen_at-one.result c.sixteen_at-two.result c.sixteen_at-three.result c.sixteen_at-four.result c.args.front c.args.step c.args.front 0 0 4 (omega arith) refl refl (omega arith)
-    c.sixteen_at-one.ensures.value c.sixteen_at-two.ensures.value c.sixteen_at-three.ensures.value c.sixteen_at-four.ensures.value
+pub loop-index-preserved : goal.loop-index-preserved
+loop-index-preserved g c =
+    let f : ℕ → List ℕ = stretch 16 c.args.size c.args.bytes.now in
+    let i = c.loop-index.index in
+    record {
+      count = length-set c.loop-index.rows i c.sixteen_at.result ∙ c.loop-index.invariant.count;
+      read =
+          take_more_set c.loop-index.rows i c.sixteen_at.result (omega arith)
+          ∙ ap₂ (λ xs x. xs ++ x ∷ []) c.loop-index.invariant.read c.sixteen_at.ensures.value
+          ∙ sym (ap (map f) (row_more c.args.front c.args.step i) ∙ map-append f (row c.args.front c.args.step i) ((c.args.front + i * c.args.step) ∷ []));
+    }
 
-pub returns-clause-second_row : goal.returns-clause-second_row
-returns-clause-second_row c =
-    c.turned_fours.ensures.second_row
-    ∙ tile_row c.args.bytes.now c.sixteen_at-one.result c.sixteen_at-two.result c.sixteen_at-three.result c.sixteen_at-four.result c.args.front c.args.step (c.args.front + 1) 1 4 8 (omega arith) refl refl (omega arith)
-    c.sixteen_at-one.ensures.value c.sixteen_at-two.ensures.value c.sixteen_at-three.ensures.value c.sixteen_at-four.ensures.value
-
-pub returns-clause-third_row : goal.returns-clause-third_row
-returns-clause-third_row c =
-    c.turned_fours.ensures.third_row
-    ∙ tile_row c.args.bytes.now c.sixteen_at-one.result c.sixteen_at-two.result c.sixteen_at-three.result c.sixteen_at-four.result c.args.front c.args.step (c.args.front + 2) 2 8 12 (omega arith) refl refl (omega arith)
-    c.sixteen_at-one.ensures.value c.sixteen_at-two.ensures.value c.sixteen_at-three.ensures.value c.sixteen_at-four.ensures.value
-
-pub returns-clause-fourth_row : goal.returns-clause-fourth_row
-returns-clause-fourth_row c =
-    c.turned_fours.ensures.fourth_row
-    ∙ tile_row c.args.bytes.now c.sixteen_at-one.result c.sixteen_at-two.result c.sixteen_at-three.result c.sixteen_at-four.result c.args.front c.args.step (c.args.front + 3) 3 12 16 (omega arith) refl refl (omega arith)
-    c.sixteen_at-one.ensures.value c.sixteen_at-two.ensures.value c.sixteen_at-three.ensures.value c.sixteen_at-four.ensures.value
+pub returns : goal.returns
+returns g c =
+    let f : ℕ → List ℕ = stretch 16 c.args.size c.args.bytes.now in
+    let all : c.loop-index.index ≡ g.row.N = omega arith in
+    record {
+      value = sym (take_all c.loop-index.index c.loop-index.rows (omega arith)) ∙ c.loop-index.invariant.read ∙ ap (λ n. map f (row c.args.front c.args.step n)) all;
+    }
