@@ -1,5 +1,5 @@
 -- Which ranges a read in part has asked for, call by call.
-use Rattle.std.proofs.Common.{◌≡◌, ◌∙◌, ℕ, zero, suc, ◌+◌, ◌-◌, ◌*◌, ◌≤◌, ◌||◌, min, nat_le, Bool, true, false, if◌then◌else◌, Option, Some, None, Ok, List, [], ◌∷◌, ◌++◌, length, map, take, drop, arith, refl, sym, ap, ap₂, inl, inr}
+use Rattle.std.proofs.Common.{◌≡◌, ◌∙◌, ℕ, zero, suc, ◌+◌, ◌-◌, ◌*◌, ◌≤◌, ◌||◌, min, nat_le, Bool, true, false, if◌then◌else◌, Option, Some, None, List, [], ◌∷◌, ◌++◌, length, map, take, drop, arith, refl, sym, ap, ap₂, inl, inr}
 use Rattle.std.specs.Prelude.{is_some}
 use Rattle.std.specs.List.{concat, flat_map, range_with_len}
 use Rattle.std.proofs.lemmas.Bool.{cases_lt}
@@ -7,7 +7,7 @@ use Rattle.std.proofs.lemmas.Bool.Decides.{nat_tests}
 use Rattle.std.proofs.lemmas.List.{append-nil, drop-drop, drop_all, length-drop, map-append, nil_from_length, take_all}
 use Rattle.zarrs_array_bytes.specs.Elements.{piece}
 use Rattle.zarrs_codec.specs.ByteSpan.{ByteSpan}
-use Rattle.zarrs_codec.specs.Calls.{after_asking, after_ranges}
+use Rattle.zarrs_codec.specs.Calls.{after_asking}
 use Rattle.zarrs_codec.proofs.CallLemmas.{after_asking-more, after_asking-none}
 use Rattle.zarrs_bytes.specs.AskedRanges.{asked_by_batches, asked_for_places, asked_for_runs, ranges_by_batches, ranges_of, ranges_of_places, ranges_of_runs, span_range}
 use Rattle.zarrs_bytes.specs.PartialRead.{bytes_at}
@@ -29,11 +29,6 @@ ranges_of_runs-append size xs ys =
     ap ranges_of (map-append (element_span size) xs ys) ∙ map-append span_range (map (element_span size) xs) (map (element_span size) ys)
 
 -- ---- call by call
-
--- an accepted call has asked for its ranges
-pub accepted_asked : {T : Type 0} (E : Type 0) (x : T) (ranges : List ByteSpan) (before after : Option (List ByteSpan)) → after ≡ after_ranges {E = E} {T = T} (Ok x) ranges before → after ≡ after_asking ranges before
-accepted_asked E x ranges None after is = is
-accepted_asked E x ranges (Some asked) after is = is
 
 -- what is left to be asked for, after the first of it
 asked_more : (first more rest : List ByteSpan) (before after all : Option (List ByteSpan)) → first ++ more ≡ rest → after ≡ after_asking first before → after_asking rest before ≡ all → after_asking more after ≡ all

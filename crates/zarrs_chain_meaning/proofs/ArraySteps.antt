@@ -374,7 +374,7 @@ pub ok_or_not : {A : Type 0} {P : Type 0} (r : Result A CodecError) → P → If
 ok_or_not (Ok x) h = h
 ok_or_not (Err e) h = tt
 
--- ---- a shape that the first codec refuses
+-- ---- a shape that the first codec rejects
 
 shape_known : (type : ElementType) (codec : ArrayMapping) (codecs : List ArrayMapping) (sizes : List ℕ) (m : CoordinateMap) (error : CodecError) → arrays_map type (codec ∷ codecs) sizes ≡ Ok m → seen (λ (n : CoordinateMap). n.encoded) (coordinates codec sizes) ≡ Err error → ⊥
 shape_known type codec codecs sizes m error e refused =
