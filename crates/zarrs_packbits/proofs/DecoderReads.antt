@@ -17,8 +17,10 @@ use Rattle.zarrs_array_bytes.specs.Held.{Held}
 use Rattle.zarrs_bytes.proofs.Coding.{ok}
 use Rattle.zarrs_bytes.proofs.ConsecutiveRuns.{runs_are_consecutive}
 use Rattle.zarrs_bytes.specs.PartialRead.{place_size}
+use Rattle.zarrs_bytes.specs.AskedRanges.{asked_for_runs}
 use Rattle.zarrs_bytes.specs.ReadingCalls.{calls_for_runs, consecutive_runs}
-use Rattle.zarrs_codec.specs.Calls.{Calls, MakesReads}
+use Rattle.zarrs_codec.specs.ByteSpan.{ByteSpan}
+use Rattle.zarrs_codec.specs.Calls.{AsksRanges, Calls, MakesReads}
 use Rattle.zarrs_codec.specs.StorageState.{are_sure}
 use Rattle.zarrs_packbits.specs.declared.layout.PackedLayout.{PackedLayout}
 use Rattle.zarrs_packbits.specs.PackBitsCodec.{PackBitsStands}
@@ -26,6 +28,7 @@ use Rattle.zarrs_packbits.specs.PackBitsSettings.{PackBitsSettings, keeps_all_by
 use Rattle.zarrs_packbits.specs.PackedLayout.{is_whole}
 use Rattle.zarrs_bytes.specs.BytesCodecPartial.{plan_is_sure}
 use Rattle.zarrs_packbits.specs.PartialRead.{packbits_plan, packed_places_bytes, read_places_of, reading_calls_of}
+use Rattle.zarrs_packbits.specs.ReadPlan.{asked_of, packed_asked, packed_ranges}
 use Rattle.zarrs_packbits.proofs.CodecLaws.{read_selects}
 use Rattle.zarrs_packbits.proofs.Taken.{taken}
 use Rattle.zarrs_array_bytes.proofs.RunLemmas.{places_below}
@@ -88,3 +91,23 @@ pub counted_at : {C T : Type 0} (calls : C → Option Calls) (settings : PackBit
     → MakesReads calls (reading_calls_of settings form stored runs) before after r → IfOk places (λ ps. MakesReads calls (reading_calls_of settings form stored (consecutive_runs ps)) before after r)
 counted_at calls settings form stored places runs before after r is filled apart made =
     rw is (subst (λ (rs : List (ℕ × ℕ)). MakesReads calls (reading_calls_of settings form stored rs) before after r) (sym (runs_are_consecutive runs filled apart)) made)
+
+-- ---- which ranges a read asks for
+
+-- those of `bytes` where all bits of whole bytes are kept
+pub asked_whole : (settings : PackBitsSettings) (form : Form) (stored : Option (List ℕ)) (runs : List (ℕ × ℕ)) (l : PackedLayout) → packed_layout settings form ≡ Ok l → is_whole l ≡ true → asked_for_runs (place_size form.type) stored runs ≡ asked_of settings form stored runs
+asked_whole settings form stored runs l is whole =
+    let size = place_size form.type in
+    sym (ap (λ (r : Result PackedLayout CodecError). packed_asked r size stored runs) is ∙ rw whole refl)
+
+-- and else those of the runs
+pub asked_in_part : (settings : PackBitsSettings) (form : Form) (stored : Option (List ℕ)) (runs : List (ℕ × ℕ)) (l : PackedLayout) → packed_layout settings form ≡ Ok l → is_whole l ≡ false → packed_ranges l runs ≡ asked_of settings form stored runs
+asked_in_part settings form stored runs l is part =
+    let size = place_size form.type in
+    sym (ap (λ (r : Result PackedLayout CodecError). packed_asked r size stored runs) is ∙ rw part refl)
+
+-- so it is of the runs of the places that are read
+pub asked_at : {C T : Type 0} (asked : C → Option (List ByteSpan)) (settings : PackBitsSettings) (form : Form) (stored : Option (List ℕ)) (places : Result (List ℕ) CodecError) (runs : List (ℕ × ℕ)) (before after : C) (r : Result T CodecError) → places ≡ Ok (joined_runs runs) → AreFilled runs → AreApart runs
+    → AsksRanges asked (asked_of settings form stored runs) before after r → IfOk places (λ ps. AsksRanges asked (asked_of settings form stored (consecutive_runs ps)) before after r)
+asked_at asked settings form stored places runs before after r is filled apart made =
+    rw is (subst (λ (rs : List (ℕ × ℕ)). AsksRanges asked (asked_of settings form stored rs) before after r) (sym (runs_are_consecutive runs filled apart)) made)

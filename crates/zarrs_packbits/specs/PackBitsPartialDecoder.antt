@@ -11,13 +11,13 @@ use Rattle.zarrs_data_type.specs.ElementType.{ElementType}
 use Rattle.zarrs_array_bytes.specs.Held.{Held}
 use Rattle.zarrs_codec.specs.ArrayReader.{ArrayReader}
 use Rattle.zarrs_codec.specs.ByteSpan.{ByteSpan}
-use Rattle.zarrs_codec.specs.Calls.{Calls, MakesReads}
+use Rattle.zarrs_codec.specs.Calls.{AsksRanges, Calls, MakesReads}
 use Rattle.zarrs_codec.specs.StorageState.{StorageState}
 use Rattle.zarrs_codec.specs.declared.refused.Refused.{Refused}
 use Rattle.zarrs_data_type.specs.Form.{Form, form_of}
 use Rattle.zarrs_packbits.specs.PackBitsSettings.{PackBitsSettings}
 use Rattle.zarrs_packbits.specs.PartialRead.{packbits_places, packbits_plan, packbits_read, reading_calls_of}
-use Rattle.zarrs_packbits.specs.ReadPlan.{IsPackBitsPlan}
+use Rattle.zarrs_packbits.specs.ReadPlan.{IsPackBitsPlan, asked_of}
 use Rattle.zarrs_bytes.specs.BytesCodecPartial.{plan_is_sure}
 use Rattle.zarrs_bytes.specs.ReadingCalls.{consecutive_runs}
 use Rattle.zarrs_codec.specs.CodersOverHandles.{ReadsPart, OnlyReads}
@@ -76,6 +76,16 @@ abbrev pub PackBitsCountsReads : {H T : Type 0} → (H → StorageState) → (H 
 PackBitsCountsReads state calls before after indexer result =
     IfOk (places_of (selection_of indexer) before.shape) (λ places.
     MakesReads (decoder_calls calls) (reading_calls_of before.codec (form_of before.shape before.data_type before.fill_value) (packbits_stored_in state before) (consecutive_runs places)) before after result)
+
+-- the ranges that a decoder's handle was asked for, where it keeps them
+abbrev pub decoder_asked : {H : Type 0} → (H → Option (List ByteSpan)) → PackBitsPartialDecoder H → Option (List ByteSpan)
+decoder_asked asked decoder = asked (packbits_handle_of decoder)
+
+-- an accepted read asks for the ranges of its places, one for each run of consecutive places; where all bits of whole bytes are kept, as the codec `bytes` does (`asked` states which ranges a handle was asked for)
+abbrev pub PackBitsAsksReads : {H T : Type 0} → (H → StorageState) → (H → Option (List ByteSpan)) → PackBitsPartialDecoder H → PackBitsPartialDecoder H → Indexer → Result T CodecError → Type 0
+PackBitsAsksReads state asked before after indexer result =
+    IfOk (places_of (selection_of indexer) before.shape) (λ places.
+    AsksRanges (decoder_asked asked) (asked_of before.codec (form_of before.shape before.data_type before.fill_value) (packbits_stored_in state before) (consecutive_runs places)) before after result)
 
 -- the ranges that a decoder plans are the plan of a read of the places that the indexer selects, or the first error is returned
 abbrev pub Plans : {H : Type 0} → PackBitsPartialDecoder H → Indexer → Result (Vec ByteSpan Global) CodecError → Type 0

@@ -3,9 +3,10 @@ ghost use Rattle.zarrs_data_type.specs.Form.{form_of};
 ghost use Rattle.std.specs.Prelude.{◌≡◌, ℕ, ◌<◌, ◌≤◌, ◌+◌, IfOk, IfErr, Ok, All, is_some};
 ghost use Rattle.zarrs_chunk.specs.Answer.{GivesBy, GivesValue, seen};
 ghost use Rattle.zarrs_array_bytes.specs.Tight.{IsTight};
-ghost use Rattle.zarrs_codec.specs.Calls.{MakesReads, after_reads, ok_count};
+ghost use Rattle.zarrs_codec.specs.Calls.{AsksRanges, MakesReads, after_reads, ok_count};
 ghost use Rattle.zarrs_codec.specs.StorageState.{after_reading};
 ghost use Rattle.zarrs_codec.specs.HandleCalls.{NeverFailsIf, Tells};
+ghost use Rattle.zarrs_bytes.specs.AskedRanges.{AsksForRuns};
 ghost use Rattle.zarrs_bytes.specs.MadeCoders.{GivesCoder};
 ghost use Rattle.zarrs_bytes.specs.PartialRead.{place_size};
 ghost use Rattle.zarrs_bytes.specs.PlannedRanges.{NoneIsEmpty};
@@ -13,7 +14,7 @@ ghost use Rattle.zarrs_bytes.specs.ReadingCalls.{calls_for_runs};
 ghost use Rattle.zarrs_packbits.specs.PackBitsSettings.{packed_layout, KeepsAllBytes, PackBitsTakes};
 ghost use Rattle.zarrs_packbits.specs.PartialRead.{reading_calls_of, ReadsRuns, ReadsRunsSurely};
 ghost use Rattle.zarrs_packbits.specs.PackedLayout.{IsPackedLayout};
-ghost use Rattle.zarrs_packbits.specs.ReadPlan.{IsPlanOfRuns};
+ghost use Rattle.zarrs_packbits.specs.ReadPlan.{asked_of, IsPlanOfRuns};
 ghost use Rattle.zarrs_chunk.specs.ChunkShape.{product};
 
 use crate::layout::PackedLayout;
@@ -85,6 +86,8 @@ impl PackBitsCodec {
         ensures tight { IfOk result (IsTight data_type.now) }
         ensures counted { MakesReads H.calls (calls_for_runs (place_size data_type.now)
             (H.state handle.old).value runs.now) handle.old handle.new result }
+        ensures asked { AsksForRuns (place_size data_type.now)
+            H.state H.asked handle.old handle.new runs.now result }
         ensures left { H.state handle.new ≡ after_reading result (H.state handle.old) }
         ensures same_reference { H.lent handle.new ≡ H.lent handle.old }
     {
@@ -99,6 +102,8 @@ impl PackBitsCodec {
     /// each ends inside the chunk. Errors: `InvalidByteRange` where a place's bytes lie past the
     /// value's end; `OutOfMemory` and `Storage`, which may come before. `Storage` never comes where
     /// all bytes of the places are sure.
+    ///
+    /// The handle is asked for the ranges that `planned_runs` gives.
     #[tactic(auto, using(crate::proofs::Counted::read_tight))]
     pub fn read_runs<H: BytesPartialDecoderTraits>(
         &self,
@@ -120,6 +125,11 @@ impl PackBitsCodec {
         // Wide: the three parameters of a form have the Rust crate's names.
         ensures counted { MakesReads H.calls
             (reading_calls_of self.now (form_of shape.now data_type.now fill_value.now)
+            (H.state handle.old).value runs.now)
+            handle.old handle.new result }
+        // Wide: as `counted` is.
+        ensures asked { AsksRanges H.asked
+            (asked_of self.now (form_of shape.now data_type.now fill_value.now)
             (H.state handle.old).value runs.now)
             handle.old handle.new result }
         ensures left { H.state handle.new ≡ after_reading result (H.state handle.old) }
@@ -206,7 +216,7 @@ impl PackBitsCodec {
 }
 
 impl<H: BytesPartialDecoderTraits> PackBitsPartialDecoder<H> {
-    ghost use Rattle.zarrs_packbits.specs.PackBitsPartialDecoder.{packbits_form_of, packbits_handle_of, decoder_calls, decoder_state, packbits_stored_in, PackBitsCountsReads, PackBitsReads, Plans, PackBitsLeaves};
+    ghost use Rattle.zarrs_packbits.specs.PackBitsPartialDecoder.{packbits_form_of, packbits_handle_of, decoder_asked, decoder_calls, decoder_state, packbits_stored_in, PackBitsAsksReads, PackBitsCountsReads, PackBitsReads, Plans, PackBitsLeaves};
 
     /// The type of the elements.
     pub fn data_type(&self) -> &DataType
@@ -220,6 +230,8 @@ impl<H: BytesPartialDecoderTraits> PackBitsPartialDecoder<H> {
     /// that holds: those of `Indexer::places`; `InvalidByteRange` where a place's bytes lie past the
     /// value's end; `OutOfMemory` and `Storage`. `Storage` comes after the errors of the indexer,
     /// and never where all bytes of the places are sure.
+    ///
+    /// The handle is asked for the ranges that `planned_ranges` gives.
     pub fn partial_decode(
         &mut self,
         alloc: Global,
@@ -227,6 +239,7 @@ impl<H: BytesPartialDecoderTraits> PackBitsPartialDecoder<H> {
     ) -> Result<ArrayBytes<'static>, CodecError>
         ensures reads { PackBitsReads H.state self.old indexer.now result }
         ensures counted { PackBitsCountsReads H.state H.calls self.old self.new indexer.now result }
+        ensures asked { PackBitsAsksReads H.state H.asked self.old self.new indexer.now result }
         ensures tight { IfOk result (IsTight (packbits_form_of self.old).type) }
         ensures left { PackBitsLeaves H.state H.lent self.old self.new result }
     {
@@ -269,6 +282,7 @@ impl<H: BytesPartialDecoderTraits> PackBitsPartialDecoder<H> {
         ensures sure { NeverFailsIf (is_some (decoder_state H.state self.old).sure) result }
         ensures counted { decoder_calls H.calls self.new
             ≡ after_reads (ok_count result) (decoder_calls H.calls self.old) }
+        ensures asked { decoder_asked H.asked self.new ≡ decoder_asked H.asked self.old }
         ensures left { PackBitsLeaves H.state H.lent self.old self.new result }
     {
         self.handle.exists()

@@ -2,14 +2,14 @@
 ghost use Rattle.std.specs.Prelude.{◌≡◌, ◌+◌, ◌<◌, ◌≤◌, false, All, IfOk, length, map};
 ghost use Rattle.zarrs_chunk.specs.Answer.{AnswersItems, memory_or_fault};
 ghost use Rattle.zarrs_chunk.specs.Runs.{joined_runs};
-ghost use Rattle.zarrs_codec.specs.Calls.{MakesReads};
+ghost use Rattle.zarrs_codec.specs.Calls.{AsksRanges, MakesReads};
 ghost use Rattle.zarrs_codec.specs.StorageState.{after_reading, are_sure};
 ghost use Rattle.zarrs_codec.specs.HandleCalls.{NeverFailsIf};
 ghost use Rattle.zarrs_bytes.specs.PlannedRanges.{NoneIsEmpty, spans};
 ghost use Rattle.zarrs_packbits.specs.PackedLayout.{IsPackedLayout, is_whole};
 ghost use Rattle.zarrs_packbits.specs.Packing.{packing};
 ghost use Rattle.zarrs_packbits.specs.PartialRead.{packed_places_bytes, read_packed_bytes};
-ghost use Rattle.zarrs_packbits.specs.ReadPlan.{run_span, run_bits, runs_len};
+ghost use Rattle.zarrs_packbits.specs.ReadPlan.{packed_ranges, run_span, run_bits, runs_len};
 ghost use Rattle.zarrs_packbits.specs.WrittenBits.{Puts};
 
 use crate::bit_appends::in_range;
@@ -115,6 +115,7 @@ pub(crate) fn read_runs<H: BytesPartialDecoderTraits>(
         (packed_places_bytes layout.now (joined_runs runs.now))) result }
     ensures left { H.state handle.new ≡ after_reading result (H.state handle.old) }
     ensures counted { MakesReads H.calls 1 handle.old handle.new result }
+    ensures asked { AsksRanges H.asked (packed_ranges layout.now runs.now) handle.old handle.new result }
     ensures same_reference { H.lent handle.new ≡ H.lent handle.old }
 {
     let ranges = run_ranges(alloc, layout, runs)?;

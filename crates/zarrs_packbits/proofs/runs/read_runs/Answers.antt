@@ -1,9 +1,14 @@
-use Rattle.std.proofs.Common.{◌∙◌, ap, sym, Ok, length}
+use Rattle.std.proofs.Common.{◌≡◌, ◌∙◌, List, ap, map, sym, Ok, length}
 use Rattle.std.proofs.lemmas.Result.{err_from_is_err_and}
 use Rattle.zarrs_chunk.specs.Answer.{memory_or_fault}
+use Rattle.zarrs_chunk.specs.declared.codec_error.CodecError.{CodecError}
 use Rattle.zarrs_bytes.proofs.Reading.{Excused-weaker}
 use Rattle.zarrs_packbits.specs.Packing.{packing}
-use Rattle.zarrs_packbits.specs.ReadPlan.{run_bits}
+use Rattle.zarrs_codec.specs.ByteSpan.{ByteSpan}
+use Rattle.zarrs_codec.specs.Calls.{after_asking}
+use Rattle.zarrs_codec.proofs.CallLemmas.{ranges_asked}
+use Rattle.zarrs_bytes.proofs.AskedCalls.{ranges_by_spans}
+use Rattle.zarrs_packbits.specs.ReadPlan.{packed_ranges, run_bits, run_span}
 use Rattle.zarrs_packbits.proofs.FlatRead.{are_runs-from}
 use Rattle.zarrs_packbits.proofs.RunLemmas.{runs_read, runs_read_len, finished_runs, sure_runs}
 use Rattle.zarrs_packbits.proofs.runs.read_runs.Goals as goal
@@ -46,3 +51,21 @@ returns-in-Some-clause-answer g c =
     let read = rw c.in-Some.is at c.in_ok-bytes.ensures.answer in
     through ∙ ap (finished_runs l c.args.fill.now runs) read ∙ ap (λ b. Ok (packing (run_bits l b runs))) (sym c.as_slice-in-Some.ensures.value)
     ∙ ap Ok (sym c.in_ok-unpack_runs-in-Some.ensures.value)
+
+pub returns-in-Some-clause-asked : goal.returns-in-Some-clause-asked
+returns-in-Some-clause-asked g c =
+    let D = g.H.BytesPartialDecoderTraits in
+    let l = c.args.layout.now in
+    let runs = c.args.runs.now in
+    let is : c.as_slice.result.now ≡ packed_ranges l runs
+    = c.as_slice.ensures.value ∙ ranges_by_spans c.in_ok-ranges.ranges.items (map (run_span l) runs) (sym c.in_ok-ranges.ensures.spans) in
+    ranges_asked {E = CodecError} {T = Unit {0}} (Ok tt) c.as_slice.result.now (D.asked c.args.handle.now) _ c.in_ok-bytes.ensures.asked ∙ ap (λ (rs : List ByteSpan). after_asking rs (D.asked c.args.handle.now)) is
+
+pub returns-clause-asked : goal.returns-clause-asked
+returns-clause-asked g c =
+    let D = g.H.BytesPartialDecoderTraits in
+    let l = c.args.layout.now in
+    let runs = c.args.runs.now in
+    let is : c.as_slice.result.now ≡ packed_ranges l runs
+    = c.as_slice.ensures.value ∙ ranges_by_spans c.in_ok-ranges.ranges.items (map (run_span l) runs) (sym c.in_ok-ranges.ensures.spans) in
+    ranges_asked {E = CodecError} {T = Unit {0}} (Ok tt) c.as_slice.result.now (D.asked c.args.handle.now) _ c.in_ok-bytes.ensures.asked ∙ ap (λ (rs : List ByteSpan). after_asking rs (D.asked c.args.handle.now)) is

@@ -1,5 +1,5 @@
 use Rattle.zarrs_data_type.specs.Form.{form_of}
-use Rattle.std.proofs.Common.{◌<◌, ◌^◌, length, arith, ap, sym, ◌∙◌}
+use Rattle.std.proofs.Common.{◌≡◌, ◌<◌, ◌^◌, List, length, arith, ap, subst, sym, ◌∙◌}
 use Rattle.std.proofs.lemmas.Result.{err_from_is_err_and}
 use Rattle.zarrs_chunk.specs.Answer.{memory_or_fault}
 use Rattle.zarrs_chunk.specs.Runs.{joined_runs}
@@ -7,8 +7,11 @@ use Rattle.zarrs_bytes.proofs.Reading.{Excused-weaker}
 use Rattle.zarrs_packbits.specs.PackBitsSettings.{keeps_all_bytes, packed_layout}
 use Rattle.zarrs_packbits.specs.PartialRead.{read_packed_places}
 use Rattle.zarrs_packbits.proofs.CodecLaws.{read_at}
-use Rattle.zarrs_packbits.proofs.DecoderReads.{one_call, taken_fill}
+use Rattle.zarrs_packbits.proofs.DecoderReads.{asked_in_part, asked_whole, one_call, taken_fill}
 use Rattle.zarrs_packbits.proofs.PartReads.{places_refused, places_found}
+use Rattle.std.specs.Prelude.{OnOk}
+use Rattle.zarrs_codec.specs.ByteSpan.{ByteSpan}
+use Rattle.zarrs_codec.specs.Calls.{after_asking}
 use Rattle.zarrs_packbits.proofs.packbits_codec.PackBitsCodec.read_runs.Goals as goal
 
 pub read_runs-requires-clause-fill_some : goal.read_runs-requires-clause-fill_some
@@ -57,3 +60,19 @@ returns-clause-counted g c =
     let form = form_of c.args.shape.now c.args.data_type.now c.args.fill_value.now in
     let stored = (g.H.BytesPartialDecoderTraits.state c.args.handle.now).value in
     rw (one_call c.args.self.now form stored c.args.runs.now c.taken_layout-layout.result c.taken_layout-layout.ensures.is (sym c.if-is_whole.ensures.value)) c.in_ok-bytes.ensures.counted
+
+pub returns-then-is_whole-clause-asked : goal.returns-then-is_whole-clause-asked
+returns-then-is_whole-clause-asked g c =
+    let D = g.H.BytesPartialDecoderTraits in
+    let form = form_of c.args.shape.now c.args.data_type.now c.args.fill_value.now in
+    let stored = (D.state c.args.handle.now).value in
+    let is = asked_whole c.args.self.now form stored c.args.runs.now c.taken_layout-layout.result c.taken_layout-layout.ensures.is (sym c.if-is_whole.ensures.value) in
+    subst (λ (rs : List ByteSpan). OnOk c.read_whole_runs.result (D.asked c.read_whole_runs.new.handle ≡ after_asking rs (D.asked c.args.handle.now))) is c.read_whole_runs.ensures.asked
+
+pub returns-clause-asked : goal.returns-clause-asked
+returns-clause-asked g c =
+    let D = g.H.BytesPartialDecoderTraits in
+    let form = form_of c.args.shape.now c.args.data_type.now c.args.fill_value.now in
+    let stored = (D.state c.args.handle.now).value in
+    let is = asked_in_part c.args.self.now form stored c.args.runs.now c.taken_layout-layout.result c.taken_layout-layout.ensures.is (sym c.if-is_whole.ensures.value) in
+    c.in_ok-bytes.ensures.asked ∙ ap (λ (rs : List ByteSpan). after_asking rs (D.asked c.args.handle.now)) is
