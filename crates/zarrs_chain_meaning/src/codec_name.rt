@@ -19,7 +19,7 @@ pub const OPTIONAL: CodecName = CodecName {
 };
 
 /// The codecs that a chain knows by their names.
-#[derive(Clone, Copy)]
+#[derive(Clone, Copy, Debug)]
 pub enum KnownCodec {
     /// An array-to-array codec.
     Array,

@@ -13,7 +13,7 @@ use zarrs_chunk::{CodecError, StorageError};
 use zarrs_codec::{ByteRange, append_piece, room_for};
 
 /// Bytes of a value, one after another, from the one with the number `start` on.
-#[derive(Clone, Copy)]
+#[derive(Clone, Copy, Debug)]
 pub struct Piece<'a> {
     pub start: u64,
     pub bytes: &'a [u8],

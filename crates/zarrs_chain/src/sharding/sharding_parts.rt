@@ -8,6 +8,7 @@ use crate::sharding::sharding_codec::{ShardingCodec, is_at_end};
 use zarrs_chunk::ChunkShape;
 
 /// What a `sharding_indexed` is made of.
+#[derive(Debug)]
 pub struct ShardingParts<'a, B> {
     /// The shape of the inner chunks.
     pub chunk_shape: &'a ChunkShape,
