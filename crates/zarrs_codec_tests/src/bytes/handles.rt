@@ -116,3 +116,36 @@ fn one_keeps_a_record(rt: HostRuntime) -> Result<(), CodecError> {
     let mut handle = RecordingHandle::new(rt.alloc(), Some(value.to_vec(rt.alloc())?));
     keeps_record(&rt, rt.alloc(), &mut handle)
 }
+
+/// Three ranges are asked for by two calls, and none by a read of the whole value or one that is rejected.
+fn keeps_ranges(
+    rt: &impl Abort,
+    alloc: Global,
+    handle: &mut RecordingHandle,
+) -> Result<(), CodecError> {
+    let (Some(last), Some(first)) = (ByteRange::new(3..5), ByteRange::new(0..1)) else {
+        return Err(CodecError::InvalidByteRange);
+    };
+    let (Some(long), Some(none)) = (ByteRange::new(4..6), ByteRange::new(2..2)) else {
+        return Err(CodecError::InvalidByteRange);
+    };
+    let all: &[ByteRange] = &[last, first, none];
+    handle.partial_decode_many(alloc, &[last, first])?;
+    is(
+        rt,
+        "rejected",
+        &handle.partial_decode_many(alloc, &[first, long]).is_err(),
+        &true,
+    );
+    is(rt, "whole", &handle.decode(alloc)?.is_some(), &true);
+    handle.partial_decode_many(alloc, &[none])?;
+    is(rt, "asked", &handle.asked(), &all);
+    Ok(())
+}
+
+#[test]
+fn one_keeps_the_ranges(rt: HostRuntime) -> Result<(), CodecError> {
+    let value: &[u8] = &[1, 2, 3, 4, 5];
+    let mut handle = RecordingHandle::new(rt.alloc(), Some(value.to_vec(rt.alloc())?));
+    keeps_ranges(&rt, rt.alloc(), &mut handle)
+}
