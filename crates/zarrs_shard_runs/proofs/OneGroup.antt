@@ -5,7 +5,7 @@ use Rattle.std.proofs.lemmas.List.{append-nil, length-map}
 use Rattle.std.proofs.lemmas.List.Elements.{All-cons, All-nil}
 use Rattle.zarrs_chain_meaning.specs.sharding.InnerChunks.{inner_chunk_count}
 use Rattle.zarrs_chunk.specs.ChunkShape.{product}
-use Rattle.zarrs_chunk.specs.Runs.{AreFilled, EndWithin, joined_runs}
+use Rattle.zarrs_chunk.specs.Runs.{AreApart, AreFilled, EndWithin, joined_runs}
 use Rattle.zarrs_shard_runs.specs.CutRuns.{cell, cells_at}
 use Rattle.zarrs_shard_runs.specs.GroupedRuns.{AreGroups, IsOneGroup, IsReadingOrder}
 use Rattle.zarrs_shard_runs.specs.Groups.{AreRising, cells_of_groups}
@@ -47,6 +47,7 @@ module _ {shape sizes places : List ℕ} {it : InnerRuns} (one : IsOneGroup shap
     groups = groups_are shape sizes places it.number (joined_runs it.runs.items) one.cells one.some one.number;
     filled = All-cons (λ (it : InnerRuns). AreFilled it.runs.items) it [] one.filled (All-nil (λ (it : InnerRuns). AreFilled it.runs.items));
     inside = All-cons (λ (it : InnerRuns). EndWithin (product shape) it.runs.items) it [] one.inside (All-nil (λ (it : InnerRuns). EndWithin (product shape) it.runs.items));
+    apart = All-cons (λ (it : InnerRuns). AreApart it.runs.items) it [] one.apart (All-nil (λ (it : InnerRuns). AreApart it.runs.items));
   }
 
   pub one_order : IsReadingOrder shape sizes places (range_with_len 0 (length places))

@@ -4,7 +4,7 @@ use Rattle.std.specs.Prelude.{◌≡◌, ◌<◌, ℕ, length, Option, Some, Non
 use Rattle.std.specs.declared.alloc.Global.{Global}
 use Rattle.zarrs_chain_meaning.specs.sharding.InnerChunks.{inner_chunk_count, inner_chunk_of, place_inside}
 use Rattle.zarrs_chunk.specs.ChunkShape.{product}
-use Rattle.zarrs_chunk.specs.Runs.{AreFilled, EndWithin, joined_runs}
+use Rattle.zarrs_chunk.specs.Runs.{AreApart, AreFilled, EndWithin, joined_runs}
 use Rattle.zarrs_data_type.specs.Element.{absent, Element}
 use Rattle.zarrs_shard_runs.specs.CutRuns.{cell, cells_at}
 use Rattle.zarrs_shard_runs.specs.PlacesInside.{groups_of}
@@ -30,16 +30,18 @@ abbrev pub order_places : ℕ → Option (Vec (ℕ × ℕ) Global) → List ℕ
 order_places count None = range_with_len 0 count
 order_places count (Some runs) = joined_runs runs.items
 
--- The groups are the inner chunks that have any of the places, in the order of their numbers, each with its places; none of their runs is empty, each ends within the inner chunk.
+-- The groups are the inner chunks that have any of the places, in the order of their numbers, each with its places; none of their runs is empty, each ends within the inner chunk, and none begins where the one before it ends.
 pub record AreGroups (shape sizes places : List ℕ) (found : List InnerRuns) : Type 0 where
   pub groups : map group found ≡ groups_of shape sizes places
   pub filled : All (λ it. AreFilled it.runs.items) found
   pub inside : All (λ it. EndWithin (product shape) it.runs.items) found
+  pub apart : All (λ it. AreApart it.runs.items) found
 
--- All places, of which there are some, are an inner chunk's: those of its runs, of which none is empty and each ends within it.
+-- All places, of which there are some, are an inner chunk's: those of its runs, of which none is empty, each ends within it, and none begins where the one before it ends.
 pub record IsOneGroup (shape sizes places : List ℕ) (it : InnerRuns) : Type 0 where
   pub cells : map (cell shape sizes) places ≡ cells_at it.number (joined_runs it.runs.items)
   pub some : 0 < length places
   pub number : it.number < inner_chunk_count shape sizes
   pub filled : AreFilled it.runs.items
   pub inside : EndWithin (product shape) it.runs.items
+  pub apart : AreApart it.runs.items

@@ -4,7 +4,7 @@ ghost use Rattle.std.specs.List.{flat_map};
 ghost use Rattle.std.specs.List.Sorted.{IsNonDecreasingBy};
 ghost use Rattle.zarrs_chain_meaning.specs.sharding.InnerChunks.{is_divided};
 ghost use Rattle.zarrs_chunk.specs.ChunkShape.{product};
-ghost use Rattle.zarrs_chunk.specs.Runs.{AreFilled, EndWithin, joined_runs};
+ghost use Rattle.zarrs_chunk.specs.Runs.{AreApart, AreFilled, EndWithin, joined_runs};
 ghost use Rattle.zarrs_shard_runs.specs.CutRuns.{places_of_cut};
 ghost use Rattle.zarrs_shard_runs.specs.GroupedRuns.{AreGroups, IsReadingOrder, group, order_places};
 ghost use Rattle.zarrs_shard_runs.specs.Groups.{AreGrouped};
@@ -17,7 +17,7 @@ use std::alloc::{AllocError, Global};
 use zarrs_chunk::ChunkShape;
 
 /// An inner chunk, and runs of places in it.
-#[derive(Drop)]
+#[derive(Debug, Drop)]
 pub struct InnerRuns {
     /// The inner chunk's number, row by row.
     pub number: u64,
@@ -26,7 +26,7 @@ pub struct InnerRuns {
 }
 
 /// Runs of places of a shard, by inner chunks.
-#[derive(Drop)]
+#[derive(Debug, Drop)]
 pub struct GroupedRuns {
     /// The inner chunks that have any of the places, in the order of their numbers.
     pub groups: Vec<InnerRuns>,
@@ -72,6 +72,7 @@ fn inner_runs(alloc: Global, cuts: &[CutRun]) -> Result<Vec<(u64, u64)>, AllocEr
     ensures places { IfOk result
         (λ runs. joined_runs runs.items ≡ flat_map places_of_cut cuts.now) }
     ensures filled { IfOk result (λ runs. AreFilled runs.items) }
+    ensures apart { IfOk result (λ runs. AreApart runs.items) }
     ensures inside { (limit : ℕ) → All (λ it. it.start + it.len ≤ limit) cuts.now
         → IfOk result (λ runs. EndWithin limit runs.items) }
 {
@@ -89,6 +90,7 @@ fn groups(alloc: Global, cuts: &[CutRun]) -> Result<Vec<InnerRuns>, AllocError>
     requires fits { All (λ it. it.start + it.len < 2 ^ 64) cuts.now }
     ensures groups { IfOk result (λ v. AreGrouped cuts.now (map group v.items)) }
     ensures filled { IfOk result (λ v. All (λ it. AreFilled it.runs.items) v.items) }
+    ensures apart { IfOk result (λ v. All (λ it. AreApart it.runs.items) v.items) }
     ensures inside { (limit : ℕ) → All (λ it. it.start + it.len ≤ limit) cuts.now
         → IfOk result (λ v. All (λ it. EndWithin limit it.runs.items) v.items) }
 {
@@ -122,6 +124,7 @@ fn group_cuts(
         (order_places (length (joined_runs runs.now)) it.order)) }
     ensures order_inside { IfOk result (λ it. IfSome it.order
         (λ order. EndWithin (length (joined_runs runs.now)) order.items)) }
+    ensures order_apart { IfOk result (λ it. IfSome it.order (λ order. AreApart order.items)) }
 {
     let mut cuts = cut_runs(alloc, inner.as_slice(), shape.as_slice(), runs)?;
     if are_in_order(cuts.as_slice()) {
@@ -159,6 +162,7 @@ pub fn group_runs(
         (order_places (length (joined_runs runs.now)) it.order)) }
     ensures order_inside { IfOk result (λ it. IfSome it.order
         (λ order. EndWithin (length (joined_runs runs.now)) order.items)) }
+    ensures order_apart { IfOk result (λ it. IfSome it.order (λ order. AreApart order.items)) }
 {
     if let Some(only) = runs_of_one(alloc, inner.as_slice(), shape.as_slice(), runs)? {
         let mut groups = Vec::with_capacity(alloc, 1)?;

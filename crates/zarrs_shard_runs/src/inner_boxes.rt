@@ -9,7 +9,7 @@ use std::alloc::{AllocError, Global};
 use zarrs_chunk::{ArraySubset, ChunkShape};
 
 /// A window of a shard, as a box of the one inner chunk in which it lies.
-#[derive(Drop)]
+#[derive(Debug, Drop)]
 pub struct InnerBox {
     /// The inner chunk's number, row by row.
     pub number: u64,

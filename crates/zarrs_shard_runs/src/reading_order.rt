@@ -1,7 +1,7 @@
 //! In which order what is read of inner chunks is the answer.
 ghost use Rattle.std.specs.Prelude.{◌≡◌, ◌+◌, ◌-◌, ◌<◌, ◌≤◌, ◌^◌, ℕ, IfOk, OnOk, length};
 ghost use Rattle.std.specs.List.{range_with_len};
-ghost use Rattle.zarrs_chunk.specs.Runs.{AddsPlaces, AreFilled, EndWithin, StayWithin, joined_runs};
+ghost use Rattle.zarrs_chunk.specs.Runs.{AddsPlaces, AreApart, AreFilled, EndWithin, StayWithin, joined_runs};
 ghost use Rattle.zarrs_shard_runs.specs.CutRuns.{cells};
 ghost use Rattle.zarrs_shard_runs.specs.Groups.{AreIndexed, AreSpans};
 
@@ -15,6 +15,7 @@ pub(crate) fn append_run(runs: &mut Vec<(u64, u64)>, start: u64, len: u64) -> Re
     ensures filled { OnOk result (0 < len → AreFilled runs.old.items → AreFilled runs.new.items) }
     ensures below { (limit : ℕ) → start + len ≤ limit
         → OnOk result (StayWithin limit runs.old.items runs.new.items) }
+    ensures apart { OnOk result (AreApart runs.old.items → AreApart runs.new.items) }
 {
     let count = runs.len();
     if count > 0 {
@@ -37,6 +38,7 @@ pub(crate) fn join_neighbours(
     ensures places { IfOk result (λ v. joined_runs v.items ≡ joined_runs runs.now) }
     ensures below { (limit : ℕ) → EndWithin limit runs.now
         → IfOk result (λ v. EndWithin limit v.items) }
+    ensures apart { IfOk result (λ v. AreApart v.items) }
 {
     let mut joined = Vec::new(alloc);
     for (start, len) in runs {

@@ -35,6 +35,7 @@ returns-then-are_in_order-clause-groups c =
       groups = groups_of_sorted inner shape places cuts cuts c.as_slice-then-are_in_order.result.now (map group c.in_ok-groups.groups.items) of (IsPermutation-refl cuts) c.as_slice-then-are_in_order.ensures.value (λ x. refl) c.in_ok-groups.ensures.groups;
       filled = c.in_ok-groups.ensures.filled;
       inside = c.in_ok-groups.ensures.inside (product inner) are.inside;
+      apart = c.in_ok-groups.ensures.apart;
     }
 
 pub returns-then-are_in_order-clause-order : goal.returns-then-are_in_order-clause-order
@@ -129,6 +130,7 @@ returns-clause-groups c =
       groups = groups_of_sorted inner shape places cuts sorted c.as_slice-4.result.now (map group c.in_ok-groups-2.groups.items) of c.in_ok-sort_by_key.ensures.permutation c.as_slice-4.ensures.value stable c.in_ok-groups-2.ensures.groups;
       filled = c.in_ok-groups-2.ensures.filled;
       inside = c.in_ok-groups-2.ensures.inside (product inner) are.inside;
+      apart = c.in_ok-groups-2.ensures.apart;
     }
 
 pub returns-clause-order : goal.returns-clause-order

@@ -1,7 +1,7 @@
 use Rattle.std.proofs.Common.{◌≡◌, ◌+◌, ◌-◌, ◌<◌, ◌≤◌, take, drop, get_or, length, map, arith, ap, sym, subst}
 use Rattle.std.proofs.lemmas.List.{map_push, take_rest}
 use Rattle.std.proofs.lemmas.List.Elements.{All-drop, All-push, All-take}
-use Rattle.zarrs_chunk.specs.Runs.{AreFilled, EndWithin, joined_runs}
+use Rattle.zarrs_chunk.specs.Runs.{AreApart, AreFilled, EndWithin, joined_runs}
 use Rattle.zarrs_shard_runs.specs.GroupedRuns.{group}
 use Rattle.zarrs_shard_runs.specs.declared.cut_runs.CutRun.{CutRun}
 use Rattle.zarrs_shard_runs.specs.declared.grouped_runs.InnerRuns.{InnerRuns}
@@ -25,5 +25,6 @@ loop-at-preserved c =
     rw c.in_ok-push.ensures.items (record {
       grouped = subst (AreGroupedTo cuts (at + count)) (sym (map_push group found it)) next;
       filled = All-push (λ (it : InnerRuns). AreFilled it.runs.items) found it c.loop-at.invariant.filled c.in_ok-runs.ensures.filled;
+      apart = All-push (λ (it : InnerRuns). AreApart it.runs.items) found it c.loop-at.invariant.apart c.in_ok-runs.ensures.apart;
       inside = λ limit h. All-push (λ (it : InnerRuns). EndWithin limit it.runs.items) found it (c.loop-at.invariant.inside limit h) (c.in_ok-runs.ensures.inside limit (All-take (λ (it : CutRun). it.start + it.len ≤ limit) (at + count - at) (drop at cuts) (All-drop (λ (it : CutRun). it.start + it.len ≤ limit) at cuts h)));
     })

@@ -14,4 +14,5 @@ loop-cut-preserved c =
       places = c.in_ok-append_run.ensures.places ∙ ap (λ ns. ns ++ places_of_cut (get_or cuts index zero)) c.loop-cut.invariant.places ∙ sym (flat_map-take_more places_of_cut cuts index zero here);
       filled = c.in_ok-append_run.ensures.filled (c.requires.filled index zero here) c.loop-cut.invariant.filled;
       inside = λ limit h. c.in_ok-append_run.ensures.below limit (h index zero here) (c.loop-cut.invariant.inside limit h);
+      apart = c.in_ok-append_run.ensures.apart c.loop-cut.invariant.apart;
     }

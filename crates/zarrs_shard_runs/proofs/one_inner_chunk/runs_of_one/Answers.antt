@@ -48,6 +48,7 @@ loop-start-preserved c =
       cells = cells_more parts sizes c.blocks_of-blocks.result c.next_stand-stand.result c.stand_at-stand.result.number runs c.loop-start.moved.items c.append_run.new.runs.items index c.blocks_of-blocks.ensures.blocks stand room (omega arith) here c.loop-start.invariant.cells c.in_ok-append_run.ensures.places;
       filled = c.in_ok-append_run.ensures.filled (c.requires.filled index (0, 0) here) c.loop-start.invariant.filled;
       inside = c.in_ok-append_run.ensures.below _ within c.loop-start.invariant.inside;
+      apart = c.in_ok-append_run.ensures.apart c.loop-start.invariant.apart;
     }
 
 pub returns : goal.returns
@@ -64,5 +65,6 @@ returns c =
         number = subst (λ n. n < inner_chunk_count parts sizes) (sym c.stand_at-stand.ensures.stand.number) ((is_cut parts sizes c.requires.positive c.requires.divided).chunk_below _ (omega (arith, c.requires.inside 0 (0, 0) some, c.requires.filled 0 (0, 0) some)));
         filled = c.loop-start.invariant.filled;
         inside = c.loop-start.invariant.inside;
+        apart = c.loop-start.invariant.apart;
       };
     }

@@ -11,4 +11,5 @@ loop-start-preserved c =
     record {
       places = c.in_ok-append_run.ensures.places ∙ ap (λ ns. ns ++ range_with_len (get_or runs index (0, 0)).0 (get_or runs index (0, 0)).1) c.loop-start.invariant.places ∙ sym (joined_runs-take_more runs index here);
       below = λ limit h. c.in_ok-append_run.ensures.below limit (h index (0, 0) here) (c.loop-start.invariant.below limit h);
+      apart = c.in_ok-append_run.ensures.apart c.loop-start.invariant.apart;
     }
