@@ -169,7 +169,8 @@ def test_bombs(codec, form):
 def test_values_of_the_due_length_and_one_more(codec, rng):
     for size in (2, 255, 256, 300, 65_535, 65_536, 70_000, 1 << 20):
         value = rng.bytes(size)
-        assert Chain(["bytes", codec], (size,), "uint8").decode(compressed(codec, value)).tobytes() == value
+        stored = compressed(codec, value)
+        assert Chain(["bytes", codec], (size,), "uint8").decode(stored).tobytes() == value
         for other in (value + b"\0", value[:-1]):
             with pytest.raises(z.InvalidBytesLength, match="bytes, where"):
                 Chain(["bytes", codec], (size,), "uint8").decode(compressed(codec, other))
@@ -177,9 +178,10 @@ def test_values_of_the_due_length_and_one_more(codec, rng):
 
 @pytest.mark.parametrize("codec", [GZIP, ZSTD, BLOSC], ids=["gzip", "zstd", "blosc"])
 def test_a_shard_with_gaps_that_is_compressed_whole(codec):
-    chain = Chain([*sharded([1], ["bytes"]), codec], (2,), "uint8", 0)
     index = np.array([[0, 1], [3, 1]], "<u8").tobytes()
-    assert chain.decode(compressed(codec, b"\x07\0\0\x08" + index)).tolist() == [7, 8]
+    stored = compressed(codec, b"\x07\0\0\x08" + index)
+    chain = Chain([*sharded([1], ["bytes"]), codec], (2,), "uint8", 0)
+    assert chain.decode(stored).tolist() == [7, 8]
 
 
 def test_members_of_gzip():
