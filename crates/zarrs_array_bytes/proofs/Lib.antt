@@ -1,6 +1,9 @@
 pub mod OffsetLemmas
 pub mod RunLemmas
 pub mod Pieces
+pub mod ReversedPieces
+pub mod Turned
+pub mod TurnedParts
 pub mod FillLemmas
 pub mod UpdateSteps
 pub mod ValidLemmas

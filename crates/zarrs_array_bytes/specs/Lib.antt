@@ -12,6 +12,7 @@ pub mod Blank
 pub mod Tight
 pub mod WrongLength
 pub mod Pieces
+pub mod Turned
 pub mod Cuts
 pub mod Given
 pub mod Extracted

@@ -6,7 +6,7 @@ use Rattle.std.proofs.lemmas.Nat.{div-mul-add}
 use Rattle.std.proofs.Math.Nat.{mul-le-mul_right}
 use Rattle.zarrs_array_bytes.specs.Elements.{piece}
 use Rattle.zarrs_array_bytes.proofs.RunLemmas.{piece_is}
-use Rattle.zarrs_array_bytes.proofs.ElementLemmas.{piece_at, length_between, length-flat_map_sized}
+use Rattle.zarrs_array_bytes.proofs.ElementLemmas.{piece_at, length_between}
 use Rattle.zarrs_array_to_array.specs.declared.transpose.axis.Axis.{Axis}
 use Rattle.zarrs_array_to_array.specs.Strides.{row, next_rows}
 use Rattle.zarrs_array_to_array.specs.Axes.{behind, reach, stretch}
@@ -71,7 +71,8 @@ in_block x k width size = grind arith
 in_chunk : (place x size : ℕ) → place * size + x * size ≡ (x * 1 + place) * size
 in_chunk place x size = grind arith
 
-fits_in_row : (x width size : ℕ) → x < width → x * size + size ≤ width * size
+-- a part ends where the next one begins
+pub fits_in_row : (x width size : ℕ) → x < width → x * size + size ≤ width * size
 fits_in_row x width size l =
     let e : (x + 1) * size ≡ x * size + size = omega arith in
     omega (arith, mul-le-mul_right {m = x + 1} {n = width} size (omega arith))
@@ -97,9 +98,6 @@ module _ (size width : ℕ) (items places : List ℕ) (inside : (j : ℕ) → j 
       ∙ ap (take size) (drop-drop (x * size) (place * size) items)
       ∙ ap (λ n. take size (drop n items)) (in_chunk place x size)
       ∙ sym (piece_is size (x * 1 + place) items)
-
-  pub length_block : length (flat_map (stretch (width * size) size items) places) ≡ length places * (width * size)
-  length_block = length-flat_map_sized (stretch (width * size) size items) (width * size) places 0 each_stretch
 
 -- the columns of a block that was copied row by row
 pub block_turned : (size front width : ℕ) (axes : List Axis) (items : List ℕ) → ((j : ℕ) → j < length (behind axes (front ∷ [])) → get_or (behind axes (front ∷ [])) j 0 * size + width * size ≤ length items)

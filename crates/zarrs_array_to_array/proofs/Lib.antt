@@ -23,7 +23,8 @@ pub mod CheckedTuples
 pub mod PlaneRows
 pub mod SwappedAxes
 pub mod RowGroups
-pub mod ElementWords
+pub mod WrittenParts
+pub mod WrittenElements
 pub mod Tiles
 pub mod TileRows
 pub mod AxisRows

@@ -4,7 +4,7 @@ use Rattle.std.proofs.lemmas.List.FromFn.{length-map-range_with_len}
 use Rattle.zarrs_chunk.specs.Answer.{◌>>=◌, demand, checked_u64, AnswersBy, memory}
 use Rattle.zarrs_chunk.specs.ChunkShape.{product}
 use Rattle.zarrs_chunk.specs.declared.codec_error.CodecError.{CodecError}
-use Rattle.zarrs_chunk.specs.declared.codec_error.CodecError.TheVariants.{IncompatibleDimensionality}
+use Rattle.zarrs_chunk.specs.declared.codec_error.CodecError.TheVariants.{IncompatibleDimensionality, OutOfMemory}
 use Rattle.zarrs_data_type.specs.ElementType.{ElementType}
 use Rattle.zarrs_data_type.specs.Element.{Chunk}
 use Rattle.zarrs_array_bytes.specs.Held.{Held}
@@ -32,6 +32,10 @@ use Rattle.zarrs_array_to_array.proofs.Squeezing.{product-squeezed}
 pub where_expected : {T V : Type 0} (R : T → V → Type 0) (r : Result T CodecError) (expected : Result V CodecError) → AnswersBy memory R r expected → IfOk expected (λ v. AnswersBy memory R r (Ok v))
 where_expected R r (Ok v) h = h
 where_expected R r (Err e) h = tt
+
+-- lack of memory may come in the place of all
+pub no_memory : {T V : Type 0} (expected : Result V CodecError) (R : T → V → Type 0) → IfOk expected (λ v. AnswersBy memory R (Err OutOfMemory) (Ok v))
+no_memory expected R = where_expected R (Err OutOfMemory) expected (λ h. absurd (cc))
 
 -- steps in one chain, or a chain in steps
 one_chain : {A M C : Type 0} (a b d : Result (Unit {0}) CodecError) (c : Result A CodecError) (m : M) (f : M → C) → ((a >>= λ _. b >>= λ _. c >>= λ _. d) >>= λ _. Ok (f m)) ≡ ((a >>= λ _. (b >>= λ _. Ok m) >>= λ n. c >>= λ _. d >>= λ _. Ok n) >>= λ n. Ok (f n))
@@ -97,6 +101,33 @@ kept_decoded (Ok m) type sizes held same = go (checked_u64 (product sizes)) (val
     go (Err e) v h = tt
     go (Ok n) (Err e) h = tt
     go (Ok n) (Ok u) h = let at = same m refl in rw at.0 (holds_kept type (product sizes) held sizes h refl)
+
+-- so does a copy of it
+pub copied_encoded : (coordinates : Result CoordinateMap CodecError) (type : ElementType) (sizes : List ℕ) (held : Held) (answer : Result Held CodecError) → (validity type (product sizes) held ≡ Ok tt → answer ≡ Ok held)
+    → ((m : CoordinateMap) → coordinates ≡ Ok m → (m ≡ same_places m.encoded) × (product m.encoded ≡ product sizes)) → IfOk (encoded_chunk (Ok tt) coordinates type sizes held) (λ chunk. AnswersBy memory (Holds type) answer (Ok chunk))
+copied_encoded (Err e) type sizes held answer is same = tt
+copied_encoded (Ok m) type sizes held answer is same = go (checked_u64 (product sizes)) (validity type (product sizes) held) refl
+  where
+    go : (c : Result ℕ CodecError) (v : Result (Unit {0}) CodecError) → validity type (product sizes) held ≡ v → IfOk ((c >>= λ _. v >>= λ _. Ok m) >>= λ n. Ok (moved_chunk n (elements type (product sizes) held))) (λ chunk. AnswersBy memory (Holds type) answer (Ok chunk))
+    go (Err e) v h = tt
+    go (Ok n) (Err e) h = tt
+    go (Ok n) (Ok u) h =
+        let at = same m refl in
+        let there : answer ≡ Ok held = is h in
+        rw there (rw at.0 (holds_kept type (product sizes) held m.encoded h at.1))
+
+pub copied_decoded : (coordinates : Result CoordinateMap CodecError) (type : ElementType) (sizes : List ℕ) (held : Held) (answer : Result Held CodecError) → (validity type (product sizes) held ≡ Ok tt → answer ≡ Ok held)
+    → ((m : CoordinateMap) → coordinates ≡ Ok m → (m ≡ same_places m.encoded) × (product m.encoded ≡ product sizes)) → IfOk (decoded_chunk (Ok tt) coordinates type sizes held) (λ chunk. AnswersBy memory (Holds type) answer (Ok chunk))
+copied_decoded (Err e) type sizes held answer is same = tt
+copied_decoded (Ok m) type sizes held answer is same = go (checked_u64 (product sizes)) (validity type (product sizes) held) refl
+  where
+    go : (c : Result ℕ CodecError) (v : Result (Unit {0}) CodecError) → validity type (product sizes) held ≡ v → IfOk ((c >>= λ _. v >>= λ _. Ok m) >>= λ n. Ok (moved_chunk (inverse_map sizes n) (elements type (product sizes) held))) (λ chunk. AnswersBy memory (Holds type) answer (Ok chunk))
+    go (Err e) v h = tt
+    go (Ok n) (Err e) h = tt
+    go (Ok n) (Ok u) h =
+        let at = same m refl in
+        let there : answer ≡ Ok held = is h in
+        rw there (rw at.0 (holds_kept type (product sizes) held sizes h refl))
 
 -- ---- the decoded sizes
 

@@ -17,11 +17,6 @@ flat_map-row_more f front step n =
     ap (flat_map f) (row_more front step n) ∙ flat_map-append f (row front step n) ((front + n * step) ∷ [])
     ∙ ap (λ xs. flat_map f (row front step n) ++ xs) (append-nil (f (front + n * step)))
 
--- one row more of a list
-pub more_of_row : (out : List ℕ) (f : ℕ → List ℕ) (front step n : ℕ) → (out ++ flat_map f (row front step n)) ++ f (front + n * step) ≡ out ++ flat_map f (row front step (n + 1))
-more_of_row out f front step n =
-    append_assoc out (flat_map f (row front step n)) (f (front + n * step)) ∙ ap (λ xs. out ++ xs) (sym (flat_map-row_more f front step n))
-
 -- one row more of a plane
 pub more_of_plane : (out : List ℕ) (f : ℕ → List ℕ) (s m front step n : ℕ)
     → (out ++ flat_map f (next_rows s m (row front step n))) ++ flat_map f (row (front + n * step) s m) ≡ out ++ flat_map f (next_rows s m (row front step (n + 1)))

@@ -70,7 +70,3 @@ group_inside front step size len at k =
   where
     add-mul : (a b c : ℕ) → (a + b) * c ≡ a * c + b * c
     add-mul a b c = omega arith
-
--- a row is its first half and the other behind it
-pub halves : (f : ℕ → List ℕ) (front step n : ℕ) → flat_map f (row front step n) ++ flat_map f (row (front + n * step) step n) ≡ flat_map f (row front step (n + n))
-halves f front step n = group_more [] f front step n n (n + n) refl

@@ -248,12 +248,3 @@ vectors_inside size (suc n) front at s step k len e one h =
     let here : (front + (at + n) + k * step) * size + size ≤ len = subst (λ m. (front + m + k * step) * size + size ≤ len) last h in
     let spread : (front + (at + n) + k * step) * size + size ≡ (front + at + k * step) * size + suc n * size = grind arith in
     omega (arith, here, spread, e)
-
--- rows of elements that stand as far apart as there are rows are no longer than what they come from
-pub rows_fit : (size n front count step len : ℕ) → n * size ≡ 16 → n ≤ step → ((k : ℕ) → k < count → (front + k * step) * size + 16 ≤ len) → count * 16 ≤ len
-rows_fit size n front zero step len e l h = omega arith
-rows_fit size n front (suc k) step len e l h =
-    let apart : k * n ≤ front + k * step = omega (arith, mul-le-mul_left {m = n} {n = step} k l) in
-    let whole : k * n * size ≡ k * (n * size) = grind arith in
-    let counted : k * (n * size) ≡ k * 16 = ap (λ m. k * m) e in
-    omega (arith, h k (omega arith), mul-le-mul_right {m = k * n} {n = front + k * step} size apart, whole, counted)

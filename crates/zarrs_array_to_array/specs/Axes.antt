@@ -1,9 +1,6 @@
 -- The places of a chunk's elements, axis by axis.
-use Rattle.std.specs.Prelude.{◌≡◌, ℕ, ◌+◌, ◌*◌, ◌-◌, ◌<◌, ◌≤◌, List, Vec, [], ◌∷◌, length, map, slice_index, Result}
+use Rattle.std.specs.Prelude.{◌≡◌, ℕ, ◌+◌, ◌*◌, ◌-◌, ◌<◌, ◌≤◌, List, [], ◌∷◌, length, map, slice_index}
 use Rattle.std.specs.List.{between, flat_map}
-use Rattle.std.specs.declared.alloc.Global.{Global}
-use Rattle.zarrs_chunk.specs.Answer.{Appends}
-use Rattle.zarrs_array_bytes.specs.Pieces.{pieces_at}
 use Rattle.zarrs_array_to_array.specs.declared.transpose.axis.Axis.{Axis}
 use Rattle.zarrs_array_to_array.specs.Strides.{row, next_rows}
 
@@ -19,6 +16,11 @@ behind (axis ∷ axes) fronts = behind axes (next_rows axis.step axis.size front
 -- the places of all tuples over these axes
 abbrev pub axes_places : List Axis → List ℕ
 axes_places axes = behind axes (0 ∷ [])
+
+-- how many tuples there are over these axes
+abbrev pub tuples : List Axis → ℕ
+tuples [] = 1
+tuples (axis ∷ axes) = axis.size * tuples axes
 
 -- how many places the last tuple over these axes stands behind the first
 abbrev pub reach : List Axis → ℕ
@@ -60,25 +62,3 @@ RowInside len size front step count items =
 abbrev pub PlaneInside : ℕ → ℕ → Axis → Axis → List ℕ → Type 0
 PlaneInside size front rows columns items =
     (r k : ℕ) → r < rows.size → k < columns.size → (front + r * rows.step + k * columns.step) * size + size ≤ length items
-
--- ---- what a call that answers Ok has put at the end of bytes, where each element has `size` of them
-
--- so many bytes from each element of a row on: it has `count` elements, a step apart
-abbrev pub AppendsRow : {E : Type 0} → ℕ → ℕ → ℕ → ℕ → ℕ → List ℕ → Vec ℕ Global → Vec ℕ Global → Result (Unit {0}) E → Type 0
-AppendsRow len size front step count bytes old new result =
-    Appends old new result (stretches_at len size bytes (row front step count))
-
--- the same of the row along an axis
-abbrev pub AppendsAlong : {E : Type 0} → ℕ → ℕ → ℕ → Axis → List ℕ → Vec ℕ Global → Vec ℕ Global → Result (Unit {0}) E → Type 0
-AppendsAlong len size front axis bytes old new result =
-    AppendsRow len size front axis.step axis.size bytes old new result
-
--- so many neighbouring columns, one after another: a column has the elements of all tuples over the axes
-abbrev pub AppendsColumns : {E : Type 0} → ℕ → ℕ → ℕ → List Axis → List ℕ → Vec ℕ Global → Vec ℕ Global → Result (Unit {0}) E → Type 0
-AppendsColumns size front width axes bytes old new result =
-    Appends old new result (pieces_at size bytes (behind axes (row front 1 width)))
-
--- the elements of a plane, its rows one after another
-abbrev pub AppendsPlane : {E : Type 0} → ℕ → ℕ → Axis → Axis → List ℕ → Vec ℕ Global → Vec ℕ Global → Result (Unit {0}) E → Type 0
-AppendsPlane size front rows columns bytes old new result =
-    Appends old new result (pieces_at size bytes (plane_places front rows columns))

@@ -35,3 +35,4 @@ pub mod Axes
 pub mod Stages
 pub mod Tiles
 pub mod Vectors
+pub mod WrittenElements

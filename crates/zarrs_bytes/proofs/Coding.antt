@@ -18,7 +18,8 @@ use Rattle.zarrs_array_bytes.specs.Parts.{fixed_part}
 use Rattle.zarrs_array_bytes.specs.Validity.{Holds, validity}
 use Rattle.zarrs_array_bytes.specs.Pieces.{pieces}
 use Rattle.zarrs_array_bytes.proofs.Pieces.{pieces_sized, elements-pieces, read_pieces}
-use Rattle.zarrs_bytes.specs.ByteOrder.{turned_bytes, bytes_in_order, has_order, spelled_chunk}
+use Rattle.zarrs_array_bytes.specs.Turned.{turned_bytes}
+use Rattle.zarrs_bytes.specs.ByteOrder.{bytes_in_order, has_order, spelled_chunk}
 use Rattle.zarrs_bytes.specs.BytesCodec.{bytes_length, bytes_value, bytes_chunk, bytes_element, turn_size, needs_memory}
 use Rattle.zarrs_bytes.proofs.Spelled.{length-turned_bytes, turned_is, spelled_chunk-plain, Holds-pieces}
 

@@ -3,13 +3,10 @@ pub mod BytesAt
 pub mod PlaceBatches
 pub mod CodecLaws
 pub mod Coding
-pub mod ReversedPieces
 pub mod ByteRuns
 pub mod Exact
 pub mod ByGrammar
 pub mod InPlace
-pub mod Turned
-pub mod TurnedParts
 pub mod Ranges
 pub mod Reading
 pub mod PartReads

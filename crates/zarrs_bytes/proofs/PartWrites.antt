@@ -24,7 +24,8 @@ use Rattle.zarrs_array_bytes.proofs.ValidLemmas.{length_found}
 use Rattle.zarrs_array_bytes.proofs.WriteLemmas.{length-update, map-update}
 use Rattle.zarrs_codec.specs.CountLaws.{passed, same_value}
 use Rattle.zarrs_codec.specs.StorageState.{value_or_empty}
-use Rattle.zarrs_bytes.specs.ByteOrder.{bytes_in_order, spelled_chunk, turned_bytes}
+use Rattle.zarrs_array_bytes.specs.Turned.{turned_bytes}
+use Rattle.zarrs_bytes.specs.ByteOrder.{bytes_in_order, spelled_chunk}
 use Rattle.zarrs_bytes.specs.BytesCodec.{bytes_length, bytes_value, spelling, turn_size, BytesStands, BytesWritten}
 use Rattle.zarrs_bytes.specs.PartialRead.{place_size}
 use Rattle.zarrs_bytes.specs.PartialWrite.{bytes_left, filled_chunk, with_place_bytes, StartsFrom, StoresChunk}

@@ -16,7 +16,8 @@ use Rattle.zarrs_array_bytes.specs.Held.{Raw, flen}
 use Rattle.zarrs_array_bytes.specs.Validity.{Holds}
 use Rattle.zarrs_array_bytes.specs.Pieces.{pieces}
 use Rattle.zarrs_array_bytes.proofs.Pieces.{AllSized, length-concat, pieces-concat}
-use Rattle.zarrs_bytes.specs.ByteOrder.{turned_bytes, bytes_in_order}
+use Rattle.zarrs_array_bytes.specs.Turned.{turned_bytes}
+use Rattle.zarrs_bytes.specs.ByteOrder.{bytes_in_order}
 use Rattle.zarrs_bytes.specs.BytesCodec.{bytes_element, turn_size}
 use Rattle.zarrs_bytes.specs.PartialRead.{bytes_at, place_size, IsFilledType, read_places}
 use Rattle.zarrs_bytes.proofs.Coding.{ok}

@@ -15,9 +15,10 @@ use Rattle.zarrs_array_bytes.specs.Held.{Raw, flen}
 use Rattle.zarrs_array_bytes.specs.Validity.{Holds}
 use Rattle.zarrs_array_bytes.specs.Pieces.{pieces}
 use Rattle.zarrs_array_bytes.proofs.Pieces.{AllSized, length-pieces, pieces_sized, length-concat, pieces-concat, concat-pieces, elements-pieces}
-use Rattle.zarrs_bytes.specs.ByteOrder.{reversed_pieces, turned_bytes, bytes_in_order, spelled_chunk}
+use Rattle.zarrs_array_bytes.specs.Turned.{reversed_pieces, turned_bytes}
+use Rattle.zarrs_bytes.specs.ByteOrder.{bytes_in_order, spelled_chunk}
 use Rattle.zarrs_bytes.specs.BytesCodec.{turn_size}
-use Rattle.zarrs_bytes.proofs.ReversedPieces.{reverse_sized, length-reversed_pieces, reversed_pieces-groups, reversed_pieces-single}
+use Rattle.zarrs_array_bytes.proofs.ReversedPieces.{reverse_sized, length-reversed_pieces, reversed_pieces-groups, reversed_pieces-single}
 
 -- ---- one element
 

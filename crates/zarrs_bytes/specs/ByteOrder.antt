@@ -1,26 +1,16 @@
 -- The bytes of elements, each component in a byte order.
-use Rattle.std.specs.Prelude.{ℕ, ◌*◌, ◌/◌, nat_le, Bool, true, Option, Some, None, List, [], ◌++◌, length, map, drop, reverse}
+use Rattle.std.specs.Prelude.{ℕ, nat_le, Bool, true, Option, Some, None, List, [], map}
 use Rattle.std.specs.List.{concat}
 use Rattle.zarrs_data_type.specs.Element.{Element, plain, Chunk}
 use Rattle.zarrs_data_type.specs.ElementType.{component_bytes}
 use Rattle.zarrs_data_type.specs.declared.endianness.Endianness.{Endianness}
 use Rattle.zarrs_data_type.specs.declared.endianness.Endianness.TheVariants.{Little, Big}
-use Rattle.zarrs_array_bytes.specs.Pieces.{pieces}
-
--- so many pieces of a size, each turned round, joined in order
-abbrev pub reversed_pieces : ℕ → ℕ → List ℕ → List ℕ
-reversed_pieces size count bytes = concat (map reverse (pieces size count bytes))
+use Rattle.zarrs_array_bytes.specs.Turned.{reversed_pieces}
 
 -- An element's bytes with its components in the byte order: as they are for little, each component turned round for big. In memory each component has its lowest byte first, so the same step leads from memory to a value and back.
 abbrev pub bytes_in_order : Option Endianness → ℕ → ℕ → List ℕ → List ℕ
 bytes_in_order (Some Big) width components bytes = reversed_pieces (component_bytes width) components bytes
 bytes_in_order order width components bytes = bytes
-
--- where a size is given, each whole piece of that size reversed; the bytes left over at the end stay
-abbrev pub turned_bytes : Option ℕ → List ℕ → List ℕ
-turned_bytes None bytes = bytes
-turned_bytes (Some size) bytes =
-    reversed_pieces size (length bytes / size) bytes ++ drop (length bytes / size * size) bytes
 
 -- a component has a byte order, or one byte at most and so needs none
 abbrev pub has_order : Option Endianness → ℕ → Bool

@@ -22,7 +22,7 @@ use Rattle.zarrs_codec.specs.StorageState.{StorageState, value_indices, value_or
 use Rattle.zarrs_bytes.specs.BytesGrammar.{bytes_grammar}
 use Rattle.zarrs_codec.specs.CodersOverHandles.{EditsFrom, Stores}
 use Rattle.zarrs_data_type.specs.Form.{Form, form_of}
-use Rattle.zarrs_bytes.specs.ByteOrder.{turned_bytes}
+use Rattle.zarrs_array_bytes.specs.Turned.{turned_bytes}
 use Rattle.zarrs_bytes.specs.BytesCodec.{spelling, turn_size}
 use Rattle.zarrs_bytes.specs.PartialRead.{place_bytes, place_size}
 

@@ -10,10 +10,9 @@ ghost use Rattle.zarrs_codec.specs.Grammar.{Encodes, Decodes};
 ghost use Rattle.zarrs_bytes.specs.BytesCodec.{bytes_length, turn_size as turn_size_of, RepresentsNow, EncodedNow, DecodedNow};
 ghost use Rattle.zarrs_bytes.specs.GivenBytes.{IsGiven, HoldsGiven};
 
-use crate::byte_order::turn;
 use std::alloc::Global;
 use std::marker::Model;
-use zarrs_array_bytes::{ArrayBytes, ArrayBytesRaw};
+use zarrs_array_bytes::{ArrayBytes, ArrayBytesRaw, turn};
 use zarrs_chunk::{ChunkShape, CodecError, CodecName};
 use zarrs_codec::BytesRepresentation;
 use zarrs_data_type::{DataType, Endianness, FillValue, HasComponents};
@@ -89,7 +88,7 @@ impl BytesCodec {
 
     /// How many bytes the components have that are turned round, or `None` where all bytes stay in
     /// their places.
-    pub(crate) fn turn_size(&self, data_type: &DataType) -> Option<usize>
+    pub fn turn_size(&self, data_type: &DataType) -> Option<usize>
         ensures size { result ≡ turn_size_of self.now data_type.now }
         ensures positive { IfSome result (λ size. 0 < size) }
     {

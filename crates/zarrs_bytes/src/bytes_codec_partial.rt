@@ -23,11 +23,10 @@ ghost use Rattle.zarrs_bytes.specs.PlannedRanges.{NoneIsEmpty, PlansPlaces};
 ghost use Rattle.zarrs_bytes.specs.ReadingCalls.{CountsRuns};
 
 use crate::batches::{read_bytes, run_ranges};
-use crate::byte_order::hold_turned;
 use crate::bytes_codec::BytesCodec;
 use std::alloc::{AllocError, Global};
 use std::borrow::CowSlice;
-use zarrs_array_bytes::{ArrayBytes, append_copies};
+use zarrs_array_bytes::{ArrayBytes, append_copies, hold_turned};
 use zarrs_chunk::{ChunkShape, CodecError, Indexer, count_places};
 use zarrs_codec::{ByteRange, BytesPartialDecoderTraits, BytesPartialEncoderTraits, Refused};
 use zarrs_data_type::{DataType, FillValue};

@@ -7,7 +7,6 @@
 
 mod array_to_bytes;
 mod batches;
-mod byte_order;
 mod bytes_codec;
 mod bytes_codec_coders;
 mod bytes_codec_partial;

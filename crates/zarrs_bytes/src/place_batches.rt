@@ -18,12 +18,11 @@ ghost use Rattle.zarrs_bytes.specs.PlannedRanges.{NoneIsEmpty, indices_until};
 ghost use Rattle.zarrs_bytes.specs.ReadingCalls.{are_scattered, calls_for_places, follows_count, CountsBatches, MakesBatches};
 
 use crate::batches::BATCH;
-use crate::byte_order::hold_turned;
 use crate::bytes_codec::BytesCodec;
 use crate::bytes_codec_partial::element_size;
 use std::alloc::{AllocError, Global};
 use std::borrow::CowSlice;
-use zarrs_array_bytes::{ArrayBytes, append_copies};
+use zarrs_array_bytes::{ArrayBytes, append_copies, hold_turned};
 use zarrs_chunk::{CodecError, runs_of_places};
 use zarrs_codec::{ByteRange, BytesPartialDecoderTraits};
 use zarrs_data_type::{DataType, FillValue};

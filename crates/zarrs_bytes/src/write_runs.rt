@@ -12,12 +12,11 @@ ghost use Rattle.zarrs_codec.specs.ArrayWriter.{LeftByRefusal};
 ghost use Rattle.zarrs_bytes.specs.PartialRead.{run_byte_numbers};
 ghost use Rattle.zarrs_bytes.specs.PartialWrite.{value_bytes, CountsWriteOfRuns, FailsByWriting, FillsUp, FitRuns, GivesBytes, PutsBytes, WritesRuns};
 
-use crate::byte_order::turn;
 use crate::bytes_codec::BytesCodec;
 use crate::bytes_codec_partial::element_size;
 use std::alloc::Global;
 use std::borrow::CowSlice;
-use zarrs_array_bytes::{ArrayBytes, ArrayBytesRaw, update_runs};
+use zarrs_array_bytes::{ArrayBytes, ArrayBytesRaw, turn, update_runs};
 use zarrs_chunk::{ChunkShape, CodecError};
 use zarrs_codec::BytesPartialEncoderTraits;
 use zarrs_data_type::{DataType, FillValue};

@@ -12,7 +12,10 @@ use Rattle.zarrs_json.specs.declared.refusal.Refusal.TheVariants.{Codec}
 use Rattle.zarrs_json.specs.Header.{Header, header_form}
 use Rattle.zarrs_json.specs.KnownBytesCodec.{known_codecs}
 use Rattle.zarrs_chain_meaning.specs.CodecMeaning.{chain_chunk}
-use Rattle.zarrs_c_calls.specs.Calls.{decoded, header_given}
+use Rattle.zarrs_chain_meaning.specs.Chain.{held_value}
+use Rattle.zarrs_c_calls.specs.Buffers.{Buffers}
+use Rattle.zarrs_c_calls.specs.Calls.{encoded, header_given, value_decoded}
+use Rattle.zarrs_c_calls.specs.Given.{elements_given}
 use Rattle.zarrs_c_calls.specs.Codes.{codec_call_answer}
 use Rattle.zarrs_c_calls.specs.Reads.{form_read, part_read}
 use Rattle.zarrs_c_calls.specs.Selections.{selection_given}
@@ -62,12 +65,21 @@ module _ (text : List ℕ) (stored value : Option (List ℕ)) (tuples : ℕ) (nu
 
 -- ---- a whole chunk
 
-decoded_by : (text value : List ℕ) (header : Header) → header_given text ≡ Ok header → decoded text value ≡ (codec_call_answer (chain_chunk known_codecs header.chain header.sizes header.data_type header.fill value) >>= typed header.data_type)
-decoded_by text value header e = rw e refl
-
 -- a tight container that holds the chunk of a value holds what is due
-pub decoded_due : (text value : List ℕ) (header : Header) (held : Held) → header_given text ≡ Ok header → IsOkAnd (chain_chunk known_codecs header.chain header.sizes header.data_type header.fill value) (Holds header.data_type held) → IsTight header.data_type held
-    → IsOkAnd (decoded text value) (HoldsThese held)
-decoded_due text value header held reads h tight =
-    subst (λ (x : Result Elements Cause). IsOkAnd x (HoldsThese held)) (sym (decoded_by text value header reads))
-    (elements_due header.data_type held (chain_chunk known_codecs header.chain header.sizes header.data_type header.fill value) h tight)
+pub value_due : (header : Header) (value : List ℕ) (held : Held) → IsOkAnd (chain_chunk known_codecs header.chain header.sizes header.data_type header.fill value) (Holds header.data_type held) → IsTight header.data_type held
+    → IsOkAnd (value_decoded header value) (HoldsThese held)
+value_due header value held h tight = elements_due header.data_type held (chain_chunk known_codecs header.chain header.sizes header.data_type header.fill value) h tight
+
+-- and an error of it is the one that is due
+pub value_not_due : (header : Header) (value : List ℕ) (excused : Bool) (error : CodecError) → Excused excused (chain_chunk known_codecs header.chain header.sizes header.data_type header.fill value ≡ Err error) → Excused excused (value_decoded header value ≡ Err (of_codec error))
+value_not_due header value excused error h = λ wants. elements_not_due header.data_type error (chain_chunk known_codecs header.chain header.sizes header.data_type header.fill value) (h wants)
+
+-- the value of given elements is what is due
+pub value_written : (text : List ℕ) (elements : Buffers) (header : Header) (held : Held) (items : List ℕ) → header_given text ≡ Ok header → elements_given header.data_type elements ≡ Ok held
+    → held_value known_codecs header.chain header.sizes header.data_type header.fill held ≡ Ok items → encoded text elements ≡ Ok items
+value_written text elements header held items reads given is = rw (reads, given, is) refl
+
+-- and so is an error of it
+pub value_not_written : (text : List ℕ) (elements : Buffers) (header : Header) (held : Held) (excused : Bool) (error : CodecError) → header_given text ≡ Ok header → elements_given header.data_type elements ≡ Ok held
+    → Excused excused (held_value known_codecs header.chain header.sizes header.data_type header.fill held ≡ Err error) → Excused excused (encoded text elements ≡ Err (of_codec error))
+value_not_written text elements header held excused error reads given h = λ wants. rw (reads, given, h wants) refl

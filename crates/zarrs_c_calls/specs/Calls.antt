@@ -31,12 +31,17 @@ encoded text elements = do
   held ← elements_given header.data_type elements
   codec_call_answer (held_value known_codecs header.chain header.sizes header.data_type header.fill held)
 
+-- the elements of the chunk of a header that a value stands for, or the first error
+abbrev pub value_decoded : Header → List ℕ → Result Elements Cause
+value_decoded header value = do
+  chunk ← codec_call_answer (chain_chunk known_codecs header.chain header.sizes header.data_type header.fill value)
+  Ok (header.data_type, chunk)
+
 -- the elements of the chunk that a value stands for, or the first error
 abbrev pub decoded : List ℕ → List ℕ → Result Elements Cause
 decoded text value = do
   header ← header_given text
-  chunk ← codec_call_answer (chain_chunk known_codecs header.chain header.sizes header.data_type header.fill value)
-  Ok (header.data_type, chunk)
+  value_decoded header value
 
 -- the value that the chain of these codecs writes for the chunk that a value stands for, or the first error
 abbrev pub reencoded : List ℕ → List ℕ → List ℕ → Result (List ℕ) Cause

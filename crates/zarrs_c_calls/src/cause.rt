@@ -11,7 +11,7 @@ use zarrs_json::Refusal;
 use zarrs_metadata::PluginCreateError;
 
 /// Why a call fails.
-#[derive(Clone, Copy)]
+#[derive(Clone, Copy, Debug)]
 pub enum Cause {
     /// An argument is out of its form: masks that aren't of one length, or numbers that are no
     /// selection.

@@ -1,13 +1,17 @@
 //! The call `zarrs_decode`.
+ghost use Rattle.std.specs.Prelude.{◌≡◌, ◌<◌, ℕ, List, Some};
 ghost use Rattle.zarrs_c_calls.specs.Buffers.{room};
-ghost use Rattle.zarrs_c_calls.specs.Calls.{decoded};
+ghost use Rattle.zarrs_c_calls.specs.Calls.{decoded, value_decoded};
 ghost use Rattle.zarrs_c_calls.specs.Told.{TellsElements};
+ghost use Rattle.zarrs_data_type.specs.ElementType.{fixed_size_of};
+ghost use Rattle.zarrs_json.specs.HeaderRead.{header_seen};
 
-use crate::calls::decode;
+use crate::calls::{decode, decode_front, form_given};
 use crate::cause::cause_code;
 use crate::sizes::Sizes;
-use crate::tell::tell;
+use crate::tell::{tell, tell_sized};
 use std::alloc::Global;
+use zarrs_json::ChunkHeader;
 
 /// The elements of the chunk that a value stands for.
 ///
@@ -30,7 +34,54 @@ pub fn zarrs_decode(
         (room masks.old offsets.old bytes.old needed.old)
         (room masks.new offsets.new bytes.new needed.new) }
 {
-    match decode(alloc, text, value) {
+    let header = match form_given(alloc, text) {
+        Ok(header) => header,
+        Err(cause) => return cause_code(&cause),
+    };
+    match header.data_type.fixed_size() {
+        Some(size) => decode_sized(alloc, &header, value, size, bytes, needed),
+        None => decode_any(alloc, &header, value, masks, offsets, bytes, needed),
+    }
+}
+
+/// The elements of a chunk that all have `size` bytes: they are moved to where they belong at once.
+fn decode_sized(
+    alloc: Global,
+    header: &ChunkHeader,
+    value: &[u8],
+    size: usize,
+    bytes: &mut [u8],
+    needed: &mut Sizes,
+) -> u32
+    requires some { 0 < size }
+    requires sized { fixed_size_of (header_seen header.now).data_type ≡ Some size }
+    // Wide: a caller's three buffers and their counts, before and after.
+    ensures told { (masks offsets : List ℕ) → TellsElements
+        (value_decoded (header_seen header.now) value.now) result
+        (room masks offsets bytes.old needed.old) (room masks offsets bytes.new needed.new) }
+{
+    match decode_front(alloc, header, value, size, bytes) {
+        Ok(count) => tell_sized(count, bytes.len(), needed),
+        Err(cause) => cause_code(&cause),
+    }
+}
+
+/// The elements of a chunk, in a container first.
+fn decode_any(
+    alloc: Global,
+    header: &ChunkHeader,
+    value: &[u8],
+    masks: &mut [u8],
+    offsets: &mut [u64],
+    bytes: &mut [u8],
+    needed: &mut Sizes,
+) -> u32
+    // Wide: a caller's three buffers and their counts, before and after.
+    ensures told { TellsElements (value_decoded (header_seen header.now) value.now) result
+        (room masks.old offsets.old bytes.old needed.old)
+        (room masks.new offsets.new bytes.new needed.new) }
+{
+    match decode(alloc, header, value) {
         Ok(elements) => tell(&elements, masks, offsets, bytes, needed),
         Err(cause) => cause_code(&cause),
     }

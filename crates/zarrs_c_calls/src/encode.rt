@@ -5,7 +5,7 @@ ghost use Rattle.zarrs_c_calls.specs.Told.{TellsBytes};
 
 use crate::calls::encode;
 use crate::cause::cause_code;
-use crate::tell::tell_bytes;
+use crate::tell::tell_count;
 use std::alloc::Global;
 
 /// The value that is written for the chunk of these elements.
@@ -26,8 +26,8 @@ pub fn zarrs_encode(
     ensures told { TellsBytes (encoded text.now (buffers masks.now offsets.now bytes.now)) result
         out.old out.new needed.old needed.new }
 {
-    match encode(alloc, text, masks, offsets, bytes) {
-        Ok(value) => tell_bytes(value.as_slice(), out, needed),
+    match encode(alloc, text, masks, offsets, bytes, out) {
+        Ok(count) => tell_count(count, out.len(), needed),
         Err(cause) => cause_code(&cause),
     }
 }

@@ -2,7 +2,7 @@
 
 /// How many mask bytes, offsets and bytes elements cross as.
 #[repr(C)]
-#[derive(Clone, Copy)]
+#[derive(Clone, Copy, Debug)]
 pub struct Sizes {
     pub masks: usize,
     pub offsets: usize,
@@ -11,7 +11,7 @@ pub struct Sizes {
 
 /// A selection of a list of them: its count of tuples, and how many of the joined numbers it takes.
 #[repr(C)]
-#[derive(Clone, Copy)]
+#[derive(Clone, Copy, Debug)]
 pub struct SelectionSize {
     pub tuples: u64,
     pub numbers: usize,
@@ -20,7 +20,7 @@ pub struct SelectionSize {
 /// An edit of a list of them: its selection's count of tuples, and how many of the joined numbers and of
 /// the joined bytes it takes.
 #[repr(C)]
-#[derive(Clone, Copy)]
+#[derive(Clone, Copy, Debug)]
 pub struct EditSize {
     pub tuples: u64,
     pub numbers: usize,

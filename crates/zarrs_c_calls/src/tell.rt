@@ -1,5 +1,5 @@
 //! Answers written into the caller's buffers.
-ghost use Rattle.std.specs.Prelude.{◌≡◌, ◌+◌, ◌≤◌, length, min, nat_le, ◌&&◌};
+ghost use Rattle.std.specs.Prelude.{◌≡◌, ◌+◌, ◌≤◌, length, min, nat_le, ◌&&◌, if◌then◌else◌};
 ghost use Rattle.zarrs_array_bytes.specs.Update.{with_items_at};
 ghost use Rattle.zarrs_c_calls.specs.Buffers.{buffers, crossed};
 ghost use Rattle.zarrs_c_calls.specs.Told.{ToldBytes, ToldName, ToldParts, kind_of, size_of};
@@ -34,6 +34,28 @@ pub(crate) fn tell_bytes(value: &[u8], out: &mut [u8], needed: &mut usize) -> u3
     }
     write(out, 0, value);
     DONE
+}
+
+/// Writes how many bytes stand at the front of a buffer of `room` bytes, or are more than it has.
+pub(crate) fn tell_count(count: usize, room: usize, needed: &mut usize) -> u32
+    ensures code { result ≡ (if nat_le count room then 0 else 1) }
+    ensures needed { needed.new ≡ count }
+{
+    *needed = count;
+    if room < count { SHORT } else { DONE }
+}
+
+/// The same of the bytes of elements of one size, which have no masks and no offsets.
+pub(crate) fn tell_sized(count: usize, room: usize, needed: &mut Sizes) -> u32
+    ensures code { result ≡ (if nat_le count room then 0 else 1) }
+    ensures needed { needed.new ≡ record { masks = 0; offsets = 0; bytes = count } }
+{
+    *needed = Sizes {
+        masks: 0,
+        offsets: 0,
+        bytes: count,
+    };
+    if room < count { SHORT } else { DONE }
 }
 
 /// Writes a name at the front of the buffer, and behind it a zero, where there is room for one, and

@@ -47,11 +47,11 @@ bind_seen : {A C : Type 0} (view : A → C) (r : Result A CodecError) → r >>= 
 bind_seen view (Ok x) = refl
 bind_seen view (Err error) = refl
 
-abbrev bytes_chain : {B : Type 0} → List ArrayMapping → Option Endianness → List B → PlainChain B
+abbrev pub bytes_chain : {B : Type 0} → List ArrayMapping → Option Endianness → List B → PlainChain B
 bytes_chain arrays order outer =
     record { array_to_array = arrays; array_to_bytes = bytes_codec order; bytes_to_bytes = outer }
 
-taken_behind : {B : Type 0} (f : BytesCodecs B) (arrays : List ArrayMapping) (order : Option Endianness) (outer : List B) (sizes : List ℕ) (type : ElementType) (fill : List ℕ) (form : List ℕ × BytesRepresentation)
+pub taken_behind : {B : Type 0} (f : BytesCodecs B) (arrays : List ArrayMapping) (order : Option Endianness) (outer : List B) (sizes : List ℕ) (type : ElementType) (fill : List ℕ) (form : List ℕ × BytesRepresentation)
     → IsMapWhere type arrays sizes → taken_form f (bytes_chain arrays order outer) sizes type fill ≡ Ok form → BytesTakes order (form_of sizes type fill)
 unfolding meaning
 taken_behind f arrays order outer sizes type fill form maps e =
@@ -60,7 +60,7 @@ taken_behind f arrays order outer sizes type fill form maps e =
     let a = seen_ok FixedSize (bytes_length order (form_of t.map_is.encoded type fill)) form.1 t.measured in
     ap (λ (r : Result ℕ CodecError). is_ok r) (sym (length_by_count order sizes t.map_is.encoded type fill m.count) ∙ a.1)
 
-chunk_behind : {B : Type 0} (f : BytesCodecs B) (arrays : List ArrayMapping) (order : Option Endianness) (outer : List B) (sizes : List ℕ) (type : ElementType) (fill : List ℕ) (form : List ℕ × BytesRepresentation) (value below : List ℕ) (r : Result Held CodecError)
+pub chunk_behind : {B : Type 0} (f : BytesCodecs B) (arrays : List ArrayMapping) (order : Option Endianness) (outer : List B) (sizes : List ℕ) (type : ElementType) (fill : List ℕ) (form : List ℕ × BytesRepresentation) (value below : List ℕ) (r : Result Held CodecError)
     → IsMapWhere type arrays sizes → taken_form f (bytes_chain arrays order outer) sizes type fill ≡ Ok form
     → outer_bytes f outer form.1 value ≡ Ok below
     → IfOk (arrays_map type arrays sizes) (λ m. GivesBy (Holds type) r (seen (moved_chunk (inverse_map sizes m)) (bytes_chunk order (form_of sizes type fill) below)))

@@ -33,7 +33,7 @@ use Rattle.zarrs_array_to_array.specs.ArrayToArrayCodec.{ArrayMapping, coordinat
 use Rattle.zarrs_array_to_array.specs.CodecAnswers.{type_taken}
 use Rattle.zarrs_array_to_array.proofs.ArrayLaws.{array_laws}
 use Rattle.zarrs_array_to_array.proofs.CoordinateMaps.{length-moved, moved_at}
-use Rattle.zarrs_bytes.specs.ByteOrder.{turned_bytes}
+use Rattle.zarrs_array_bytes.specs.Turned.{turned_bytes}
 use Rattle.zarrs_bytes.specs.BytesCodec.{bytes_length, bytes_value, spelling, turn_size}
 use Rattle.zarrs_bytes.specs.PartialRead.{place_size}
 use Rattle.zarrs_bytes.proofs.Coding.{bind_ok, encoded_is, ok}

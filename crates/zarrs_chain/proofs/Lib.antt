@@ -32,6 +32,7 @@ pub mod ReencodeLaws
 pub mod PlainForms
 pub mod TurnedLast
 pub mod BytesBehind
+pub mod FrontWrites
 pub mod KeptBytes
 pub mod InnerPlaces
 pub mod KeptInner

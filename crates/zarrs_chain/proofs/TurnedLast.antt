@@ -47,7 +47,7 @@ chunk_is order sizes width components sign fill value len e long =
     rw (e, passed) (ap ok same)
 
 -- a value whose chunk is read has the length that was due
-long_is : (order : Option Endianness) (sizes : List ℕ) (type : ElementType) (fill value : List ℕ) (len : ℕ) (chunk : Chunk) → bytes_length order (form_of sizes type fill) ≡ Ok len → bytes_chunk order (form_of sizes type fill) value ≡ Ok chunk → length value ≡ len
+pub long_is : (order : Option Endianness) (sizes : List ℕ) (type : ElementType) (fill value : List ℕ) (len : ℕ) (chunk : Chunk) → bytes_length order (form_of sizes type fill) ≡ Ok len → bytes_chunk order (form_of sizes type fill) value ≡ Ok chunk → length value ≡ len
 long_is order sizes type fill value len chunk e read =
     let a = bind_ok (bytes_length order (form_of sizes type fill)) _ chunk read in
     let b = bind_ok (demand (length value == a.0) (InvalidBytesLength (length value) a.0)) _ chunk a.2 in
@@ -56,7 +56,7 @@ long_is order sizes type fill value len chunk e read =
     grind (arith, nat_tests)
 
 -- where an order takes such chunks, the lowest byte first takes them too, and their values are as long
-any_order : (order : Option Endianness) (sizes : List ℕ) (type : ElementType) (fill : List ℕ) (len : ℕ) → bytes_length order (form_of sizes type fill) ≡ Ok len → bytes_length (Some Little) (form_of sizes type fill) ≡ Ok len
+pub any_order : (order : Option Endianness) (sizes : List ℕ) (type : ElementType) (fill : List ℕ) (len : ℕ) → bytes_length order (form_of sizes type fill) ≡ Ok len → bytes_length (Some Little) (form_of sizes type fill) ≡ Ok len
 any_order order sizes (fixed width components sign) fill len e =
     let a = bind_ok (demand (fill_fits (fixed width components sign) fill) InvalidFillValue) _ len e in
     let b = bind_ok (checked_u64 (product sizes)) _ len a.2 in
@@ -68,7 +68,7 @@ any_order order sizes bytes fill len e = absurd cc
 any_order order sizes (optional type) fill len e = absurd cc
 
 -- the bytes of a container of so many elements
-whole_is : (width components : ℕ) (sign : Bool) (n : ℕ) (raw : Raw) → validity (fixed width components sign) n (flen raw) ≡ Ok tt → length raw.items ≡ n * element_size width components
+pub whole_is : (width components : ℕ) (sign : Bool) (n : ℕ) (raw : Raw) → validity (fixed width components sign) n (flen raw) ≡ Ok tt → length raw.items ≡ n * element_size width components
 whole_is width components sign n raw valid =
     let a = bind_ok (demand (nat_lt (n * element_size width components) (2 ^ 64)) Overflow) _ tt valid in
     let passed = demand_ok (length raw.items == n * element_size width components) (InvalidBytesLength (length raw.items) (n * element_size width components)) tt a.2 in
@@ -107,12 +107,30 @@ module _ (order : Option Endianness) (arrays : List ArrayMapping) (sizes : List 
       → decoded_chunk (Ok tt) (arrays_map type arrays sizes) type sizes stored ≡ Ok (moved_chunk (inverse_map sizes m) chunk)
   back_is type stored chunk mapped counted valid are = rw (mapped, counted, valid) (ap (λ x. ok (moved_chunk (inverse_map sizes m) x)) are)
 
+  -- so they take what is stored
+  pub stored_back : (type : ElementType) (fill value : List ℕ) (stored : Held) → BytesTakes order (form_of sizes type fill) → arrays_map type arrays sizes ≡ Ok m
+      → AnswersBy memory (Holds type) (Ok stored) (bytes_chunk (Some Little) (form_of sizes type fill) value)
+      → (chunk : Chunk) × (decoded_chunk (Ok tt) (arrays_map type arrays sizes) type sizes stored ≡ Ok chunk)
+  stored_back (fixed width components sign) fill value stored takes mapped read =
+      let type = fixed width components sign in
+      let l = ok_length (bytes_length order (form_of sizes type fill)) takes in
+      let c = held_chunk type stored (bytes_chunk (Some Little) (form_of sizes type fill) value) read in
+      let long : length c.0 ≡ product sizes = (decoded_found (Some Little) sizes type fill value c.0 c.1).elements.count_is in
+      let a = bind_ok (demand (fill_fits type fill) InvalidFillValue) _ l.0 l.1 in
+      let b = bind_ok (checked_u64 (product sizes)) _ l.0 a.2 in
+      let valid : validity type (product sizes) stored ≡ Ok tt = subst (λ (k : ℕ). validity type k stored ≡ Ok tt) long c.2.valid in
+      let are : elements type (product sizes) stored ≡ c.0 = subst (λ (k : ℕ). elements type k stored ≡ c.0) long c.2.elements_are in
+      (moved_chunk (inverse_map sizes m) c.0, back_is type stored c.0 mapped (counted_so (product sizes) b.0 b.1) valid are)
+  stored_back text fill value stored takes mapped read = absurd cc
+  stored_back bytes fill value stored takes mapped read = absurd cc
+  stored_back (optional type) fill value stored takes mapped read = absurd cc
+
   -- what is answered for the moved bytes is what is due of the moved chunk
   pub turned_answers : (type : ElementType) (fill value : List ℕ) (stored moved : Held) (raw : Raw) (r : Result Held CodecError) → BytesTakes order (form_of sizes type fill) → arrays_map type arrays sizes ≡ Ok m
       → AnswersBy memory (Holds type) (Ok stored) (bytes_chunk (Some Little) (form_of sizes type fill) value)
       → IfOk (decoded_chunk (Ok tt) (arrays_map type arrays sizes) type sizes stored) (λ chunk. AnswersBy memory (Holds type) (Ok moved) (Ok chunk))
       → fixed_part moved ≡ Ok raw
-      → AnswersBy memory (Holds type) r (bytes_chunk order (form_of sizes type fill) raw.items)
+      → (validity type (product sizes) (flen raw) ≡ Ok tt → AnswersBy memory (Holds type) r (bytes_chunk order (form_of sizes type fill) raw.items))
       → AnswersBy memory (Holds type) r (seen (moved_chunk (inverse_map sizes m)) (bytes_chunk order (form_of sizes type fill) value))
   turned_answers (fixed width components sign) fill value stored moved raw r takes mapped read found part last =
       let type = fixed width components sign in
@@ -128,7 +146,8 @@ module _ (order : Option Endianness) (arrays : List ArrayMapping) (sizes : List 
       let back = back_is type stored c.0 mapped counted valid are in
       let holds : Holds type moved chunk = at_ok (decoded_chunk (Ok tt) (arrays_map type arrays sizes) type sizes stored) (λ (x : Chunk). AnswersBy memory (Holds type) (Ok moved) (Ok x)) chunk back found in
       let flat : Holds type (flen raw) chunk = subst (λ (h : Held). Holds type h chunk) (fixed_held moved raw part) holds in
-      subst (λ (x : Result Chunk CodecError). AnswersBy memory (Holds type) r x) (turned_chunk width components sign fill value raw l.0 c.0 l.1 c.1 flat) last
+      let whole : validity type (product sizes) (flen raw) ≡ Ok tt = subst (λ (k : ℕ). validity type k (flen raw) ≡ Ok tt) (length-moved (inverse_map sizes m) c.0) flat.valid in
+      subst (λ (x : Result Chunk CodecError). AnswersBy memory (Holds type) r x) (turned_chunk width components sign fill value raw l.0 c.0 l.1 c.1 flat) (last whole)
   turned_answers text fill value stored moved raw r takes mapped read found part last = absurd cc
   turned_answers bytes fill value stored moved raw r takes mapped read found part last = absurd cc
   turned_answers (optional type) fill value stored moved raw r takes mapped read found part last = absurd cc

@@ -11,6 +11,7 @@ pub mod Making
 pub mod Compact
 pub mod ChainView
 pub mod FormView
+pub mod FrontWrites
 pub mod ChainParts
 pub mod Reencode
 pub mod ReencodeLaws

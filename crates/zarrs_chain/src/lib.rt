@@ -14,6 +14,7 @@ mod encode;
 mod form;
 pub mod laws;
 mod metadata;
+pub mod moved_into;
 mod optional;
 pub mod reencode;
 mod representation;

@@ -1,5 +1,5 @@
 -- One array-to-array codec after another.
-use Rattle.std.proofs.Common.{◌≡◌, ℕ, ◌<◌, ◌^◌, nat_lt, if◌then◌else◌, Bool, true, List, [], ◌∷◌, length, Result, Ok, Err, IfOk, false, refl, ap, sym, subst, ◌∙◌}
+use Rattle.std.proofs.Common.{◌≡◌, ℕ, ◌-◌, ◌<◌, ◌^◌, nat_lt, if◌then◌else◌, Bool, true, List, [], ◌∷◌, length, take, drop, get_or, map, arith, Result, Ok, Err, IfOk, false, refl, ap, sym, subst, ◌∙◌}
 use Rattle.std.specs.List.{All}
 use Rattle.zarrs_chunk.specs.Answer.{◌>>=◌, seen, checked_u64, Answers, AnswersBy, memory}
 use Rattle.zarrs_chunk.specs.ChunkShape.{product}
@@ -14,11 +14,14 @@ use Rattle.zarrs_codec.specs.CoordinateMap.{CoordinateMap, IsCoordinateMap, IsMa
 use Rattle.zarrs_codec.specs.MappedChunk.{encoded_chunk, decoded_chunk}
 use Rattle.zarrs_array_to_array.specs.ArrayToArrayCodec.{ArrayMapping, coordinates}
 use Rattle.zarrs_array_to_array.specs.CodecAnswers.{type_taken}
-use Rattle.zarrs_array_to_array.proofs.CoordinateMaps.{composed_map, undone_map, length-moved, moved_twice, kept_places}
+use Rattle.zarrs_array_to_array.specs.Mapping.{mapping_of}
+use Rattle.zarrs_array_to_array.specs.declared.array_to_array_codec.ArrayToArrayCodec.{ArrayToArrayCodec}
+use Rattle.zarrs_array_to_array.proofs.CodecLists.{mappings_are}
+use Rattle.zarrs_array_to_array.proofs.CoordinateMaps.{composed_map, undone_map, length-moved, moved_twice, kept_places, same_places_map}
 use Rattle.zarrs_chain_meaning.specs.ArrayStages.{codec_map, arrays_map, IsMapWhere}
 use Rattle.zarrs_bytes.proofs.Coding.{ok, bind_ok}
 use Rattle.zarrs_array_bytes.proofs.UpdatedLemmas.{length-elements}
-use Rattle.zarrs_array_to_array.proofs.MappedChunks.{holds_elements}
+use Rattle.zarrs_array_to_array.proofs.MappedChunks.{copied_decoded, copied_encoded, holds_elements}
 
 -- ---- answers
 
@@ -349,6 +352,39 @@ pub encode_at : (type : ElementType) (all : List ArrayMapping) (codec : ArrayMap
     → IfOk (encoded_chunk (Ok tt) (arrays_map type codecs next) type next made) (λ chunk. AnswersBy memory (Holds type) r (Ok chunk))
     → IfOk (encoded_chunk (Ok tt) (arrays_map type all sizes) type sizes held) (λ chunk. AnswersBy memory (Holds type) r (Ok chunk))
 encode_at type all codec codecs sizes next held made r is h one maps found = subst (λ (cs : List ArrayMapping). IfOk (encoded_chunk (Ok tt) (arrays_map type cs sizes) type sizes held) (λ chunk. AnswersBy memory (Holds type) r (Ok chunk))) (sym is) (encode_step type codec codecs sizes next held made r h one maps found)
+
+-- the list of a codec alone
+pub one_mapping : (codecs : List ArrayToArrayCodec) (last : ArrayToArrayCodec) → length codecs ≡ 1 → last ≡ get_or codecs 0 last → map mapping_of codecs ≡ mapping_of last ∷ []
+one_mapping codecs last l e =
+    let none : length codecs - 1 ≡ 0 = omega (arith, l) in
+    mappings_are codecs last (omega (arith, l)) e ∙ ap (λ n. mapping_of last ∷ map mapping_of (take n (drop 1 codecs))) none
+
+-- what holds where a call returns Ok holds where what it wrote is returned
+pub seen_ok_so : {A C : Type 0} (P : Type 0) (view : A → C) (r : Result A CodecError) → IfOk r (λ _. P) → IfOk (seen view r) (λ _. P)
+seen_ok_so P view (Ok x) h = h
+seen_ok_so P view (Err e) h = tt
+
+-- no codec: a copy
+pub encode_copied : (type : ElementType) (all : List ArrayMapping) (sizes : List ℕ) (held : Held) (answer : Result Held CodecError) → all ≡ [] → (validity type (product sizes) held ≡ Ok tt → answer ≡ Ok held)
+    → IfOk (encoded_chunk (Ok tt) (arrays_map type all sizes) type sizes held) (λ chunk. AnswersBy memory (Holds type) answer (Ok chunk))
+encode_copied type all sizes held answer is copy =
+    subst (λ (cs : List ArrayMapping). IfOk (encoded_chunk (Ok tt) (arrays_map type cs sizes) type sizes held) (λ chunk. AnswersBy memory (Holds type) answer (Ok chunk))) (sym is)
+    (copied_encoded (Ok (same_places sizes)) type sizes held answer copy (λ m e. subst (λ (m : CoordinateMap). (m ≡ same_places m.encoded) × (product m.encoded ≡ product sizes)) (ok_is (same_places sizes) m e) (refl, refl)))
+
+pub decode_copied : (type : ElementType) (all : List ArrayMapping) (sizes : List ℕ) (held : Held) (answer : Result Held CodecError) → all ≡ [] → (validity type (product sizes) held ≡ Ok tt → answer ≡ Ok held)
+    → IfOk (decoded_chunk (Ok tt) (arrays_map type all sizes) type sizes held) (λ chunk. AnswersBy memory (Holds type) answer (Ok chunk))
+decode_copied type all sizes held answer is copy =
+    subst (λ (cs : List ArrayMapping). IfOk (decoded_chunk (Ok tt) (arrays_map type cs sizes) type sizes held) (λ chunk. AnswersBy memory (Holds type) answer (Ok chunk))) (sym is)
+    (copied_decoded (Ok (same_places sizes)) type sizes held answer copy (λ m e. subst (λ (m : CoordinateMap). (m ≡ same_places m.encoded) × (product m.encoded ≡ product sizes)) (ok_is (same_places sizes) m e) (refl, refl)))
+
+-- a codec alone
+pub encode_alone : (type : ElementType) (all : List ArrayMapping) (codec : ArrayMapping) (sizes next : List ℕ) (held : Held) (r : Result Held CodecError)
+    → all ≡ codec ∷ []
+    → IsMapTo (coordinates codec sizes) sizes next
+    → IfOk (encoded_chunk (type_taken codec type) (coordinates codec sizes) type sizes held) (λ chunk. AnswersBy memory (Holds type) r (Ok chunk))
+    → IfOk (encoded_chunk (Ok tt) (arrays_map type all sizes) type sizes held) (λ chunk. AnswersBy memory (Holds type) r (Ok chunk))
+encode_alone type all codec sizes next held (Ok made) is h one = encode_at type all codec [] sizes next held made (Ok made) is h one (same_places_map next next refl (λ p. p)) (encode_none type next made)
+encode_alone type all codec sizes next held (Err error) is h one = encode_refused_at type all codec [] sizes held error is one
 
 pub decode_none_at : (type : ElementType) (all : List ArrayMapping) (sizes : List ℕ) (held : Held) → all ≡ [] → IfOk (decoded_chunk (Ok tt) (arrays_map type all sizes) type sizes held) (λ chunk. Holds type held chunk)
 decode_none_at type all sizes held is = subst (λ (cs : List ArrayMapping). IfOk (decoded_chunk (Ok tt) (arrays_map type cs sizes) type sizes held) (λ chunk. Holds type held chunk)) (sym is) (decode_none type sizes held)

@@ -147,7 +147,7 @@ encoded_so f chain sizes type fill held encoded r t valid =
     rw (t.mapped, t.measured, valid, fits) refl
 
 -- the container that the array-to-array codecs make holds the moved chunk
-moved_held : {B : Type 0} (f : BytesCodecs B) (chain : PlainChain B) (sizes : List ℕ) (type : ElementType) (fill : List ℕ) (held : Held) (encoded : List ℕ) (r : BytesRepresentation) (t : IsTaken f chain sizes type fill encoded r)
+pub moved_held : {B : Type 0} (f : BytesCodecs B) (chain : PlainChain B) (sizes : List ℕ) (type : ElementType) (fill : List ℕ) (held : Held) (encoded : List ℕ) (r : BytesRepresentation) (t : IsTaken f chain sizes type fill encoded r)
     → checked_u64 (product sizes) ≡ Ok (product sizes) → validity type (product sizes) held ≡ Ok tt
     → encoded_chunk (Ok tt) (arrays_map type chain.array_to_array sizes) type sizes held ≡ Ok (moved_chunk t.map_is (elements type (product sizes) held))
 moved_held f chain sizes type fill held encoded r t counted valid = rw (t.mapped, counted, valid) refl

@@ -7,6 +7,7 @@
 #![tactic(auto)]
 
 pub mod array_stages;
+pub mod arrays_into;
 pub mod bytes_stages;
 pub mod codec_name;
 pub mod laws;

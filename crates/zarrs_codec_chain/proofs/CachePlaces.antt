@@ -6,6 +6,8 @@ use Rattle.std.proofs.lemmas.List.{length-map}
 use Rattle.zarrs_chunk.specs.declared.codec_error.CodecError.{CodecError}
 use Rattle.zarrs_data_type.specs.ElementType.{ElementType}
 use Rattle.zarrs_array_bytes.specs.Validity.{validity}
+use Rattle.zarrs_codec.specs.BytesToBytesCodec.{BytesCodecs}
+use Rattle.zarrs_codec_chain.specs.KeptIndex.{IsIndexOf, asks_index}
 use Rattle.zarrs_codec.specs.declared.capabilities.PartialDecoderCapability.{PartialDecoderCapability}
 use Rattle.zarrs_array_to_array.specs.ArrayToArrayCodec.{ArrayMapping}
 use Rattle.zarrs_codec_chain.specs.CachePlace.{array_reads, codecs_read, last_without, greater, cache_place}
@@ -195,3 +197,12 @@ size_kept reads type count codecs handle stored (kept.Chunk (Some held)) fits ti
 
 pub answered : {A : Type 0} (r : Result A CodecError) (x : A) (P : A → Type 0) → r ≡ Ok x → P x → IsOkAnd r P
 answered r x P e h = rw e h
+
+-- ---- without a cache
+
+-- where no index is asked for, what is kept is the handle's
+pub handle_kept : {B : Type 0} (f : BytesCodecs B) (chain : PlainChain B) (sizes : List ℕ) (stored : Option (List ℕ)) (cache : Cache) (held : ℕ) → IsIndexOf f chain sizes stored cache → is_cache cache ≡ false → asks_index chain.bytes_to_bytes chain.array_to_bytes ≡ false → held_by held cache ≡ held
+handle_kept f chain sizes stored kept.Handle held h bare none = refl
+handle_kept f chain sizes stored (kept.Index index) held h bare none = let never : true ≡ false = sym h.0 ∙ none in absurd (cc)
+handle_kept f chain sizes stored (kept.Bytes below value) held h bare none = absurd (cc)
+handle_kept f chain sizes stored (kept.Chunk chunk) held h bare none = absurd (cc)

@@ -68,6 +68,11 @@ abbrev pub KeepsCache : {H B : Type 0} {h : _} {b : _} → (H → StorageState) 
 KeepsCache state f reads decoder size =
     is_cached decoder ≡ true → IsOkAnd (source_made f reads (decoder_form decoder) (state (handle_of decoder)).value) (λ source. IsSizeOf (decoder_form decoder).type source size)
 
+-- a decoder that has no cache and asks for no shard's index keeps what its handle keeps
+abbrev pub KeepsHandle : {H B : Type 0} {h : _} {b : _} → (H → ℕ) → ArrayPartialDecoder H B h b → ℕ → Type 0
+KeepsHandle held decoder size =
+    is_cached decoder ≡ false → asks_index (decoder_form decoder).chain.bytes_to_bytes (decoder_form decoder).chain.array_to_bytes ≡ false → size ≡ held (handle_of decoder)
+
 -- beside what its handle keeps in memory, a decoder that keeps a shard's index has its bytes: 16 for each inner chunk
 abbrev pub KeepsIndex : {H B : Type 0} {h : _} {b : _} → (H → StorageState) → BytesCodecs B → (H → ℕ) → ArrayPartialDecoder H B h b → ℕ → Type 0
 KeepsIndex state f held decoder size =

@@ -17,7 +17,7 @@ use zarrs_data_type::DataType;
 use zarrs_metadata::member;
 
 /// New elements, and where they go.
-#[derive(Drop)]
+#[derive(Debug, Drop)]
 pub struct Edit {
     /// Where they go.
     pub indexer: Indexer<'static>,

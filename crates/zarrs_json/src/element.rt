@@ -14,7 +14,7 @@ use zarrs_chunk::CodecError;
 use zarrs_data_type::DataType;
 
 /// An element that was read: bytes, or one of an optional type.
-#[derive(Drop)]
+#[derive(Debug, Drop)]
 pub enum Element {
     /// The bytes of an element of a type that isn't optional.
     Plain(Vec<u8>),

@@ -20,7 +20,7 @@ use zarrs_metadata::member;
 
 /// A chunk's shape, the type of its elements and its fill value, and the chain of codecs that it goes
 /// through, which takes such chunks where [`read_header`] made this.
-#[derive(Drop)]
+#[derive(Debug, Drop)]
 pub struct ChunkHeader {
     pub chain: CodecChain<KnownBytesCodec>,
     pub shape: ChunkShape,

@@ -30,7 +30,7 @@ use Rattle.zarrs_codec.specs.CoordinateMap.{moved_chunk, same_places}
 use Rattle.zarrs_codec.specs.declared.bytes_representation.BytesRepresentation.TheVariants.{FixedSize}
 use Rattle.zarrs_array_to_array.specs.ArrayToArrayCodec.{IsMapping}
 use Rattle.zarrs_array_to_array.proofs.CoordinateMaps.{kept_places}
-use Rattle.zarrs_bytes.proofs.ReversedPieces.{reversed_pieces-single}
+use Rattle.zarrs_array_bytes.proofs.ReversedPieces.{reversed_pieces-single}
 use Rattle.zarrs_bytes.specs.ByteOrder.{bytes_of, has_order}
 use Rattle.zarrs_bytes.specs.BytesCodec.{bytes_chunk, bytes_length, bytes_element}
 use Rattle.zarrs_bytes.proofs.Coding.{ok, bind_ok}

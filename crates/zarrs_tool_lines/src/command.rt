@@ -4,7 +4,7 @@ ghost use Rattle.zarrs_tool_lines.specs.Commands.{command_of as command_of_line,
 ghost use Rattle.zarrs_tool_lines.specs.Seen.{command_seen};
 
 /// A command and its argument.
-#[derive(Clone, Copy)]
+#[derive(Clone, Copy, Debug)]
 pub enum Command<'a> {
     /// The value of these elements is asked for; it isn't stored.
     Encode(&'a [u8]),

@@ -49,7 +49,7 @@ pub struct ArrayPartialDecoder<'a, H: BytesPartialDecoderTraits, B: BytesToBytes
 }
 
 impl<'a, H: BytesPartialDecoderTraits, B: BytesToBytesCodecTraits> ArrayPartialDecoder<'a, H, B> {
-    ghost use Rattle.zarrs_codec_chain.specs.PartialDecoder.{decoder_held, decoder_form, handle_of, is_bare, is_cached, is_indexed, KeepsCache, KeepsIndex, LeavesIndex, wants_index};
+    ghost use Rattle.zarrs_codec_chain.specs.PartialDecoder.{decoder_held, decoder_form, handle_of, is_bare, is_cached, is_indexed, KeepsCache, KeepsHandle, KeepsIndex, LeavesIndex, wants_index};
 
     /// The type of the elements.
     pub fn data_type(&self) -> &DataType
@@ -155,6 +155,7 @@ impl<'a, H: BytesPartialDecoderTraits, B: BytesToBytesCodecTraits> ArrayPartialD
     /// of a shard's index, 16 for each inner chunk.
     pub fn size_held(&self) -> usize
         ensures handle { is_bare self.now ≡ true → result ≡ H.held (handle_of self.now) }
+        ensures shardless { KeepsHandle H.held self.now result }
         ensures index { KeepsIndex H.state B.functions H.held self.now result }
         ensures cache { KeepsCache H.state B.functions B.reads_in_part self.now result }
         ensures value { result ≡ decoder_held self.now (H.held (handle_of self.now)) }

@@ -31,7 +31,7 @@ returns c =
           if_ok (arrays_map type arrays sizes) (λ (m : CoordinateMap). GivesBy (Holds type) c.decode-2.result (seen (moved_chunk (inverse_map sizes m)) (bytes_chunk order (form_of sizes type fill) value)))
           (λ m e. record {
             is =
-                turned_answers order arrays sizes m positive (at_ok (arrays_map type arrays sizes) (λ (m : CoordinateMap). IsCoordinateMap sizes m) m e c.in_ok-moved.ensures.map) type fill value c.in_ok-stored.stored c.in_ok-moved.moved (raw_of c.in_ok-raw.raw) c.decode-2.result c.requires.taken e read c.in_ok-moved.ensures.moved (sym c.in_ok-raw.ensures.answer) c.decode-2.ensures.decodes.exact;
+                turned_answers order arrays sizes m positive (at_ok (arrays_map type arrays sizes) (λ (m : CoordinateMap). IsCoordinateMap sizes m) m e c.in_ok-moved.ensures.map) type fill value c.in_ok-stored.stored c.in_ok-moved.moved (raw_of c.in_ok-raw.raw) c.decode-2.result c.requires.taken e read c.in_ok-moved.ensures.moved (sym c.in_ok-raw.ensures.answer) (λ _. c.decode-2.ensures.decodes.exact);
             no_fault = c.decode-2.ensures.decodes.no_fault;
           });
       tight = sized_given_tight type c.decode-2.result (bytes_chunk order (form_of sizes type fill) (raw_of c.in_ok-raw.raw).items) (taken_fixed order sizes type fill c.requires.taken) c.decode-2.ensures.decodes.exact;

@@ -2,7 +2,7 @@ use Rattle.std.proofs.Common.{◌≡◌, length, arith, rules, refl, Ok, sym, �
 use Rattle.std.specs.Prelude.{IsOkAnd}
 use Rattle.zarrs_array_bytes.specs.Held.{raw_of, items_of}
 use Rattle.zarrs_array_bytes.specs.Validity.{Holds}
-use Rattle.zarrs_bytes.specs.ByteOrder.{turned_bytes}
+use Rattle.zarrs_array_bytes.specs.Turned.{turned_bytes}
 use Rattle.zarrs_bytes.specs.BytesCodec.{bytes_chunk, turn_size}
 use Rattle.zarrs_array_bytes.proofs.ValidLemmas.{raw_items}
 use Rattle.zarrs_bytes.proofs.Coding.{decoded_holds}

@@ -5,7 +5,7 @@ use Rattle.zarrs_chunk.specs.AnswerLaws.{seen_from}
 use Rattle.zarrs_array_bytes.specs.Held.{raw_of, items_of}
 use Rattle.zarrs_array_bytes.specs.Parts.{fixed_part}
 use Rattle.zarrs_array_bytes.specs.Validity.{validity}
-use Rattle.zarrs_bytes.specs.ByteOrder.{turned_bytes}
+use Rattle.zarrs_array_bytes.specs.Turned.{turned_bytes}
 use Rattle.zarrs_bytes.specs.BytesCodec.{bytes_value, turn_size}
 use Rattle.zarrs_bytes.proofs.Coding.{encoded_is, spared, ok_from_seen}
 use Rattle.zarrs_data_type.specs.Form.{form_of}

@@ -6,7 +6,7 @@ use Rattle.zarrs_chunk.specs.Runs.{joined_runs}
 use Rattle.zarrs_array_bytes.specs.Held.{owned_bytes}
 use Rattle.zarrs_codec.specs.Calls.{after_asking, after_reads}
 use Rattle.zarrs_bytes.specs.AskedRanges.{asked_for_runs}
-use Rattle.zarrs_bytes.specs.ByteOrder.{turned_bytes}
+use Rattle.zarrs_array_bytes.specs.Turned.{turned_bytes}
 use Rattle.zarrs_bytes.specs.BytesCodec.{turn_size}
 use Rattle.zarrs_bytes.specs.PartialRead.{bytes_at}
 use Rattle.zarrs_bytes.specs.ReadingCalls.{calls_for_runs}

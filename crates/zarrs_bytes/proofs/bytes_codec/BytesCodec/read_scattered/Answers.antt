@@ -3,7 +3,7 @@ use Rattle.std.specs.List.{flat_map}
 use Rattle.std.proofs.lemmas.Result.{err_from_is_err_and}
 use Rattle.zarrs_chunk.specs.Answer.{memory_or_fault}
 use Rattle.zarrs_array_bytes.specs.Held.{owned_bytes}
-use Rattle.zarrs_bytes.specs.ByteOrder.{turned_bytes}
+use Rattle.zarrs_array_bytes.specs.Turned.{turned_bytes}
 use Rattle.zarrs_bytes.specs.BytesCodec.{turn_size}
 use Rattle.zarrs_bytes.specs.PartialRead.{bytes_at}
 use Rattle.zarrs_array_bytes.proofs.TightLemmas.{flen_tight}

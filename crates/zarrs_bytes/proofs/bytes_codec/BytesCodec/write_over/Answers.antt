@@ -2,7 +2,7 @@ use Rattle.std.proofs.Common.{◌∙◌, ap, length}
 use Rattle.zarrs_array_bytes.specs.Held.{raw_of}
 use Rattle.zarrs_array_bytes.specs.Parts.{bytes_in}
 use Rattle.zarrs_array_bytes.proofs.ValidLemmas.{raw_items}
-use Rattle.zarrs_bytes.specs.ByteOrder.{turned_bytes}
+use Rattle.zarrs_array_bytes.specs.Turned.{turned_bytes}
 use Rattle.zarrs_bytes.specs.BytesCodec.{turn_size}
 use Rattle.zarrs_bytes.proofs.Spelled.{length-turned_bytes}
 use Rattle.zarrs_bytes.proofs.bytes_codec.BytesCodec.write_over.Goals as goal

@@ -1,6 +1,0 @@
-use Rattle.std.proofs.Common.{◌≡◌, ◌*◌, ◌++◌, take, drop, Some}
-use Rattle.zarrs_bytes.specs.ByteOrder.{turned_bytes}
-use Rattle.zarrs_bytes.proofs.byte_order.reverse_groups.Given as goal
-
-abbrev pub invariant-loop-index : goal.invariant-loop-index
-invariant-loop-index l = l.bytes ≡ turned_bytes (Some l.size) (take (l.index * 16) l.initial.bytes) ++ drop (l.index * 16) l.initial.bytes

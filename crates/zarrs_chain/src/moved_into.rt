@@ -1,0 +1,204 @@
+//! The value of a chunk, and the elements of a value, written where they are wanted.
+ghost use Rattle.std.specs.Prelude.{◌≡◌, ◌<◌, ◌≤◌, Some, IfSome, IfOk, [], length, true};
+ghost use Rattle.zarrs_array_bytes.specs.Held.{items_of};
+ghost use Rattle.zarrs_array_bytes.specs.Parts.{fixed_items};
+ghost use Rattle.zarrs_array_bytes.specs.Pieces.{fixed_of};
+ghost use Rattle.zarrs_array_bytes.specs.Validity.{Holds};
+ghost use Rattle.zarrs_chain.specs.ChainView.{plain_chain};
+ghost use Rattle.zarrs_chain.specs.FrontWrites.{in_front, PutsFront};
+ghost use Rattle.zarrs_chain_meaning.specs.Chain.{held_value};
+ghost use Rattle.zarrs_chain_meaning.specs.CodecMeaning.{bytes_codec, chain_chunk};
+ghost use Rattle.zarrs_chunk.specs.Answer.{Gives, GivesBy};
+ghost use Rattle.zarrs_data_type.specs.ElementType.{fixed_size_of};
+
+use crate::array_to_bytes_codec::ArrayToBytesCodec;
+use crate::codec_chain::CodecChain;
+use crate::decode::chain_decode;
+use crate::encode::{chain_encode, check_elements};
+use crate::form::Form;
+use crate::representation::taken_form;
+use std::alloc::Global;
+use zarrs_array_bytes::{ArrayBytes, ArrayBytesRaw};
+use zarrs_bytes::BytesCodec;
+use zarrs_chain_meaning::arrays_into::{decode_arrays_into, encode_arrays_into};
+use zarrs_chunk::CodecError;
+use zarrs_codec::BytesToBytesCodecTraits;
+
+/// Writes bytes in front of a slice, where it has room for them: how many they are.
+fn put_front(out: &mut [u8], bytes: &[u8]) -> usize
+    ensures count { result ≡ length bytes.now }
+    ensures there { out.new ≡ in_front bytes.now out.old }
+{
+    if bytes.len() <= out.len() {
+        out[..bytes.len()].copy_from_slice(bytes);
+    }
+    bytes.len()
+}
+
+/// The codec `bytes` of a chain that has no bytes-to-bytes codecs: what it makes are the elements alone.
+fn bytes_alone<B>(chain: &CodecChain<B>) -> Option<&BytesCodec>
+    ensures codec { IfSome result (λ codec. (plain_chain chain.now).array_to_bytes ≡ bytes_codec codec.now) }
+    ensures outer { IfSome result (λ _. (plain_chain chain.now).bytes_to_bytes ≡ []) }
+{
+    match (&chain.array_to_bytes, chain.bytes_to_bytes.as_slice()) {
+        (ArrayToBytesCodec::Bytes(codec), []) => Some(codec),
+        _ => None,
+    }
+}
+
+/// Writes the value of a chunk of elements of one size through array-to-array codecs and `bytes`: each
+/// element is moved, and its components turned round, on the way to its place. Errors: those of
+/// `CodecChain::encode`.
+fn bytes_encode_into<B: BytesToBytesCodecTraits>(
+    alloc: Global,
+    chain: &CodecChain<B>,
+    codec: &BytesCodec,
+    held: ArrayBytes<'_>,
+    form: Form<'_>,
+    size: usize,
+    value: &mut [u8],
+) -> Result<usize, CodecError>
+    requires codec { (plain_chain chain.now).array_to_bytes ≡ bytes_codec codec.now }
+    requires outer { (plain_chain chain.now).bytes_to_bytes ≡ [] }
+    requires some { 0 < size }
+    requires sized { fixed_size_of form.data_type.now ≡ Some size }
+    requires room { IfOk (fixed_items held) (λ items. length items ≤ length value.old) }
+    // Wide: the parts of a form.
+    ensures written { PutsFront value.old value.new result (λ answer. Gives (λ items. items) answer
+        (held_value B.functions (plain_chain chain.now) form.entry.shape.now
+        form.entry.data_type.now form.entry.fill_value.now held.entry)) }
+{
+    taken_form(alloc, chain, form)?;
+    let Form {
+        shape,
+        data_type,
+        fill_value,
+    } = form;
+    check_elements(&held, shape, data_type)?;
+    let items = held.as_fixed()?;
+    let count = items.len();
+    let turn = codec.turn_size(data_type);
+    encode_arrays_into(
+        alloc,
+        &chain.array_to_array,
+        held,
+        shape,
+        data_type,
+        fill_value,
+        size,
+        turn,
+        &mut value[..count],
+    )?;
+    Ok(count)
+}
+
+/// Whether the bytes of elements of one size fit into a slice of so many.
+fn fits_in(held: &ArrayBytes<'_>, len: usize) -> bool
+    ensures room { result ≡ true → IfOk (fixed_items held.now) (λ items. length items ≤ len) }
+{
+    match held.as_fixed() {
+        Ok(bytes) => bytes.len() <= len,
+        Err(_) => false,
+    }
+}
+
+/// Writes the value that `CodecChain::encode` answers in front of `value`, where that has room for it:
+/// how many bytes it has. Where the room is too short, nothing is written. A chain of array-to-array
+/// codecs and `bytes` alone moves each element of one size to its place, and makes no value besides.
+/// Errors: those of `CodecChain::encode`, which leave what was there.
+pub fn encode_into<B: BytesToBytesCodecTraits>(
+    alloc: Global,
+    chain: &CodecChain<B>,
+    held: ArrayBytes<'_>,
+    form: Form<'_>,
+    value: &mut [u8],
+) -> Result<usize, CodecError>
+    // Wide: the parts of a form.
+    ensures written { PutsFront value.old value.new result (λ answer. Gives (λ items. items) answer
+        (held_value B.functions (plain_chain chain.now) form.entry.shape.now
+        form.entry.data_type.now form.entry.fill_value.now held.entry)) }
+{
+    if let (Some(codec), Some(size)) = (bytes_alone(chain), form.data_type.fixed_size()) {
+        if fits_in(&held, value.len()) {
+            return bytes_encode_into(alloc, chain, codec, held, form, size, value);
+        }
+    }
+    let made = chain_encode(alloc, chain, held, form)?;
+    Ok(put_front(value, made.as_slice()))
+}
+
+/// Writes the elements of one size of a value of array-to-array codecs and `bytes`, as
+/// `bytes_encode_into` writes a value. Errors: those of `CodecChain::decode`.
+fn bytes_decode_into<B: BytesToBytesCodecTraits>(
+    alloc: Global,
+    chain: &CodecChain<B>,
+    codec: &BytesCodec,
+    value: ArrayBytesRaw<'_>,
+    form: Form<'_>,
+    size: usize,
+    elements: &mut [u8],
+) -> Result<usize, CodecError>
+    requires codec { (plain_chain chain.now).array_to_bytes ≡ bytes_codec codec.now }
+    requires outer { (plain_chain chain.now).bytes_to_bytes ≡ [] }
+    requires some { 0 < size }
+    requires sized { fixed_size_of form.data_type.now ≡ Some size }
+    requires room { length (items_of value) ≤ length elements.old }
+    // Wide: the parts of a form.
+    ensures written { PutsFront elements.old elements.new result (λ answer. GivesBy
+        (λ items. Holds form.entry.data_type.now (fixed_of items)) answer
+        (chain_chunk B.functions (plain_chain chain.now) form.entry.shape.now
+        form.entry.data_type.now form.entry.fill_value.now (items_of value.entry))) }
+{
+    taken_form(alloc, chain, form)?;
+    let Form {
+        shape,
+        data_type,
+        fill_value,
+    } = form;
+    shape.as_slice();
+    let count = value.len();
+    let stored = BytesCodec::little().decode(alloc, value, shape, data_type, fill_value)?;
+    let turn = codec.turn_size(data_type);
+    decode_arrays_into(
+        alloc,
+        &chain.array_to_array,
+        stored,
+        shape,
+        data_type,
+        fill_value,
+        size,
+        turn,
+        &mut elements[..count],
+    )?;
+    Ok(count)
+}
+
+/// Writes the elements, all of `size` bytes, that `CodecChain::decode` answers in front of `elements`,
+/// where that has room for them: how many bytes they have. Where the room is too short, nothing is
+/// written. A chain of array-to-array codecs and `bytes` alone moves each element to its place, and
+/// makes no container besides. Errors: those of `CodecChain::decode`, which leave what was there.
+pub fn decode_into<B: BytesToBytesCodecTraits>(
+    alloc: Global,
+    chain: &CodecChain<B>,
+    value: ArrayBytesRaw<'_>,
+    form: Form<'_>,
+    size: usize,
+    elements: &mut [u8],
+) -> Result<usize, CodecError>
+    requires some { 0 < size }
+    requires sized { fixed_size_of form.data_type.now ≡ Some size }
+    // Wide: the parts of a form.
+    ensures written { PutsFront elements.old elements.new result (λ answer. GivesBy
+        (λ items. Holds form.entry.data_type.now (fixed_of items)) answer
+        (chain_chunk B.functions (plain_chain chain.now) form.entry.shape.now
+        form.entry.data_type.now form.entry.fill_value.now (items_of value.entry))) }
+{
+    if let Some(codec) = bytes_alone(chain) {
+        if value.len() <= elements.len() {
+            return bytes_decode_into(alloc, chain, codec, value, form, size, elements);
+        }
+    }
+    let made = chain_decode(alloc, chain, value, form)?;
+    let bytes = made.as_fixed()?;
+    Ok(put_front(elements, bytes))
+}
