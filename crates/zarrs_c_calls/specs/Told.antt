@@ -8,7 +8,7 @@ use Rattle.zarrs_array_bytes.specs.Update.{with_items_at}
 use Rattle.zarrs_array_bytes.specs.Validity.{Holds}
 use Rattle.zarrs_codec.specs.declared.bytes_representation.BytesRepresentation.{BytesRepresentation}
 use Rattle.zarrs_codec.specs.declared.bytes_representation.BytesRepresentation.TheVariants.{FixedSize, BoundedSize, UnboundedSize}
-use Rattle.zarrs_c_calls.specs.Buffers.{Buffers, Room, crossed, have_room, with_fronts}
+use Rattle.zarrs_c_calls.specs.Buffers.{Buffers, Room, crossed, have_room, room, with_fronts}
 use Rattle.zarrs_c_calls.specs.Codes.{IsRefusal}
 use Rattle.zarrs_c_calls.specs.declared.cause.Cause.{Cause}
 use Rattle.zarrs_c_calls.specs.declared.sizes.Sizes.{Sizes}
@@ -59,6 +59,11 @@ abbrev pub TellsElements : Result Elements Cause → ℕ → Room → Room → T
 TellsElements expected code old new =
     ((elements : Elements) × (held : Held) × (expected ≡ Ok elements) × HoldsThese held elements × ToldParts (crossed held) code old.parts new.parts new.needed)
     ⊎ (IsRefusal expected code × (new.parts ≡ old.parts) × (new.needed ≡ old.needed))
+
+-- the same of elements of one size, which stand in the buffer of bytes alone: the others stay, whatever they are
+abbrev pub TellsSized : Result Elements Cause → ℕ → List ℕ → List ℕ → Sizes → Sizes → Type 0
+TellsSized expected code old new needed_old needed_new =
+    (masks offsets : List ℕ) → TellsElements expected code (room masks offsets old needed_old) (room masks offsets new needed_new)
 
 -- ---- representations
 

@@ -1,8 +1,8 @@
 //! The call `zarrs_decode`.
-ghost use Rattle.std.specs.Prelude.{◌≡◌, ◌<◌, ℕ, List, Some};
+ghost use Rattle.std.specs.Prelude.{◌≡◌, ◌<◌, Some};
 ghost use Rattle.zarrs_c_calls.specs.Buffers.{room};
 ghost use Rattle.zarrs_c_calls.specs.Calls.{decoded, value_decoded};
-ghost use Rattle.zarrs_c_calls.specs.Told.{TellsElements};
+ghost use Rattle.zarrs_c_calls.specs.Told.{TellsElements, TellsSized};
 ghost use Rattle.zarrs_data_type.specs.ElementType.{fixed_size_of};
 ghost use Rattle.zarrs_json.specs.HeaderRead.{header_seen};
 
@@ -40,7 +40,10 @@ pub fn zarrs_decode(
     };
     match header.data_type.fixed_size() {
         Some(size) => decode_sized(alloc, &header, value, size, bytes, needed),
-        None => decode_any(alloc, &header, value, masks, offsets, bytes, needed),
+        None => match decode(alloc, &header, value) {
+            Ok(elements) => tell(&elements, masks, offsets, bytes, needed),
+            Err(cause) => cause_code(&cause),
+        },
     }
 }
 
@@ -55,34 +58,11 @@ fn decode_sized(
 ) -> u32
     requires some { 0 < size }
     requires sized { fixed_size_of (header_seen header.now).data_type ≡ Some size }
-    // Wide: a caller's three buffers and their counts, before and after.
-    ensures told { (masks offsets : List ℕ) → TellsElements
-        (value_decoded (header_seen header.now) value.now) result
-        (room masks offsets bytes.old needed.old) (room masks offsets bytes.new needed.new) }
+    ensures told { TellsSized (value_decoded (header_seen header.now) value.now) result
+        bytes.old bytes.new needed.old needed.new }
 {
     match decode_front(alloc, header, value, size, bytes) {
         Ok(count) => tell_sized(count, bytes.len(), needed),
-        Err(cause) => cause_code(&cause),
-    }
-}
-
-/// The elements of a chunk, in a container first.
-fn decode_any(
-    alloc: Global,
-    header: &ChunkHeader,
-    value: &[u8],
-    masks: &mut [u8],
-    offsets: &mut [u64],
-    bytes: &mut [u8],
-    needed: &mut Sizes,
-) -> u32
-    // Wide: a caller's three buffers and their counts, before and after.
-    ensures told { TellsElements (value_decoded (header_seen header.now) value.now) result
-        (room masks.old offsets.old bytes.old needed.old)
-        (room masks.new offsets.new bytes.new needed.new) }
-{
-    match decode(alloc, header, value) {
-        Ok(elements) => tell(&elements, masks, offsets, bytes, needed),
         Err(cause) => cause_code(&cause),
     }
 }

@@ -2,13 +2,10 @@
 ghost use Rattle.std.specs.Prelude.{◌≡◌, ◌<◌, ◌≤◌, Some, IfSome, IfOk, [], length, true};
 ghost use Rattle.zarrs_array_bytes.specs.Held.{items_of};
 ghost use Rattle.zarrs_array_bytes.specs.Parts.{fixed_items};
-ghost use Rattle.zarrs_array_bytes.specs.Pieces.{fixed_of};
-ghost use Rattle.zarrs_array_bytes.specs.Validity.{Holds};
 ghost use Rattle.zarrs_chain.specs.ChainView.{plain_chain};
-ghost use Rattle.zarrs_chain.specs.FrontWrites.{in_front, PutsFront};
-ghost use Rattle.zarrs_chain_meaning.specs.Chain.{held_value};
-ghost use Rattle.zarrs_chain_meaning.specs.CodecMeaning.{bytes_codec, chain_chunk};
-ghost use Rattle.zarrs_chunk.specs.Answer.{Gives, GivesBy};
+ghost use Rattle.zarrs_chain.specs.FrontWrites.{in_front, PutsElements, PutsValue};
+ghost use Rattle.zarrs_chain.specs.FormView.{lent_form};
+ghost use Rattle.zarrs_chain_meaning.specs.CodecMeaning.{bytes_codec};
 ghost use Rattle.zarrs_data_type.specs.ElementType.{fixed_size_of};
 
 use crate::array_to_bytes_codec::ArrayToBytesCodec;
@@ -63,10 +60,8 @@ fn bytes_encode_into<B: BytesToBytesCodecTraits>(
     requires some { 0 < size }
     requires sized { fixed_size_of form.data_type.now ≡ Some size }
     requires room { IfOk (fixed_items held) (λ items. length items ≤ length value.old) }
-    // Wide: the parts of a form.
-    ensures written { PutsFront value.old value.new result (λ answer. Gives (λ items. items) answer
-        (held_value B.functions (plain_chain chain.now) form.entry.shape.now
-        form.entry.data_type.now form.entry.fill_value.now held.entry)) }
+    ensures written { PutsValue B.functions (plain_chain chain.now) (lent_form form.entry) held.entry
+        value.old value.new result }
 {
     taken_form(alloc, chain, form)?;
     let Form {
@@ -113,10 +108,8 @@ pub fn encode_into<B: BytesToBytesCodecTraits>(
     form: Form<'_>,
     value: &mut [u8],
 ) -> Result<usize, CodecError>
-    // Wide: the parts of a form.
-    ensures written { PutsFront value.old value.new result (λ answer. Gives (λ items. items) answer
-        (held_value B.functions (plain_chain chain.now) form.entry.shape.now
-        form.entry.data_type.now form.entry.fill_value.now held.entry)) }
+    ensures written { PutsValue B.functions (plain_chain chain.now) (lent_form form.entry) held.entry
+        value.old value.new result }
 {
     if let (Some(codec), Some(size)) = (bytes_alone(chain), form.data_type.fixed_size()) {
         if fits_in(&held, value.len()) {
@@ -143,11 +136,8 @@ fn bytes_decode_into<B: BytesToBytesCodecTraits>(
     requires some { 0 < size }
     requires sized { fixed_size_of form.data_type.now ≡ Some size }
     requires room { length (items_of value) ≤ length elements.old }
-    // Wide: the parts of a form.
-    ensures written { PutsFront elements.old elements.new result (λ answer. GivesBy
-        (λ items. Holds form.entry.data_type.now (fixed_of items)) answer
-        (chain_chunk B.functions (plain_chain chain.now) form.entry.shape.now
-        form.entry.data_type.now form.entry.fill_value.now (items_of value.entry))) }
+    ensures written { PutsElements B.functions (plain_chain chain.now) (lent_form form.entry)
+        (items_of value.entry) elements.old elements.new result }
 {
     taken_form(alloc, chain, form)?;
     let Form {
@@ -187,11 +177,8 @@ pub fn decode_into<B: BytesToBytesCodecTraits>(
 ) -> Result<usize, CodecError>
     requires some { 0 < size }
     requires sized { fixed_size_of form.data_type.now ≡ Some size }
-    // Wide: the parts of a form.
-    ensures written { PutsFront elements.old elements.new result (λ answer. GivesBy
-        (λ items. Holds form.entry.data_type.now (fixed_of items)) answer
-        (chain_chunk B.functions (plain_chain chain.now) form.entry.shape.now
-        form.entry.data_type.now form.entry.fill_value.now (items_of value.entry))) }
+    ensures written { PutsElements B.functions (plain_chain chain.now) (lent_form form.entry)
+        (items_of value.entry) elements.old elements.new result }
 {
     if let Some(codec) = bytes_alone(chain) {
         if value.len() <= elements.len() {
