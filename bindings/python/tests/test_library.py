@@ -236,17 +236,21 @@ def test_deep_headers_are_refused():
 
 
 def test_want_of_memory():
-    """Where the system refuses memory, the refusal comes, and the process goes on."""
+    """Where the system refuses memory, the refusal comes, and the process goes on; one move needs hardly any."""
     code = """
 import resource
 import numpy as np
 import zarrs_codecs as z
-chain = z.Chain([{"name": "bytes", "configuration": {"endian": "big"}}], (1 << 24,), "int32")
-value, out = np.zeros(1 << 26, np.uint8), np.zeros(1 << 24, "<i4")
+move, stored = {"name": "transpose", "configuration": {"order": [1, 0]}}, {"name": "bytes", "configuration": {"endian": "big"}}
+shape = (1 << 12, 1 << 12)
+once, twice = (z.Chain([*moves, stored], shape, "int32") for moves in ([move], [move, move]))
+value, out = np.arange(1 << 24, dtype=">i4").view(np.uint8), np.zeros(shape, "<i4")
 held = int(open("/proc/self/statm").read().split()[0]) * resource.getpagesize()
 resource.setrlimit(resource.RLIMIT_AS, (held + (16 << 20), resource.RLIM_INFINITY))
+once.decode(value, out)
+assert out[2, 1] == (1 << 12) + 2
 try:
-    chain.decode(value, out)
+    twice.decode(value, out)
 except z.OutOfMemory as refused:
     assert isinstance(refused, MemoryError)
 else:
