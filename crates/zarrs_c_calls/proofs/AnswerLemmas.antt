@@ -14,7 +14,7 @@ use Rattle.zarrs_json.specs.KnownBytesCodec.{known_codecs}
 use Rattle.zarrs_chain_meaning.specs.CodecMeaning.{chain_chunk}
 use Rattle.zarrs_chain_meaning.specs.Chain.{held_value}
 use Rattle.zarrs_c_calls.specs.Buffers.{Buffers}
-use Rattle.zarrs_c_calls.specs.Calls.{encoded, header_given, value_decoded}
+use Rattle.zarrs_c_calls.specs.Calls.{decoded, encoded, header_given, value_decoded}
 use Rattle.zarrs_c_calls.specs.Given.{elements_given}
 use Rattle.zarrs_c_calls.specs.Codes.{codec_call_answer}
 use Rattle.zarrs_c_calls.specs.Reads.{form_read, part_read}
@@ -73,6 +73,14 @@ value_due header value held h tight = elements_due header.data_type held (chain_
 -- and an error of it is the one that is due
 pub value_not_due : (header : Header) (value : List ℕ) (excused : Bool) (error : CodecError) → Excused excused (chain_chunk known_codecs header.chain header.sizes header.data_type header.fill value ≡ Err error) → Excused excused (value_decoded header value ≡ Err (of_codec error))
 value_not_due header value excused error h = λ wants. elements_not_due header.data_type error (chain_chunk known_codecs header.chain header.sizes header.data_type header.fill value) (h wants)
+
+-- what is due of a text is due of the header that it is
+pub decoded_by : (text value : List ℕ) (header : Header) → header_given text ≡ Ok header → decoded text value ≡ value_decoded header value
+decoded_by text value header e = rw e refl
+
+-- and an error of the header is the one that is due
+pub header_not_given : (text value : List ℕ) (excused : Bool) (cause : Cause) → Excused excused (header_given text ≡ Err cause) → Excused excused (decoded text value ≡ Err cause)
+header_not_given text value excused cause h = λ wants. rw (h wants) refl
 
 -- the value of given elements is what is due
 pub value_written : (text : List ℕ) (elements : Buffers) (header : Header) (held : Held) (items : List ℕ) → header_given text ≡ Ok header → elements_given header.data_type elements ≡ Ok held
