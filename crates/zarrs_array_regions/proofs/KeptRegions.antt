@@ -13,7 +13,7 @@ use Rattle.zarrs_chunk.specs.declared.codec_error.CodecError.TheVariants.{Incomp
 use Rattle.zarrs_chunk.proofs.Products.{All-positive, product_positive, product_zero}
 use Rattle.zarrs_array_to_array.specs.ArrayToArrayCodec.{ArrayMapping}
 use Rattle.zarrs_array_regions.specs.KeptRegions.{keeps_regions, is_filled, IsKept}
-use Rattle.zarrs_array_regions.proofs.KeptWindows.{bounds_from}
+use Rattle.zarrs_array_to_array.proofs.BoxPlaces.{bounds_from}
 
 both_demanded : (a b : Bool) (x y : CodecError) → is_ok (demand a x >>= λ _. demand b y) ≡ true → b ≡ true
 both_demanded true true x y h = refl

@@ -1,32 +1,24 @@
 -- Codecs keep windows of the chunk's own sizes.
-use Rattle.std.proofs.Common.{◌≡◌, ◌==◌, ◌^◌, ℕ, ◌<◌, true, Some, List, length, get_or, Ok, refl, ap, ◌∙◌, sym, subst, arith}
-use Rattle.std.proofs.lemmas.Bool.{eq-eqb, lt-ltb}
-use Rattle.std.proofs.lemmas.List.{map-id}
-use Rattle.zarrs_chunk.specs.Answer.{demand}
-use Rattle.zarrs_chunk.specs.AnswerLaws.{demand_ok}
+use Rattle.std.proofs.Common.{◌≡◌, ◌^◌, ℕ, ◌<◌, Bool, true, if◌then◌else◌, Option, Some, None, List, length, get_or, Ok, refl, ap, ◌∙◌, sym, subst, arith}
+use Rattle.std.specs.Prelude.{option_map}
+use Rattle.std.proofs.lemmas.Bool.{lt-ltb}
 use Rattle.zarrs_chunk.specs.ChunkShape.{product}
 use Rattle.zarrs_chunk.specs.Region.{Region}
-use Rattle.zarrs_chunk.specs.Selection.{subset, bounds_of, places_of}
+use Rattle.zarrs_chunk.specs.Selection.{subset, places_of}
 use Rattle.zarrs_chunk.specs.Tuples.{is_box_inside}
-use Rattle.zarrs_chunk.specs.declared.codec_error.CodecError.TheVariants.{IncompatibleDimensionality}
-use Rattle.zarrs_chunk.proofs.Inside.{is_box_inside-lengths}
 use Rattle.zarrs_chunk.proofs.Products.{product_positive}
 use Rattle.zarrs_codec.specs.CoordinateMap.{CoordinateMap, same_places}
-use Rattle.zarrs_metadata.proofs.Orders.{order_parts}
-use Rattle.zarrs_array_to_array.specs.ArrayToArrayCodec.{ArrayMapping, transpose, reshape, squeeze, IsMapping, coordinates}
-use Rattle.zarrs_array_to_array.specs.SqueezeMeaning.{squeezed_region}
-use Rattle.zarrs_array_to_array.specs.Squeeze.{squeezed}
-use Rattle.zarrs_array_to_array.specs.Transpose.{transposition}
-use Rattle.zarrs_array_to_array.proofs.AnswerSteps.{step_ok, some_is}
-use Rattle.zarrs_array_to_array.proofs.CoordinateMaps.{same_places_map}
-use Rattle.zarrs_array_to_array.proofs.Images.{squeezed_box_inside, squeezed_image_subset}
-use Rattle.zarrs_array_to_array.proofs.Squeezing.{product-squeezed}
-use Rattle.zarrs_array_regions.specs.declared.window.Window.{Window}
-use Rattle.zarrs_array_regions.specs.Windows.{IsWindow, KeepsWindow, window_of, window_places, next_window, part_map}
-use Rattle.zarrs_array_regions.proofs.WindowMaps.{places_count, transposition_keeps, here_is}
+use Rattle.zarrs_array_to_array.specs.ArrayMeaning.{BoxMap}
+use Rattle.zarrs_array_to_array.specs.ArrayToArrayCodec.{ArrayMapping, IsMapping, array_meaning, coordinates, keeps_places}
+use Rattle.zarrs_array_to_array.specs.EncodedBoxes.{part_moves}
+use Rattle.zarrs_array_to_array.proofs.AnswerSteps.{some_is}
+use Rattle.zarrs_array_to_array.proofs.ArrayLaws.{array_laws}
 use Rattle.zarrs_array_to_array.proofs.BoxNumbers.{factors_positive}
-use Rattle.zarrs_array_to_array.proofs.SameMaps.{same_map}
-use Rattle.zarrs_array_to_array.proofs.Orders.{eq_true}
+use Rattle.zarrs_array_to_array.proofs.BoxPlaces.{KeepsBox, bounds_from}
+use Rattle.zarrs_array_to_array.proofs.CoordinateMaps.{same_places_map}
+use Rattle.zarrs_array_regions.specs.declared.window.Window.{Window}
+use Rattle.zarrs_array_regions.specs.Windows.{IsWindow, KeepsWindow, behind_window, window_of, window_places, next_window, part_map}
+use Rattle.zarrs_array_regions.proofs.WindowMaps.{places_count}
 
 -- ---- places that stay
 
@@ -41,40 +33,38 @@ same_keeps count m window next stay is next_is same =
       places = λ k l. ap (λ ps. get_or ps k 0) same ∙ sym (stay (get_or (window_places window) k 0));
     }
 
--- ---- squeezing
-
-pub bounds_from : (sizes : List ℕ) (region : Region) → is_box_inside sizes region.starts region.lengths ≡ true → bounds_of (subset region) sizes ≡ Ok tt
-bounds_from sizes region h =
-    let axes = is_box_inside-lengths sizes region.starts region.lengths h in
-    rw (eq-eqb (length region.starts) (length sizes) axes.0, h) refl
-
-pub squeezed_places : (sizes : List ℕ) (region : Region) → is_box_inside sizes region.starts region.lengths ≡ true
-    → window_places (window_of (squeezed sizes) (squeezed_region sizes region)) ≡ window_places (window_of sizes region)
-squeezed_places sizes region h =
-    let image = squeezed_image_subset sizes region (bounds_from sizes region h) in
-    image.places ∙ map-id (window_places (window_of sizes region))
-
-pub squeezed_is : (sizes : List ℕ) (region : Region) → is_box_inside sizes region.starts region.lengths ≡ true → IsWindow (product sizes) (window_of (squeezed sizes) (squeezed_region sizes region))
-squeezed_is sizes region h = record { count_is = product-squeezed sizes; inside = squeezed_box_inside sizes region.starts region.lengths h }
+-- ---- regions
 
 -- the places of a region inside are those of its window
 pub places_are : (sizes : List ℕ) (region : Region) → is_box_inside sizes region.starts region.lengths ≡ true → product sizes < 2 ^ 64 → places_of (subset region) sizes ≡ Ok (window_places (window_of sizes region))
 places_are sizes region h l = rw (bounds_from sizes region h, lt-ltb (product sizes) (2 ^ 64) l) refl
 
--- ---- all codecs
+-- ---- codecs
 
-keeps_at : (count : ℕ) (m n : CoordinateMap) (window next other : Window) (part : CoordinateMap) → n ≡ m → other ≡ next → KeepsWindow count n window other part → KeepsWindow count m window next part
-keeps_at count m n window next other part e f h = subst (λ x. KeepsWindow count x window next part) e (subst (λ x. KeepsWindow count n window x part) f h)
+-- the window of a box that keeps its elements
+pub box_window : (sizes : List ℕ) (m : CoordinateMap) (region : Region) (there : List ℕ × Region) (part : CoordinateMap) → KeepsBox sizes m region there part → KeepsWindow (product sizes) m (window_of sizes region) (window_of there.0 there.1) part
+box_window sizes m region there part keeps = record {
+  next_is = record { count_is = keeps.count; inside = keeps.inside };
+  part_is = keeps.part_is;
+  lengths = keeps.lengths;
+  places = keeps.places;
+}
+
+-- the window that boxes take this one to, where there are some
+abbrev taken_to : Option BoxMap → List ℕ → Region → Option Window
+taken_to found sizes region = option_map (λ there. window_of there.0 there.1) (option_map (λ boxes. boxes sizes region) found)
+
+kept_by : (sizes : List ℕ) (m : CoordinateMap) (region : Region) (next : Window) (stay : Bool) (part : CoordinateMap) (found : Option BoxMap)
+    → ((boxes : BoxMap) → found ≡ Some boxes → KeepsBox sizes m region (boxes sizes region) (if stay then same_places (boxes sizes region).1.lengths else part))
+    → taken_to found sizes region ≡ Some next
+    → KeepsWindow (product sizes) m (window_of sizes region) next (if stay then same_places (behind_window (taken_to found sizes region) region.lengths (λ there. there.region.lengths)) else part)
+kept_by sizes m region next stay part None keeps e = absurd (cc)
+kept_by sizes m region next stay part (Some boxes) keeps e =
+    let there : Window = window_of (boxes sizes region).0 (boxes sizes region).1 in
+    let moved : CoordinateMap = if stay then same_places there.region.lengths else part in
+    subst (λ w. KeepsWindow (product sizes) m (window_of sizes region) w moved) (some_is there next e) (box_window sizes m region (boxes sizes region) moved (keeps boxes refl))
 
 pub codec_keeps : (codec : ArrayMapping) (sizes : List ℕ) (region : Region) (m : CoordinateMap) (next : Window) → IsMapping codec → coordinates codec sizes ≡ Ok m → is_box_inside sizes region.starts region.lengths ≡ true → next_window codec (window_of sizes region) ≡ Some next
     → KeepsWindow (product sizes) m (window_of sizes region) next (part_map codec (window_of sizes region))
-codec_keeps (transpose order) sizes region m next is h inside e =
-    let step = step_ok (demand (length order == length sizes) IncompatibleDimensionality) (λ _. Ok (transposition order sizes)) m h in
-    let axes : length order ≡ length sizes = eq_true _ _ (demand_ok (length order == length sizes) IncompatibleDimensionality step.1) in
-    keeps_at (product sizes) m (transposition order sizes) (window_of sizes region) next _ (transposition order region.lengths) (same_map m (transposition order sizes) step.2) (some_is _ next e)
-    (transposition_keeps order sizes region (order_parts order is) axes inside)
-codec_keeps (reshape dims) sizes region m next is h inside e = absurd (cc)
-codec_keeps squeeze sizes region m next is h inside e =
-    let there : Window = window_of (squeezed sizes) (squeezed_region sizes region) in
-    keeps_at (product sizes) m (same_places (squeezed sizes)) (window_of sizes region) next there (same_places there.region.lengths) (same_map m (same_places (squeezed sizes)) h) (some_is there next e)
-    (same_keeps (product sizes) (same_places (squeezed sizes)) (window_of sizes region) there (λ place. refl) (here_is sizes region inside) (squeezed_is sizes region inside) (squeezed_places sizes region inside))
+codec_keeps codec sizes region m next is h inside e =
+    kept_by sizes m region next (keeps_places codec) (part_moves codec region.lengths) (array_meaning codec).boxes (λ boxes f. (array_laws codec).box_kept sizes m boxes region is h f inside) e

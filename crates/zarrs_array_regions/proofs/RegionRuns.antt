@@ -24,7 +24,7 @@ use Rattle.zarrs_array_regions.specs.Windows.{EncodesMapped, TakesRegion, GivesR
 use Rattle.zarrs_array_regions.proofs.WindowCalls.{first_taken, WindowStep, WindowStays}
 use Rattle.zarrs_array_to_array.proofs.ArrayLaws.{array_laws}
 use Rattle.zarrs_array_to_array.proofs.PermutedBoxes.{order_axes}
-use Rattle.zarrs_array_regions.proofs.WindowMaps.{permuted_box}
+use Rattle.zarrs_array_to_array.proofs.TransposedBoxes.{permuted_box}
 
 all_below : (order : List ℕ) (n : ℕ) → ((i : ℕ) → i < length order → slice_index order i < n) → All (λ axis. axis < n) order
 all_below order n h = λ k d l. rw (get_or_default order k d 0 l) (h k l)

@@ -18,7 +18,7 @@ use Rattle.zarrs_codec.specs.CoordinateMap.{CoordinateMap, IsCoordinateMap, comp
 use Rattle.zarrs_codec.specs.StorageState.{are_sure}
 use Rattle.zarrs_metadata.specs.Orders.{is_order}
 use Rattle.zarrs_array_to_array.specs.ArrayToArrayCodec.{ArrayMapping, IsMapping, coordinates, chained}
-use Rattle.zarrs_array_to_array.specs.SqueezeMeaning.{squeezed_region}
+use Rattle.zarrs_array_to_array.specs.SqueezedBoxes.{squeezed_region}
 use Rattle.zarrs_array_to_array.specs.Orders.{permuted}
 use Rattle.zarrs_array_to_array.specs.TransposeMeaning.{permuted_region}
 use Rattle.zarrs_array_to_array.specs.Squeeze.{squeezed}

@@ -17,7 +17,7 @@ use Rattle.zarrs_chunk.specs.declared.codec_error.CodecError.TheVariants.{Incomp
 use Rattle.zarrs_chunk.proofs.BoxTuples.{box_tuples-nothing}
 use Rattle.zarrs_chunk.proofs.Inside.{is_tuple_inside-length, row_major-below, is_box_inside-lengths, le_test, from_le_test, lt_test}
 use Rattle.zarrs_codec.specs.CoordinateMap.{same_places}
-use Rattle.zarrs_array_to_array.specs.SqueezeMeaning.{drops_empty_range, squeeze_asked, squeezed_lengths, squeezed_region}
+use Rattle.zarrs_array_to_array.specs.SqueezedBoxes.{drops_empty_range, squeeze_asked, squeezed_lengths, squeezed_region}
 use Rattle.zarrs_codec.specs.MappedSelection.{IsImage}
 use Rattle.zarrs_metadata.specs.Orders.{IsOrder}
 use Rattle.zarrs_array_to_array.specs.Orders.{permuted}
@@ -30,7 +30,7 @@ use Rattle.zarrs_array_to_array.proofs.Squeezing.{is_one}
 use Rattle.zarrs_array_to_array.proofs.Transposition.{transposed_tuple}
 use Rattle.zarrs_chunk.proofs.NumberedTuples.{tuple_of_number-inside, row_major-tuple_of_number}
 use Rattle.zarrs_codec.specs.SampleLaws.{eq_test}
-use Rattle.zarrs_array_to_array.specs.CountLaws.{or_axes}
+use Rattle.zarrs_array_to_array.specs.SqueezeCount.{or_axes}
 
 -- ---- the tuples of a selection in bounds
 

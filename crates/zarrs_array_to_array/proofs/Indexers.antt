@@ -22,7 +22,7 @@ use Rattle.zarrs_array_to_array.specs.ArrayToArrayCodec.{ArrayMapping, IsMapping
 use Rattle.zarrs_array_to_array.specs.Boxes.{EndsFit}
 use Rattle.zarrs_codec.specs.CoordinateMap.{CoordinateMap, same_places, IsMapTo}
 use Rattle.zarrs_array_to_array.specs.EncodedSelection.{selection_in}
-use Rattle.zarrs_array_to_array.specs.SqueezeMeaning.{squeezed_lengths, squeezed_region}
+use Rattle.zarrs_array_to_array.specs.SqueezedBoxes.{squeezed_lengths, squeezed_region}
 use Rattle.zarrs_codec.specs.MappedSelection.{IsImageBy, image_of}
 use Rattle.zarrs_metadata.specs.Orders.{is_order}
 use Rattle.zarrs_array_to_array.specs.Orders.{permuted}

@@ -36,6 +36,7 @@ reshape_laws dims = record {
   stays_to = λ sizes m place keeps h. ap (λ (x : CoordinateMap). x.to place) (sym (taken_reshaping dims sizes m h).is);
   stays_from = λ sizes m place keeps h. ap (λ (x : CoordinateMap). x.from place) (sym (taken_reshaping dims sizes m h).is);
   box_sizes = λ sizes m boxes region h e. absurd (cc);
+  box_kept = λ sizes m boxes region sound h e inside. absurd (cc);
   boxes_or_places = λ e. refl;
   part_fits = λ sizes lengths e h keeps. absurd (cc);
   clean = λ sound. clean_members (members_have_float (write_reshape dims)) (read_reshape (write_reshape dims)) dims (λ h. rw h refl) (reshape-reads_back dims sound);

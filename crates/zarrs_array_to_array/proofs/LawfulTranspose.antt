@@ -23,6 +23,7 @@ use Rattle.zarrs_array_to_array.proofs.LawfulArray.{IsLawfulArray}
 use Rattle.zarrs_array_to_array.proofs.Orders.{eq_true}
 use Rattle.zarrs_array_to_array.proofs.Refusals.{bind_no_fault, demand_no_fault}
 use Rattle.zarrs_array_to_array.proofs.SameMaps.{same_map}
+use Rattle.zarrs_array_to_array.proofs.TransposedBoxes.{transposed_box_kept}
 use Rattle.zarrs_array_to_array.proofs.Transposition.{transposition_map}
 
 -- where the sizes are accepted, the order has as many axes, and this is what it does to them
@@ -51,6 +52,7 @@ transpose_laws order = record {
   stays_to = λ sizes m place keeps h. absurd (cc);
   stays_from = λ sizes m place keeps h. absurd (cc);
   box_sizes = λ sizes m boxes region h e. let t = taken_transposition order sizes m h in ap (λ (x : CoordinateMap). x.encoded) (sym t.is) ∙ boxes_at sizes region boxes e;
+  box_kept = λ sizes m boxes region sound h e inside. let t = taken_transposition order sizes m h in rw (← t.is, ← some_is (transpose_box order) boxes e) (transposed_box_kept order sizes region (order_parts order sound) t.axes inside);
   boxes_or_places = λ e. absurd (cc);
   part_fits = λ sizes lengths e h keeps. rw (eq-eqb (length order) (length lengths) (axes_taken order sizes h ∙ sym e)) refl;
   clean = λ sound. clean_members (members_have_float (write_transpose order)) (read_transpose (write_transpose order)) order (λ h. rw h refl) (transpose-reads_back order sound);

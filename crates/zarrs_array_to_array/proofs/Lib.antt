@@ -38,6 +38,8 @@ pub mod InPlace
 pub mod CodecLists
 pub mod ListedPlaces
 pub mod PermutedBoxes
+pub mod BoxPlaces
+pub mod TransposedBoxes
 pub mod LawfulArray
 pub mod LawfulTranspose
 pub mod LawfulReshape

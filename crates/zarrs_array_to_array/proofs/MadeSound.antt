@@ -1,11 +1,11 @@
 -- What is made of metadata holds to what its type does.
-use Rattle.std.proofs.Common.{◌≡◌, ℕ, nat_le, Bool, true, false, if◌then◌else◌, List, Result, Ok, Err, refl, subst}
+use Rattle.std.proofs.Common.{◌≡◌, ℕ, nat_le, Bool, true, false, List, Result, Ok, refl, subst}
 use Rattle.std.specs.Prelude.{codes}
 use Rattle.std.proofs.lemmas.Bool.{and_from}
 use Rattle.serde_json.specs.Data.{Members}
 use Rattle.serde_json.specs.Find.{as_array, get_member}
-use Rattle.zarrs_chunk.specs.Answer.{demand, seen}
-use Rattle.zarrs_metadata.specs.CodecMetadata.{members_of, is_transpose_name, transpose_made, is_reshape_name, reshape_made, squeeze_made}
+use Rattle.zarrs_chunk.specs.Answer.{demand}
+use Rattle.zarrs_metadata.specs.CodecMetadata.{members_of, is_transpose_name, transpose_made, is_reshape_name, reshape_made}
 use Rattle.zarrs_metadata.specs.Dims.{Dim, autos, has_no_zero, is_reshape}
 use Rattle.zarrs_metadata.specs.Metadata.{Metadata}
 use Rattle.zarrs_metadata.specs.Orders.{is_order}
@@ -14,10 +14,7 @@ use Rattle.zarrs_metadata.specs.ReshapeShape.{reshape_shape_of}
 use Rattle.zarrs_metadata.specs.TransposeConfiguration.{read_transpose}
 use Rattle.zarrs_metadata.specs.TransposeOrder.{transpose_order_of}
 use Rattle.zarrs_metadata.specs.Trees.{needed, without_floats, number_list}
-use Rattle.zarrs_metadata.specs.declared.plugin_create_error.PluginCreateError.{PluginCreateError}
 use Rattle.zarrs_metadata.specs.declared.plugin_create_error.PluginCreateError.TheVariants.{UnknownName, NotAPermutation, MultipleAuto, ZeroSize}
-use Rattle.zarrs_array_to_array.specs.ArrayToArrayCodec.{ArrayMapping, transpose, reshape, squeeze, IsMapping}
-use Rattle.zarrs_array_to_array.specs.MappingMetadata.{mapping_made}
 use Rattle.zarrs_array_to_array.proofs.AnswerSteps.{step_ok}
 
 pub same_value : {E A : Type 0} (x y : A) → ◌≡◌ {A = Result A E} (Ok x) (Ok y) → x ≡ y
@@ -27,16 +24,16 @@ demand_ok : {E : Type 0} (test : Bool) (cause : E) (u : Unit {0}) → demand tes
 demand_ok true cause u e = refl
 demand_ok false cause u e = absurd (cc)
 
-order_is : (members : Members) (order : List ℕ) → read_transpose members ≡ Ok order → is_order order ≡ true
-order_is members order e =
+order_read : (members : Members) (order : List ℕ) → read_transpose members ≡ Ok order → is_order order ≡ true
+order_read members order e =
     let a = step_ok (without_floats members) _ order e in
     let b = step_ok (needed (get_member (codes "order") members)) _ order a.2 in
     let c = step_ok (number_list b.0) transpose_order_of order b.2 in
     let d = step_ok (demand (is_order c.0) NotAPermutation) (λ _. Ok c.0) order c.2 in
     subst (λ (o : List ℕ). is_order o ≡ true) (same_value c.0 order d.2) (demand_ok (is_order c.0) NotAPermutation d.0 d.1)
 
-dims_are : (members : Members) (dims : List Dim) → read_reshape members ≡ Ok dims → is_reshape dims ≡ true
-dims_are members dims e =
+dims_read : (members : Members) (dims : List Dim) → read_reshape members ≡ Ok dims → is_reshape dims ≡ true
+dims_read members dims e =
     let a = step_ok (without_floats members) _ dims e in
     let b = step_ok (needed (get_member (codes "shape") members)) _ dims a.2 in
     let c = step_ok (needed (as_array b.0)) _ dims b.2 in
@@ -46,20 +43,12 @@ dims_are members dims e =
     subst (λ (ds : List Dim). is_reshape ds ≡ true) (same_value d.0 dims g.2)
     (and_from (nat_le (autos d.0) 1) (has_no_zero d.0) (demand_ok (nat_le (autos d.0) 1) MultipleAuto g.0 g.1) (demand_ok (has_no_zero d.0) ZeroSize f.0 f.1))
 
-mapping_is : (t u : Bool) (a : Result (List ℕ) PluginCreateError) (b : Result (List Dim) PluginCreateError) (c : Result (Unit {0}) PluginCreateError) (codec : ArrayMapping)
-    → ((order : List ℕ) → a ≡ Ok order → is_order order ≡ true) → ((dims : List Dim) → b ≡ Ok dims → is_reshape dims ≡ true)
-    → (if t then seen transpose a else if u then seen reshape b else seen (λ _. squeeze) c) ≡ Ok codec → IsMapping codec
-mapping_is true u (Ok order) b c codec f g e = subst (λ (m : ArrayMapping). IsMapping m) (same_value (transpose order) codec e) (f order refl)
-mapping_is true u (Err x) b c codec f g e = absurd (cc)
-mapping_is false true a (Ok dims) c codec f g e = subst (λ (m : ArrayMapping). IsMapping m) (same_value (reshape dims) codec e) (g dims refl)
-mapping_is false true a (Err x) c codec f g e = absurd (cc)
-mapping_is false false a b (Ok v) codec f g e = subst (λ (m : ArrayMapping). IsMapping m) (same_value squeeze codec e) tt
-mapping_is false false a b (Err x) codec f g e = absurd (cc)
-
-pub made_is : (metadata : Metadata) (codec : ArrayMapping) → mapping_made metadata ≡ Ok codec → IsMapping codec
-made_is metadata codec e =
+pub order_is : (metadata : Metadata) (order : List ℕ) → transpose_made metadata ≡ Ok order → is_order order ≡ true
+order_is metadata order e =
     let members = members_of metadata.configuration in
-    mapping_is (is_transpose_name metadata.name) (is_reshape_name metadata.name) (transpose_made metadata) (reshape_made metadata) (squeeze_made metadata) codec
-    (λ order o. let r = step_ok (demand (is_transpose_name metadata.name) UnknownName) (λ _. read_transpose members) order o in order_is members order r.2)
-    (λ dims d. let r = step_ok (demand (is_reshape_name metadata.name) UnknownName) (λ _. read_reshape members) dims d in dims_are members dims r.2)
-    e
+    order_read members order (step_ok (demand (is_transpose_name metadata.name) UnknownName) (λ _. read_transpose members) order e).2
+
+pub dims_are : (metadata : Metadata) (dims : List Dim) → reshape_made metadata ≡ Ok dims → is_reshape dims ≡ true
+dims_are metadata dims e =
+    let members = members_of metadata.configuration in
+    dims_read members dims (step_ok (demand (is_reshape_name metadata.name) UnknownName) (λ _. read_reshape members) dims e).2

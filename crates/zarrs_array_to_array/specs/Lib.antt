@@ -6,6 +6,8 @@ pub mod Transpose
 pub mod TransposeLaws
 pub mod Reshape
 pub mod Squeeze
+pub mod SqueezedBoxes
+pub mod SqueezeCount
 pub mod ArrayMeaning
 pub mod TransposeMeaning
 pub mod ReshapeMeaning

@@ -1,6 +1,8 @@
 -- What `reshape` means.
 -- Source: zarr-extensions, `reshape`.
 use Rattle.std.specs.Prelude.{◌≡◌, ℕ, true, List, map, Result, Ok, None}
+use Rattle.std.proofs.Common.{◌∙◌}
+use Rattle.std.proofs.lemmas.List.{length-map}
 use Rattle.zarrs_array_to_array.specs.ArrayMeaning.{ArrayMeaning}
 use Rattle.zarrs_array_to_array.specs.Reshape.{reshaped}
 use Rattle.zarrs_chunk.specs.Answer.{◌>>=◌}
@@ -32,6 +34,7 @@ reshape_meaning dims = record {
   coordinates = reshape_coordinates dims;
   sizes_before = λ sizes. Ok None;
   asked = reshape_asked;
+  asks_as_many = λ sizes encoded selection inside. length-map (map (row_major sizes) (tuples_of selection)) (tuple_of_number encoded) ∙ length-map (tuples_of selection) (row_major sizes);
   keeps_places = true;
   boxes = None;
   part = same_places;

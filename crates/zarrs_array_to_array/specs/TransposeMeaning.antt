@@ -1,6 +1,7 @@
 -- What `transpose` means.
 -- Source: the Zarr v3 codec `transpose`.
 use Rattle.std.specs.Prelude.{◌≡◌, ℕ, ◌==◌, not, is_some, true, false, List, map, length, Result, Ok, Some}
+use Rattle.std.proofs.lemmas.List.{length-map}
 use Rattle.zarrs_array_bytes.specs.Validity.{Holds}
 use Rattle.zarrs_array_to_array.specs.ArrayMeaning.{ArrayMeaning, BoxMap}
 use Rattle.zarrs_array_to_array.specs.Orders.{permuted}
@@ -48,6 +49,7 @@ transpose_meaning order = record {
   coordinates = transpose_coordinates order;
   sizes_before = λ sizes. seen (λ decoded. Some decoded) (transposed_back_sizes order sizes);
   asked = λ sizes encoded selection. transpose_asked order selection;
+  asks_as_many = λ sizes encoded selection inside. length-map (tuples_of selection) (permuted order);
   keeps_places = false;
   boxes = Some (transpose_box order);
   part = transposition order;

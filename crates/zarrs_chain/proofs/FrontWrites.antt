@@ -30,7 +30,7 @@ use Rattle.zarrs_bytes.specs.BytesCodec.{BytesTakes, bytes_chunk, bytes_element,
 use Rattle.zarrs_bytes.proofs.Coding.{decoded_holds, encoded_is, ok, taken}
 use Rattle.zarrs_bytes.proofs.PartWrites.{ok_length}
 use Rattle.zarrs_chain_meaning.specs.ArrayStages.{IsMapWhere, arrays_map}
-use Rattle.zarrs_chain_meaning.specs.BytesStages.{outer_value}
+use Rattle.zarrs_chain_meaning.specs.BytesStages.{outer_bytes, outer_value}
 use Rattle.zarrs_chain_meaning.specs.Chain.{codec_held_value, held_value, taken_form}
 use Rattle.zarrs_chain_meaning.specs.CodecMeaning.{PlainChain, bytes_codec, chain_chunk, codec_representation, meaning}
 use Rattle.zarrs_chain_meaning.proofs.ArraySteps.{at_ok, if_ok, next_answer, ok_no_err}
@@ -158,42 +158,42 @@ value_long order sizes text fill value size stored takes sized read = absurd cc
 value_long order sizes bytes fill value size stored takes sized read = absurd cc
 value_long order sizes (optional type) fill value size stored takes sized read = absurd cc
 
--- a chain of array-to-array codecs and `bytes` alone
-module _ {B : Type 0} (f : BytesCodecs B) (chain : PlainChain B) (order : Option Endianness) (sizes : List ℕ) (type : ElementType) (fill : List ℕ) (form : List ℕ × BytesRepresentation) (value : List ℕ)
-    (is : chain.array_to_bytes ≡ bytes_codec order) (none : chain.bytes_to_bytes ≡ []) (maps : IsMapWhere type chain.array_to_array sizes) (e : taken_form f chain sizes type fill ≡ Ok form) where
-  whole : chain ≡ bytes_chain chain.array_to_array order []
-  whole = λ i. record { array_to_array = chain.array_to_array; array_to_bytes = is i; bytes_to_bytes = none i }
+-- a chain whose array-to-bytes codec is `bytes`, and what stands below its bytes-to-bytes codecs
+module _ {B : Type 0} (f : BytesCodecs B) (chain : PlainChain B) (order : Option Endianness) (sizes : List ℕ) (type : ElementType) (fill : List ℕ) (form : List ℕ × BytesRepresentation) (value below : List ℕ)
+    (is : chain.array_to_bytes ≡ bytes_codec order) (maps : IsMapWhere type chain.array_to_array sizes) (e : taken_form f chain sizes type fill ≡ Ok form) (opened : outer_bytes f chain.bytes_to_bytes form.1 value ≡ Ok below) where
+  whole : chain ≡ bytes_chain chain.array_to_array order chain.bytes_to_bytes
+  whole = λ i. record { array_to_array = chain.array_to_array; array_to_bytes = is i; bytes_to_bytes = chain.bytes_to_bytes }
 
-  formed : taken_form f (bytes_chain chain.array_to_array order []) sizes type fill ≡ Ok form
+  formed : taken_form f (bytes_chain chain.array_to_array order chain.bytes_to_bytes) sizes type fill ≡ Ok form
   formed = subst (λ c. taken_form f c sizes type fill ≡ Ok form) whole e
 
-  pub alone_takes : BytesTakes order (form_of sizes type fill)
-  alone_takes = taken_behind f chain.array_to_array order [] sizes type fill form maps formed
+  pub bytes_takes : BytesTakes order (form_of sizes type fill)
+  bytes_takes = taken_behind f chain.array_to_array order chain.bytes_to_bytes sizes type fill form maps formed
 
   -- what its value answers is what the moved chunk does
-  alone_read : (r : Result Held CodecError) → ((m : CoordinateMap) → arrays_map type chain.array_to_array sizes ≡ Ok m → GivesBy (Holds type) r (seen (moved_chunk (inverse_map sizes m)) (bytes_chunk order (form_of sizes type fill) value)))
+  below_read : (r : Result Held CodecError) → ((m : CoordinateMap) → arrays_map type chain.array_to_array sizes ≡ Ok m → GivesBy (Holds type) r (seen (moved_chunk (inverse_map sizes m)) (bytes_chunk order (form_of sizes type fill) below)))
       → GivesBy (Holds type) r (chain_chunk f chain sizes type fill value)
-  alone_read r read =
+  below_read r read =
       subst (λ c. GivesBy (Holds type) r (chain_chunk f c sizes type fill value)) (sym whole)
-      (chunk_behind f chain.array_to_array order [] sizes type fill form value value r maps formed refl
-      (if_ok (arrays_map type chain.array_to_array sizes) (λ (m : CoordinateMap). GivesBy (Holds type) r (seen (moved_chunk (inverse_map sizes m)) (bytes_chunk order (form_of sizes type fill) value))) read))
+      (chunk_behind f chain.array_to_array order chain.bytes_to_bytes sizes type fill form value below r maps formed opened
+      (if_ok (arrays_map type chain.array_to_array sizes) (λ (m : CoordinateMap). GivesBy (Holds type) r (seen (moved_chunk (inverse_map sizes m)) (bytes_chunk order (form_of sizes type fill) below))) read))
 
-  -- a value that isn't as long as the elements stands for no chunk
-  pub unread : (error : CodecError) → is_fault {T = Held} (Err error) ≡ false → (memory error ≡ false → bytes_chunk (Some Little) (form_of sizes type fill) value ≡ Err error) → memory error ≡ false → chain_chunk f chain sizes type fill value ≡ Err error
+  -- where what stands below isn't as long as the elements, the value stands for no chunk
+  pub unread : (error : CodecError) → is_fault {T = Held} (Err error) ≡ false → (memory error ≡ false → bytes_chunk (Some Little) (form_of sizes type fill) below ≡ Err error) → memory error ≡ false → chain_chunk f chain sizes type fill value ≡ Err error
   unread error quiet refused =
-      (alone_read (Err error)
-      (λ m mapped. record { is = λ h. ap (seen (moved_chunk (inverse_map sizes m))) (same_refusal order sizes type fill value error alone_takes (refused h)); no_fault = quiet })).is
+      (below_read (Err error)
+      (λ m mapped. record { is = λ h. ap (seen (moved_chunk (inverse_map sizes m))) (same_refusal order sizes type fill below error bytes_takes (refused h)); no_fault = quiet })).is
 
-  module _ (positive : All (λ size. 0 < size) sizes) (stored : Held) (read : AnswersBy memory (Holds type) (Ok stored) (bytes_chunk (Some Little) (form_of sizes type fill) value)) where
+  module _ (positive : All (λ size. 0 < size) sizes) (stored : Held) (read : AnswersBy memory (Holds type) (Ok stored) (bytes_chunk (Some Little) (form_of sizes type fill) below)) where
     -- the elements are what the array-to-array codecs make of the stored ones, their components turned round
     pub bytes_read : (raw : Raw) → IfOk (decoded_chunk (Ok tt) (arrays_map type chain.array_to_array sizes) type sizes stored) (λ chunk. Holds type (flen raw) chunk)
         → IsOkAnd (chain_chunk f chain sizes type fill value) (Holds type (fixed_of (turned_bytes (turn_size order type) raw.items)))
     bytes_read raw found =
-        let l = ok_length (bytes_length order (form_of sizes type fill)) alone_takes in
+        let l = ok_length (bytes_length order (form_of sizes type fill)) bytes_takes in
         let made : Held = fixed_of (turned_bytes (turn_size order type) raw.items) in
-        (alone_read (Ok made)
+        (below_read (Ok made)
         (λ m mapped. record {
-          is = turned_answers order chain.array_to_array sizes m positive (at_ok (arrays_map type chain.array_to_array sizes) (λ (m : CoordinateMap). IsCoordinateMap sizes m) m mapped maps) type fill value stored (flen raw) raw (Ok made) alone_takes mapped read found refl (turned_holds order sizes type fill raw l.0 l.1);
+          is = turned_answers order chain.array_to_array sizes m positive (at_ok (arrays_map type chain.array_to_array sizes) (λ (m : CoordinateMap). IsCoordinateMap sizes m) m mapped maps) type fill below stored (flen raw) raw (Ok made) bytes_takes mapped read found refl (turned_holds order sizes type fill raw l.0 l.1);
           no_fault = refl;
         })).is
 
@@ -203,7 +203,7 @@ module _ {B : Type 0} (f : BytesCodecs B) (chain : PlainChain B) (order : Option
     reads_or_memory error found quiet =
         let t = is_taken f chain sizes type fill form e in
         let m = at_ok (arrays_map type chain.array_to_array sizes) (λ (m : CoordinateMap). IsCoordinateMap sizes m) t.map_is t.mapped maps in
-        let back = stored_back order chain.array_to_array sizes t.map_is positive m type fill value stored alone_takes t.mapped read in
+        let back = stored_back order chain.array_to_array sizes t.map_is positive m type fill below stored bytes_takes t.mapped read in
         absurd (ok_no_err back.0 error (at_ok (decoded_chunk (Ok tt) (arrays_map type chain.array_to_array sizes) type sizes stored) (λ (c : Chunk). AnswersBy memory (Holds type) (Err error) (Ok c)) back.0 back.1 found quiet))
 
 -- ---- a container that was made

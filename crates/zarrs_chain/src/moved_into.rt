@@ -1,11 +1,12 @@
 //! The value of a chunk, and the elements of a value, written where they are wanted.
-ghost use Rattle.std.specs.Prelude.{◌≡◌, ◌<◌, ◌≤◌, Some, IfSome, IfOk, [], length, true};
+ghost use Rattle.std.specs.Prelude.{◌≡◌, ◌<◌, ◌≤◌, ◌*◌, Some, IfSome, IfOk, [], length, true};
 ghost use Rattle.zarrs_array_bytes.specs.Held.{items_of};
 ghost use Rattle.zarrs_array_bytes.specs.Parts.{fixed_items};
 ghost use Rattle.zarrs_chain.specs.ChainView.{plain_chain};
 ghost use Rattle.zarrs_chain.specs.FrontWrites.{in_front, PutsElements, PutsValue};
 ghost use Rattle.zarrs_chain.specs.FormView.{lent_form};
 ghost use Rattle.zarrs_chain_meaning.specs.CodecMeaning.{bytes_codec};
+ghost use Rattle.zarrs_chunk.specs.ChunkShape.{product};
 ghost use Rattle.zarrs_data_type.specs.ElementType.{fixed_size_of};
 
 use crate::array_to_bytes_codec::ArrayToBytesCodec;
@@ -18,7 +19,8 @@ use std::alloc::Global;
 use zarrs_array_bytes::{ArrayBytes, ArrayBytesRaw};
 use zarrs_bytes::BytesCodec;
 use zarrs_chain_meaning::arrays_into::{decode_arrays_into, encode_arrays_into};
-use zarrs_chunk::CodecError;
+use zarrs_chain_meaning::bytes_stages::decode_bytes;
+use zarrs_chunk::{ChunkShape, CodecError};
 use zarrs_codec::BytesToBytesCodecTraits;
 
 /// Writes bytes in front of a slice, where it has room for them: how many they are.
@@ -120,8 +122,21 @@ pub fn encode_into<B: BytesToBytesCodecTraits>(
     Ok(put_front(value, made.as_slice()))
 }
 
-/// Writes the elements of one size of a value of array-to-array codecs and `bytes`, as
-/// `bytes_encode_into` writes a value. Errors: those of `CodecChain::decode`.
+/// Whether a slice of so many bytes has room for all elements of a chunk of this shape.
+fn elements_fit(shape: &ChunkShape, size: usize, len: usize) -> bool
+    ensures room { result ≡ true → product shape.now * size ≤ len }
+{
+    match shape.num_elements() {
+        Ok(count) => match count.checked_mul(size as u64) {
+            Some(bytes) => bytes <= len as u64,
+            None => false,
+        },
+        Err(_) => false,
+    }
+}
+
+/// Writes the elements of one size of a value of a chain with the codec `bytes`, as `bytes_encode_into`
+/// writes a value. Errors: those of `CodecChain::decode`.
 fn bytes_decode_into<B: BytesToBytesCodecTraits>(
     alloc: Global,
     chain: &CodecChain<B>,
@@ -132,26 +147,27 @@ fn bytes_decode_into<B: BytesToBytesCodecTraits>(
     elements: &mut [u8],
 ) -> Result<usize, CodecError>
     requires codec { (plain_chain chain.now).array_to_bytes ≡ bytes_codec codec.now }
-    requires outer { (plain_chain chain.now).bytes_to_bytes ≡ [] }
     requires some { 0 < size }
     requires sized { fixed_size_of form.data_type.now ≡ Some size }
-    requires room { length (items_of value) ≤ length elements.old }
+    requires room { product form.shape.now * size ≤ length elements.old }
     ensures written { PutsElements B.functions (plain_chain chain.now) (lent_form form.entry)
         (items_of value.entry) elements.old elements.new result }
 {
-    taken_form(alloc, chain, form)?;
+    let taken = taken_form(alloc, chain, form)?;
+    let below = decode_bytes(alloc, &chain.bytes_to_bytes, &taken.representation, value)?;
+    let codecs = chain.array_to_array.as_slice();
     let Form {
         shape,
         data_type,
         fill_value,
     } = form;
     shape.as_slice();
-    let count = value.len();
-    let stored = BytesCodec::little().decode(alloc, value, shape, data_type, fill_value)?;
+    let count = below.len();
+    let stored = BytesCodec::little().decode(alloc, below, shape, data_type, fill_value)?;
     let turn = codec.turn_size(data_type);
     decode_arrays_into(
         alloc,
-        &chain.array_to_array,
+        codecs,
         stored,
         shape,
         data_type,
@@ -165,8 +181,8 @@ fn bytes_decode_into<B: BytesToBytesCodecTraits>(
 
 /// Writes the elements, all of `size` bytes, that `CodecChain::decode` answers in front of `elements`,
 /// where that has room for them: how many bytes they have. Where the room is too short, nothing is
-/// written. A chain of array-to-array codecs and `bytes` alone moves each element to its place, and
-/// makes no container besides. Errors: those of `CodecChain::decode`, which leave what was there.
+/// written. A chain with the codec `bytes` moves each element to its place, and makes no container
+/// besides. Errors: those of `CodecChain::decode`, which leave what was there.
 pub fn decode_into<B: BytesToBytesCodecTraits>(
     alloc: Global,
     chain: &CodecChain<B>,
@@ -180,8 +196,8 @@ pub fn decode_into<B: BytesToBytesCodecTraits>(
     ensures written { PutsElements B.functions (plain_chain chain.now) (lent_form form.entry)
         (items_of value.entry) elements.old elements.new result }
 {
-    if let Some(codec) = bytes_alone(chain) {
-        if value.len() <= elements.len() {
+    if let ArrayToBytesCodec::Bytes(codec) = &chain.array_to_bytes {
+        if elements_fit(form.shape, size, elements.len()) {
             return bytes_decode_into(alloc, chain, codec, value, form, size, elements);
         }
     }

@@ -18,9 +18,8 @@ use Rattle.zarrs_metadata.specs.declared.plugin_create_error.PluginCreateError.T
 use Rattle.zarrs_metadata.proofs.ReadBack.{optional-reads_back, vlen-reads_back, sharding-reads_back}
 use Rattle.zarrs_array_to_array.specs.ArrayToArrayCodec.{ArrayMapping, IsMapping}
 use Rattle.zarrs_array_to_array.specs.MappingMetadata.{mapping_configuration}
-use Rattle.zarrs_array_to_array.proofs.ArrayLaws.{array_laws}
+use Rattle.zarrs_array_to_array.proofs.ArrayLaws.{array_laws, mapping_named, mappings_made_again}
 use Rattle.zarrs_array_to_array.proofs.CleanMembers.{clean_members}
-use Rattle.zarrs_array_to_array.proofs.MadeAgain.{mapping_named, mappings_made_again}
 use Rattle.zarrs_array_to_array.proofs.Transposition.{shape_of-positive}
 use Rattle.zarrs_packbits.specs.PackBitsSettings.{PackBitsSettings, is_reversed}
 use Rattle.zarrs_packbits.specs.SettingsMetadata.{read_settings, write_settings}

@@ -12,7 +12,8 @@ use Rattle.zarrs_metadata.specs.declared.plugin_create_error.PluginCreateError.T
 use Rattle.zarrs_array_to_array.specs.ArrayToArrayCodec.{ArrayMapping, IsMapping}
 use Rattle.zarrs_array_to_array.specs.MappingMetadata.{mapping_made}
 use Rattle.zarrs_array_to_array.proofs.AnswerSteps.{step_ok}
-use Rattle.zarrs_array_to_array.proofs.MadeSound.{made_is, same_value}
+use Rattle.zarrs_array_to_array.proofs.ArrayLaws.{made_is}
+use Rattle.zarrs_array_to_array.proofs.MadeSound.{same_value}
 use Rattle.zarrs_chain_meaning.specs.MadeChain.{CodecMade, array_made, to_bytes_made, outer_made, Gathered, codec_named, asked_maker, made_by_name, codec_made, with_codec, joined, gathered, finished, nothing_gathered, depth_all, chain_in, chain_made}
 use Rattle.zarrs_chain_meaning.specs.CodecMeaning.{PlainChain, PlainCodec}
 

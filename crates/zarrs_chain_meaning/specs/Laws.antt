@@ -11,7 +11,7 @@ use Rattle.zarrs_bytes.specs.BytesCodec.{IsChunk}
 use Rattle.zarrs_packbits.specs.Laws.{HasBytes}
 use Rattle.zarrs_chain_meaning.specs.CodecMeaning.{PlainCodec, PlainChain, meaning, chain_meaning, normal_form, chain_representation}
 
--- all array-to-array codecs of a chain, and those of all chains inside, are orders, reshapes or squeezes, and no inner chunk has a size of zero
+-- all array-to-array codecs of a chain, and those of all chains inside, hold to what their types do, and no inner chunk has a size of zero
 pub record IsChainOfMappings {B : Type 0} (chain : PlainChain B) : Type 0 where
   pub mappings : All IsMapping chain.array_to_array
   pub inner_mappings : (meaning chain.array_to_bytes).Mapped

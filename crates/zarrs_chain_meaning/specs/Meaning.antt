@@ -35,7 +35,7 @@ Standing = List ℕ → ElementType → List ℕ → List ℕ → Chunk → Type
 abbrev pub Keeping : Type 0
 Keeping = ElementType → Element → Element
 
--- All array-to-array codecs inside are orders, reshapes or squeezes, and no inner chunk has a size of zero; what is left of an element; and by the caller's bytes-to-bytes codecs: how many bytes a chunk has, its value, the chunk of a value, for which chunk a value stands, and which value is written for a chunk.
+-- All array-to-array codecs inside hold to what their types do, and no inner chunk has a size of zero; what is left of an element; and by the caller's bytes-to-bytes codecs: how many bytes a chunk has, its value, the chunk of a value, for which chunk a value stands, and which value is written for a chunk.
 pub record Meaning (B : Type 0) : Type 1 where
   pub Mapped : Type 0
   pub normal : Keeping

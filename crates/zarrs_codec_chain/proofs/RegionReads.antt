@@ -26,7 +26,8 @@ use Rattle.zarrs_array_regions.specs.declared.window.Window.{Window}
 use Rattle.zarrs_array_regions.specs.KeptRegions.{keeps_regions, IsKept}
 use Rattle.zarrs_array_regions.specs.PlaceReaders.{ReadsInAnyOrder}
 use Rattle.zarrs_array_regions.specs.Windows.{TakesRegion, TakeType, window_of, window_places, last_window, decoded_elements, decoded_of}
-use Rattle.zarrs_array_regions.proofs.KeptWindows.{bounds_from, places_are}
+use Rattle.zarrs_array_to_array.proofs.BoxPlaces.{bounds_from}
+use Rattle.zarrs_array_regions.proofs.KeptWindows.{places_are}
 use Rattle.zarrs_array_regions.proofs.PlaceReads.{mapped_read, then_read, region_read, region_decoded, region_sure}
 use Rattle.zarrs_chain_meaning.specs.ArrayStages.{codec_map, arrays_map}
 use Rattle.zarrs_chain_meaning.specs.Chain.{taken_form}

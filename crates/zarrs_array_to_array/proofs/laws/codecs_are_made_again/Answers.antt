@@ -1,4 +1,4 @@
-use Rattle.zarrs_array_to_array.proofs.MadeAgain.{mappings_made_again}
+use Rattle.zarrs_array_to_array.proofs.ArrayLaws.{mappings_made_again}
 use Rattle.zarrs_array_to_array.proofs.laws.codecs_are_made_again.Goals as goal
 
 pub returns : goal.returns

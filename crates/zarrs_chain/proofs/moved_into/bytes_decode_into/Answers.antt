@@ -17,14 +17,15 @@ use Rattle.zarrs_bytes.specs.BytesCodec.{bytes_chunk, turn_size}
 use Rattle.zarrs_codec.specs.MappedChunk.{decoded_chunk}
 use Rattle.zarrs_codec.specs.declared.bytes_representation.BytesRepresentation.{BytesRepresentation}
 use Rattle.zarrs_chain_meaning.specs.ArrayStages.{arrays_map}
+use Rattle.zarrs_chain_meaning.specs.BytesStages.{outer_bytes}
 use Rattle.zarrs_chain_meaning.specs.CodecMeaning.{chain_chunk}
-use Rattle.zarrs_chain_meaning.proofs.ChainSteps.{refused_chunk}
+use Rattle.zarrs_chain_meaning.proofs.ChainSteps.{refused_chunk, unopened}
 use Rattle.zarrs_chain.specs.ChainView.{plain_chain}
-use Rattle.zarrs_chain.proofs.FrontWrites.{alone_takes, bytes_read, front_there, reads_or_memory, unread, value_long, whole_components}
+use Rattle.zarrs_chain.proofs.FrontWrites.{bytes_read, bytes_takes, front_there, reads_or_memory, unread, value_long, whole_components}
 use Rattle.zarrs_chain.proofs.moved_into.bytes_decode_into.Goals as goal
 
-pub returns-in_err-taken_form : goal.returns-in_err-taken_form
-returns-in_err-taken_form g c =
+pub returns-in_err-taken : goal.returns-in_err-taken
+returns-in_err-taken g c =
     let f = g.B.BytesToBytesCodecTraits.functions in
     let chain = plain_chain c.args.chain.now in
     let sizes = c.args.form.shape.now in
@@ -38,7 +39,33 @@ returns-in_err-taken_form g c =
         counted = rw p.1 tt;
         there = rw p.1 tt;
         left = rw p.1 refl;
-        answered = rw (p.1, p.2) (record { is = λ quiet. refused_chunk f chain sizes type fill value c.in_err-taken_form.field-0.0 (c.in_err-taken_form.ensures.answer.is quiet); no_fault = search rules });
+        answered = rw (p.1, p.2) (record { is = λ quiet. refused_chunk f chain sizes type fill value c.in_err-taken.field-0.0 (c.in_err-taken.ensures.answer.is quiet); no_fault = search rules });
+      };
+    }
+
+pub returns-in_err-below : goal.returns-in_err-below
+returns-in_err-below g c =
+    let f = g.B.BytesToBytesCodecTraits.functions in
+    let chain = plain_chain c.args.chain.now in
+    let sizes = c.args.form.shape.now in
+    let type = c.args.form.data_type.now in
+    let fill = c.args.form.fill_value.now in
+    let value = (raw_of c.args.value).items in
+    let taken = c.in_ok-taken.taken in
+    let p = err_from_is_err_and c.from_residual-in_err-below.result c.from_residual-in_err-below.ensures.1 in
+    record {
+      written = record {
+        items = [];
+        counted = rw p.1 tt;
+        there = rw p.1 tt;
+        left = rw p.1 refl;
+        answered = rw (p.1, p.2)
+            (record {
+              is = λ quiet.
+                  let h = subst (λ bs. outer_bytes f bs taken.representation value ≡ Err c.in_err-below.field-0.0) c.deref.ensures.value (c.in_err-below.ensures.answer.is quiet) in
+                  unopened f chain sizes type fill (taken.shape, taken.representation) value c.in_err-below.field-0.0 c.in_ok-taken.ensures.answer.is h;
+              no_fault = search rules;
+            });
       };
     }
 
@@ -51,11 +78,13 @@ returns-in_err-stored g c =
     let type = c.args.form.data_type.now in
     let fill = c.args.form.fill_value.now in
     let value = (raw_of c.args.value).items in
-    let taken = c.in_ok-taken_form.field-0 in
+    let taken = c.in_ok-taken.taken in
     let form : List ℕ × BytesRepresentation = (taken.shape, taken.representation) in
-    let maps = c.in_ok-taken_form.ensures.map in
-    let formed = c.in_ok-taken_form.ensures.answer.is in
-    let refused = subst (λ (o : Option Endianness). AnswersBy memory (Holds type) (Err c.in_err-stored.field-0.0) (bytes_chunk o (form_of sizes type fill) value)) c.little.ensures.made c.in_err-stored.ensures.decodes.exact in
+    let maps = c.in_ok-taken.ensures.map in
+    let formed = c.in_ok-taken.ensures.answer.is in
+    let below = (raw_of c.in_ok-below.below).items in
+    let opened = subst (λ bs. outer_bytes f bs taken.representation value ≡ Ok below) c.deref.ensures.value c.in_ok-below.ensures.answer.is in
+    let refused = subst (λ (o : Option Endianness). AnswersBy memory (Holds type) (Err c.in_err-stored.field-0.0) (bytes_chunk o (form_of sizes type fill) below)) c.little.ensures.made c.in_err-stored.ensures.decodes.exact in
     let p = err_from_is_err_and c.from_residual-in_err-stored.result c.from_residual-in_err-stored.ensures.1 in
     record {
       written = record {
@@ -63,7 +92,7 @@ returns-in_err-stored g c =
         counted = rw p.1 tt;
         there = rw p.1 tt;
         left = rw p.1 refl;
-        answered = rw (p.1, p.2) (record { is = unread f chain order sizes type fill form value c.requires.codec c.requires.outer maps formed c.in_err-stored.field-0.0 c.in_err-stored.ensures.decodes.no_fault refused; no_fault = search rules });
+        answered = rw (p.1, p.2) (record { is = unread f chain order sizes type fill form value below c.requires.codec maps formed opened c.in_err-stored.field-0.0 c.in_err-stored.ensures.decodes.no_fault refused; no_fault = search rules });
       };
     }
 
@@ -80,13 +109,16 @@ decode_arrays_into-requires-clause-len g c =
     let type = c.args.form.data_type.now in
     let fill = c.args.form.fill_value.now in
     let value = (raw_of c.args.value).items in
-    let taken = c.in_ok-taken_form.field-0 in
+    let taken = c.in_ok-taken.taken in
     let form : List ℕ × BytesRepresentation = (taken.shape, taken.representation) in
-    let maps = c.in_ok-taken_form.ensures.map in
-    let formed = c.in_ok-taken_form.ensures.answer.is in
-    let read = subst (λ (o : Option Endianness). AnswersBy memory (Holds type) (Ok c.in_ok-stored.stored) (bytes_chunk o (form_of sizes type fill) value)) c.little.ensures.made c.in_ok-stored.ensures.decodes.exact in
-    let long = value_long order sizes type fill value c.args.size c.in_ok-stored.stored (alone_takes f chain order sizes type fill form value c.requires.codec c.requires.outer maps formed) c.requires.sized read in
-    length-take-le c.len-count.result c.args.elements.now (omega (arith, c.requires.room, c.len-count.ensures, ap length (raw_items c.args.value))) ∙ omega (arith, c.len-count.ensures, ap length (raw_items c.args.value)) ∙ long
+    let maps = c.in_ok-taken.ensures.map in
+    let formed = c.in_ok-taken.ensures.answer.is in
+    let below = (raw_of c.in_ok-below.below).items in
+    let opened = subst (λ bs. outer_bytes f bs taken.representation value ≡ Ok below) c.deref.ensures.value c.in_ok-below.ensures.answer.is in
+    let read = subst (λ (o : Option Endianness). AnswersBy memory (Holds type) (Ok c.in_ok-stored.stored) (bytes_chunk o (form_of sizes type fill) below)) c.little.ensures.made c.in_ok-stored.ensures.decodes.exact in
+    let long = value_long order sizes type fill below c.args.size c.in_ok-stored.stored (bytes_takes f chain order sizes type fill form value below c.requires.codec maps formed opened) c.requires.sized read in
+    let counted = ap length (raw_items c.in_ok-below.below) in
+    length-take-le c.len-count.result c.args.elements.now (omega (arith, c.requires.room, c.len-count.ensures, counted, long)) ∙ omega (arith, c.len-count.ensures, counted) ∙ long
 
 pub returns-in_err-decode_arrays_into : goal.returns-in_err-decode_arrays_into
 returns-in_err-decode_arrays_into g c =
@@ -97,22 +129,24 @@ returns-in_err-decode_arrays_into g c =
     let type = c.args.form.data_type.now in
     let fill = c.args.form.fill_value.now in
     let value = (raw_of c.args.value).items in
-    let taken = c.in_ok-taken_form.field-0 in
+    let taken = c.in_ok-taken.taken in
     let form : List ℕ × BytesRepresentation = (taken.shape, taken.representation) in
-    let maps = c.in_ok-taken_form.ensures.map in
-    let formed = c.in_ok-taken_form.ensures.answer.is in
-    let read = subst (λ (o : Option Endianness). AnswersBy memory (Holds type) (Ok c.in_ok-stored.stored) (bytes_chunk o (form_of sizes type fill) value)) c.little.ensures.made c.in_ok-stored.ensures.decodes.exact in
+    let maps = c.in_ok-taken.ensures.map in
+    let formed = c.in_ok-taken.ensures.answer.is in
+    let below = (raw_of c.in_ok-below.below).items in
+    let opened = subst (λ bs. outer_bytes f bs taken.representation value ≡ Ok below) c.deref.ensures.value c.in_ok-below.ensures.answer.is in
+    let read = subst (λ (o : Option Endianness). AnswersBy memory (Holds type) (Ok c.in_ok-stored.stored) (bytes_chunk o (form_of sizes type fill) below)) c.little.ensures.made c.in_ok-stored.ensures.decodes.exact in
     let positive = subst (All (λ size. 0 < size)) c.as_slice.ensures.value c.as_slice.ensures.positive in
     let w = c.in_err-decode_arrays_into.ensures.moved in
     let p = err_from_is_err_and c.from_residual-in_err-decode_arrays_into.result c.from_residual-in_err-decode_arrays_into.ensures.1 in
-    let found = subst (λ (cs : List ArrayToArrayCodec). IfOk (decoded_chunk (Ok tt) (arrays_map type (map mapping_of cs) sizes) type sizes c.in_ok-stored.stored) (λ chunk. AnswersBy memory (Holds type) (Err c.in_err-decode_arrays_into.field-0.0) (Ok chunk))) c.deref.ensures.value w.answered in
+    let found = subst (λ (cs : List ArrayToArrayCodec). IfOk (decoded_chunk (Ok tt) (arrays_map type (map mapping_of cs) sizes) type sizes c.in_ok-stored.stored) (λ chunk. AnswersBy memory (Holds type) (Err c.in_err-decode_arrays_into.field-0.0) (Ok chunk))) c.as_slice-codecs.ensures.value w.answered in
     record {
       written = record {
         items = [];
         counted = rw p.1 tt;
         there = rw p.1 tt;
         left = rw p.1 (ap (λ (xs : List ℕ). xs ++ drop c.len-count.result c.args.elements.now) w.there.1 ∙ take-append-drop c.len-count.result c.args.elements.now);
-        answered = rw (p.1, p.2) (record { is = reads_or_memory f chain order sizes type fill form value c.requires.codec c.requires.outer maps formed positive c.in_ok-stored.stored read c.in_err-decode_arrays_into.field-0.0 found; no_fault = search rules });
+        answered = rw (p.1, p.2) (record { is = reads_or_memory f chain order sizes type fill form value below c.requires.codec maps formed opened positive c.in_ok-stored.stored read c.in_err-decode_arrays_into.field-0.0 found; no_fault = search rules });
       };
     }
 
@@ -125,19 +159,22 @@ returns g c =
     let type = c.args.form.data_type.now in
     let fill = c.args.form.fill_value.now in
     let value = (raw_of c.args.value).items in
-    let taken = c.in_ok-taken_form.field-0 in
+    let taken = c.in_ok-taken.taken in
     let form : List ℕ × BytesRepresentation = (taken.shape, taken.representation) in
-    let maps = c.in_ok-taken_form.ensures.map in
-    let formed = c.in_ok-taken_form.ensures.answer.is in
-    let read = subst (λ (o : Option Endianness). AnswersBy memory (Holds type) (Ok c.in_ok-stored.stored) (bytes_chunk o (form_of sizes type fill) value)) c.little.ensures.made c.in_ok-stored.ensures.decodes.exact in
+    let maps = c.in_ok-taken.ensures.map in
+    let formed = c.in_ok-taken.ensures.answer.is in
+    let below = (raw_of c.in_ok-below.below).items in
+    let opened = subst (λ bs. outer_bytes f bs taken.representation value ≡ Ok below) c.deref.ensures.value c.in_ok-below.ensures.answer.is in
+    let read = subst (λ (o : Option Endianness). AnswersBy memory (Holds type) (Ok c.in_ok-stored.stored) (bytes_chunk o (form_of sizes type fill) below)) c.little.ensures.made c.in_ok-stored.ensures.decodes.exact in
     let positive = subst (All (λ size. 0 < size)) c.as_slice.ensures.value c.as_slice.ensures.positive in
     let w = c.in_ok-decode_arrays_into.ensures.moved in
     let count = c.len-count.result in
-    let room : count ≤ length c.args.elements.now = omega (arith, c.requires.room, c.len-count.ensures, ap length (raw_items c.args.value)) in
+    let whole = value_long order sizes type fill below c.args.size c.in_ok-stored.stored (bytes_takes f chain order sizes type fill form value below c.requires.codec maps formed opened) c.requires.sized read in
+    let room : count ≤ length c.args.elements.now = omega (arith, c.requires.room, c.len-count.ensures, ap length (raw_items c.in_ok-below.below), whole) in
     let turned : List ℕ = turned_bytes c.turn_size-turn.result w.raw.items in
     let long : count ≡ length turned = sym (length-take-le count c.args.elements.now room) ∙ sym c.decode_arrays_into.auto.moved ∙ ap length w.there.0 in
-    let found = subst (λ (cs : List ArrayToArrayCodec). IfOk (decoded_chunk (Ok tt) (arrays_map type (map mapping_of cs) sizes) type sizes c.in_ok-stored.stored) (λ chunk. Holds type (flen w.raw) chunk)) c.deref.ensures.value w.answered in
-    let read = bytes_read f chain order sizes type fill form value c.requires.codec c.requires.outer maps formed positive c.in_ok-stored.stored read w.raw found in
+    let found = subst (λ (cs : List ArrayToArrayCodec). IfOk (decoded_chunk (Ok tt) (arrays_map type (map mapping_of cs) sizes) type sizes c.in_ok-stored.stored) (λ chunk. Holds type (flen w.raw) chunk)) c.as_slice-codecs.ensures.value w.answered in
+    let read = bytes_read f chain order sizes type fill form value below c.requires.codec maps formed opened positive c.in_ok-stored.stored read w.raw found in
     record {
       written = record {
         items = turned;

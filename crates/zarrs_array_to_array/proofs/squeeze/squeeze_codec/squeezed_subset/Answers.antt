@@ -3,7 +3,7 @@ use Rattle.std.specs.List.{All}
 use Rattle.std.proofs.lemmas.List.{get_or_default}
 use Rattle.zarrs_chunk.specs.ArraySubset.{subset_of_start_shape}
 use Rattle.zarrs_chunk.proofs.Inside.{is_box_inside-lengths}
-use Rattle.zarrs_array_to_array.specs.SqueezeMeaning.{squeezed_lengths, squeezed_region}
+use Rattle.zarrs_array_to_array.specs.SqueezedBoxes.{squeezed_lengths, squeezed_region}
 use Rattle.zarrs_array_to_array.specs.Squeeze.{squeezed_tuple}
 use Rattle.zarrs_array_to_array.proofs.Indexers.{squeezed_made}
 use Rattle.zarrs_array_to_array.proofs.squeeze.squeeze_codec.squeezed_subset.Goals as goal
