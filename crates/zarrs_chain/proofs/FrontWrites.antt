@@ -29,20 +29,21 @@ use Rattle.zarrs_array_to_array.proofs.CoordinateMaps.{length-moved}
 use Rattle.zarrs_bytes.specs.BytesCodec.{BytesTakes, bytes_chunk, bytes_element, bytes_length, turn_size}
 use Rattle.zarrs_bytes.proofs.Coding.{decoded_holds, encoded_is, ok, taken}
 use Rattle.zarrs_bytes.proofs.PartWrites.{ok_length}
+use Rattle.zarrs_packbits.specs.PackBitsSettings.{PackBitsSettings}
 use Rattle.zarrs_chain_meaning.specs.ArrayStages.{IsMapWhere, arrays_map}
 use Rattle.zarrs_chain_meaning.specs.BytesStages.{outer_bytes, outer_value}
 use Rattle.zarrs_chain_meaning.specs.Chain.{codec_held_value, held_value, taken_form}
-use Rattle.zarrs_chain_meaning.specs.CodecMeaning.{PlainChain, bytes_codec, chain_chunk, codec_representation, meaning}
+use Rattle.zarrs_chain_meaning.specs.CodecMeaning.{PlainChain, bytes_codec, chain_chunk, codec_representation, meaning, packbits_codec}
 use Rattle.zarrs_chain_meaning.proofs.ArraySteps.{at_ok, if_ok, next_answer, ok_no_err}
 use Rattle.zarrs_chain_meaning.proofs.NestedEncode.{memory_so}
-use Rattle.zarrs_chain_meaning.proofs.ChainSteps.{form_representation, held_chunk, is_taken, moved_held, seen_ok, value_through}
+use Rattle.zarrs_chain_meaning.proofs.ChainSteps.{form_representation, is_taken, moved_held, seen_ok, value_through}
 use Rattle.zarrs_chain.specs.ChainView.{plain_codec}
 use Rattle.zarrs_chain.specs.FrontWrites.{in_front}
 use Rattle.zarrs_chain.specs.declared.array_to_bytes_codec.ArrayToBytesCodec.{ArrayToBytesCodec}
-use Rattle.zarrs_chain.specs.declared.array_to_bytes_codec.ArrayToBytesCodec.TheVariants.{Bytes}
+use Rattle.zarrs_chain.specs.declared.array_to_bytes_codec.ArrayToBytesCodec.TheVariants.{Bytes, PackBits}
 use Rattle.zarrs_chain.proofs.BytesBehind.{bytes_chain, chunk_behind, taken_behind}
 use Rattle.zarrs_chain.proofs.CodecSteps.{bytes_held_value}
-use Rattle.zarrs_chain.proofs.TurnedLast.{any_order, long_is, stored_back, turned_answers, whole_is}
+use Rattle.zarrs_chain.proofs.TurnedLast.{any_order, stored_back, turned_answers, whole_is}
 
 -- the components that are turned round cut an element into whole ones
 pub whole_components : (order : Option Endianness) (type : ElementType) (size : ℕ) → fixed_size_of type ≡ Some size → WholeComponents size (turn_size order type)
@@ -73,6 +74,11 @@ front_there count items old part l e is =
 pub plain_bytes : {B : Type 0} (codec : ArrayToBytesCodec B) (order : Option Endianness) → codec ≡ Bytes order → plain_codec codec ≡ bytes_codec order
 unfolding plain_codec
 plain_bytes codec order is = ap plain_codec is
+
+-- `packbits`, as the code returns it
+pub plain_packbits : {B : Type 0} (codec : ArrayToBytesCodec B) (settings : PackBitsSettings) → codec ≡ PackBits settings → plain_codec codec ≡ packbits_codec settings
+unfolding plain_codec
+plain_packbits codec settings is = ap plain_codec is
 
 -- the value is the elements that the array-to-array codecs make, their components turned round
 pub bytes_written : {B : Type 0} (f : BytesCodecs B) (chain : PlainChain B) (order : Option Endianness) (sizes : List ℕ) (type : ElementType) (fill : List ℕ) (form : List ℕ × BytesRepresentation) (held : Held) (raw : Raw)
@@ -143,20 +149,6 @@ same_refusal order sizes type fill value error takes refused =
     let steps : Option Endianness → ℕ → Result Chunk CodecError = λ o n. demand (length value == n) (InvalidBytesLength (length value) n) >>= (λ _. ok (read o)) in
     next_answer (bytes_length order form) l.0 (steps order) l.1
     ∙ refused_alike (length value == l.0) cause error (read (Some Little)) (read order) (sym (next_answer (bytes_length (Some Little) form) l.0 (steps (Some Little)) low) ∙ refused)
-
--- a value whose chunk is read has as many bytes as the elements
-pub value_long : (order : Option Endianness) (sizes : List ℕ) (type : ElementType) (fill value : List ℕ) (size : ℕ) (stored : Held) → BytesTakes order (form_of sizes type fill) → fixed_size_of type ≡ Some size
-    → AnswersBy memory (Holds type) (Ok stored) (bytes_chunk (Some Little) (form_of sizes type fill) value) → length value ≡ product sizes * size
-value_long order sizes (fixed width components sign) fill value size stored takes sized read =
-    let type = fixed width components sign in
-    let l = ok_length (bytes_length order (form_of sizes type fill)) takes in
-    let c = held_chunk type stored (bytes_chunk (Some Little) (form_of sizes type fill) value) read in
-    let t = taken order sizes width components sign fill l.0 l.1 in
-    let each : element_size width components ≡ size = cc in
-    long_is (Some Little) sizes type fill value l.0 c.0 (any_order order sizes type fill l.0 l.1) c.1 ∙ t.len_is ∙ ap (λ n. product sizes * n) each
-value_long order sizes text fill value size stored takes sized read = absurd cc
-value_long order sizes bytes fill value size stored takes sized read = absurd cc
-value_long order sizes (optional type) fill value size stored takes sized read = absurd cc
 
 -- a chain whose array-to-bytes codec is `bytes`, and what stands below its bytes-to-bytes codecs
 module _ {B : Type 0} (f : BytesCodecs B) (chain : PlainChain B) (order : Option Endianness) (sizes : List ℕ) (type : ElementType) (fill : List ℕ) (form : List ℕ × BytesRepresentation) (value below : List ℕ)

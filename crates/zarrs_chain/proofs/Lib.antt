@@ -33,6 +33,7 @@ pub mod PlainForms
 pub mod TurnedLast
 pub mod BytesBehind
 pub mod FrontWrites
+pub mod AloneReads
 pub mod KeptBytes
 pub mod InnerPlaces
 pub mod KeptInner

@@ -5,7 +5,7 @@ ghost use Rattle.zarrs_array_bytes.specs.Parts.{fixed_items};
 ghost use Rattle.zarrs_chain.specs.ChainView.{plain_chain};
 ghost use Rattle.zarrs_chain.specs.FrontWrites.{in_front, PutsElements, PutsValue};
 ghost use Rattle.zarrs_chain.specs.FormView.{lent_form};
-ghost use Rattle.zarrs_chain_meaning.specs.CodecMeaning.{bytes_codec};
+ghost use Rattle.zarrs_chain_meaning.specs.CodecMeaning.{bytes_codec, packbits_codec};
 ghost use Rattle.zarrs_chunk.specs.ChunkShape.{product};
 ghost use Rattle.zarrs_data_type.specs.ElementType.{fixed_size_of};
 
@@ -22,6 +22,7 @@ use zarrs_chain_meaning::arrays_into::{decode_arrays_into, encode_arrays_into};
 use zarrs_chain_meaning::bytes_stages::decode_bytes;
 use zarrs_chunk::{ChunkShape, CodecError};
 use zarrs_codec::BytesToBytesCodecTraits;
+use zarrs_packbits::PackBitsCodec;
 
 /// Writes bytes in front of a slice, where it has room for them: how many they are.
 fn put_front(out: &mut [u8], bytes: &[u8]) -> usize
@@ -122,16 +123,17 @@ pub fn encode_into<B: BytesToBytesCodecTraits>(
     Ok(put_front(value, made.as_slice()))
 }
 
-/// Whether a slice of so many bytes has room for all elements of a chunk of this shape.
-fn elements_fit(shape: &ChunkShape, size: usize, len: usize) -> bool
-    ensures room { result ≡ true → product shape.now * size ≤ len }
+/// How many bytes all elements of a chunk of this shape have, where a slice of `len` has room for them.
+fn elements_len(shape: &ChunkShape, size: usize, len: usize) -> Option<usize>
+    ensures count { IfSome result (λ count. count ≡ product shape.now * size) }
+    ensures room { IfSome result (λ count. count ≤ len) }
 {
-    match shape.num_elements() {
-        Ok(count) => match count.checked_mul(size as u64) {
-            Some(bytes) => bytes <= len as u64,
-            None => false,
-        },
-        Err(_) => false,
+    let Ok(count) = shape.num_elements() else {
+        return None;
+    };
+    match count.checked_mul(size as u64) {
+        Some(bytes) if bytes <= len as u64 => Some(bytes as usize),
+        _ => None,
     }
 }
 
@@ -144,12 +146,14 @@ fn bytes_decode_into<B: BytesToBytesCodecTraits>(
     value: ArrayBytesRaw<'_>,
     form: Form<'_>,
     size: usize,
+    count: usize,
     elements: &mut [u8],
 ) -> Result<usize, CodecError>
     requires codec { (plain_chain chain.now).array_to_bytes ≡ bytes_codec codec.now }
     requires some { 0 < size }
     requires sized { fixed_size_of form.data_type.now ≡ Some size }
-    requires room { product form.shape.now * size ≤ length elements.old }
+    requires count { count ≡ product form.shape.now * size }
+    requires room { count ≤ length elements.old }
     ensures written { PutsElements B.functions (plain_chain chain.now) (lent_form form.entry)
         (items_of value.entry) elements.old elements.new result }
 {
@@ -162,7 +166,6 @@ fn bytes_decode_into<B: BytesToBytesCodecTraits>(
         fill_value,
     } = form;
     shape.as_slice();
-    let count = below.len();
     let stored = BytesCodec::little().decode(alloc, below, shape, data_type, fill_value)?;
     let turn = codec.turn_size(data_type);
     decode_arrays_into(
@@ -179,10 +182,45 @@ fn bytes_decode_into<B: BytesToBytesCodecTraits>(
     Ok(count)
 }
 
+/// Writes the elements of one size of a value of a chain with the codec `packbits` and no
+/// array-to-array codecs: they are unpacked where they are wanted. Errors: those of
+/// `CodecChain::decode`.
+fn packbits_decode_into<B: BytesToBytesCodecTraits>(
+    alloc: Global,
+    chain: &CodecChain<B>,
+    codec: &PackBitsCodec,
+    value: ArrayBytesRaw<'_>,
+    form: Form<'_>,
+    size: usize,
+    count: usize,
+    elements: &mut [u8],
+) -> Result<usize, CodecError>
+    requires codec { (plain_chain chain.now).array_to_bytes ≡ packbits_codec codec.now }
+    requires arrays { (plain_chain chain.now).array_to_array ≡ [] }
+    requires some { 0 < size }
+    requires sized { fixed_size_of form.data_type.now ≡ Some size }
+    requires count { count ≡ product form.shape.now * size }
+    requires room { count ≤ length elements.old }
+    ensures written { PutsElements B.functions (plain_chain chain.now) (lent_form form.entry)
+        (items_of value.entry) elements.old elements.new result }
+{
+    let taken = taken_form(alloc, chain, form)?;
+    let below = decode_bytes(alloc, &chain.bytes_to_bytes, &taken.representation, value)?;
+    let Form {
+        shape,
+        data_type,
+        fill_value,
+    } = form;
+    let wanted = &mut elements[..count];
+    codec.decode_into(alloc, below, shape, data_type, fill_value, size, wanted)?;
+    Ok(count)
+}
+
 /// Writes the elements, all of `size` bytes, that `CodecChain::decode` answers in front of `elements`,
 /// where that has room for them: how many bytes they have. Where the room is too short, nothing is
-/// written. A chain with the codec `bytes` moves each element to its place, and makes no container
-/// besides. Errors: those of `CodecChain::decode`, which leave what was there.
+/// written. A chain with the codec `bytes`, or with `packbits` and no array-to-array codecs, puts each
+/// element in its place, and makes no container besides. Errors: those of `CodecChain::decode`, which
+/// leave what was there.
 pub fn decode_into<B: BytesToBytesCodecTraits>(
     alloc: Global,
     chain: &CodecChain<B>,
@@ -196,9 +234,17 @@ pub fn decode_into<B: BytesToBytesCodecTraits>(
     ensures written { PutsElements B.functions (plain_chain chain.now) (lent_form form.entry)
         (items_of value.entry) elements.old elements.new result }
 {
-    if let ArrayToBytesCodec::Bytes(codec) = &chain.array_to_bytes {
-        if elements_fit(form.shape, size, elements.len()) {
-            return bytes_decode_into(alloc, chain, codec, value, form, size, elements);
+    if let Some(count) = elements_len(form.shape, size, elements.len()) {
+        match (&chain.array_to_bytes, chain.array_to_array.as_slice()) {
+            (ArrayToBytesCodec::Bytes(codec), _) => {
+                return bytes_decode_into(alloc, chain, codec, value, form, size, count, elements);
+            }
+            (ArrayToBytesCodec::PackBits(codec), []) => {
+                return packbits_decode_into(
+                    alloc, chain, codec, value, form, size, count, elements,
+                );
+            }
+            _ => {}
         }
     }
     let made = chain_decode(alloc, chain, value, form)?;

@@ -102,23 +102,7 @@ decode_arrays_into-requires-clause-turn g c =
 
 pub decode_arrays_into-requires-clause-len : goal.decode_arrays_into-requires-clause-len
 decode_arrays_into-requires-clause-len g c =
-    let f = g.B.BytesToBytesCodecTraits.functions in
-    let chain = plain_chain c.args.chain.now in
-    let order = c.args.codec.now in
-    let sizes = c.args.form.shape.now in
-    let type = c.args.form.data_type.now in
-    let fill = c.args.form.fill_value.now in
-    let value = (raw_of c.args.value).items in
-    let taken = c.in_ok-taken.taken in
-    let form : List ℕ × BytesRepresentation = (taken.shape, taken.representation) in
-    let maps = c.in_ok-taken.ensures.map in
-    let formed = c.in_ok-taken.ensures.answer.is in
-    let below = (raw_of c.in_ok-below.below).items in
-    let opened = subst (λ bs. outer_bytes f bs taken.representation value ≡ Ok below) c.deref.ensures.value c.in_ok-below.ensures.answer.is in
-    let read = subst (λ (o : Option Endianness). AnswersBy memory (Holds type) (Ok c.in_ok-stored.stored) (bytes_chunk o (form_of sizes type fill) below)) c.little.ensures.made c.in_ok-stored.ensures.decodes.exact in
-    let long = value_long order sizes type fill below c.args.size c.in_ok-stored.stored (bytes_takes f chain order sizes type fill form value below c.requires.codec maps formed opened) c.requires.sized read in
-    let counted = ap length (raw_items c.in_ok-below.below) in
-    length-take-le c.len-count.result c.args.elements.now (omega (arith, c.requires.room, c.len-count.ensures, counted, long)) ∙ omega (arith, c.len-count.ensures, counted) ∙ long
+    length-take-le c.args.count c.args.elements.now c.requires.room ∙ c.requires.count
 
 pub returns-in_err-decode_arrays_into : goal.returns-in_err-decode_arrays_into
 returns-in_err-decode_arrays_into g c =
@@ -145,7 +129,7 @@ returns-in_err-decode_arrays_into g c =
         items = [];
         counted = rw p.1 tt;
         there = rw p.1 tt;
-        left = rw p.1 (ap (λ (xs : List ℕ). xs ++ drop c.len-count.result c.args.elements.now) w.there.1 ∙ take-append-drop c.len-count.result c.args.elements.now);
+        left = rw p.1 (ap (λ (xs : List ℕ). xs ++ drop c.args.count c.args.elements.now) w.there.1 ∙ take-append-drop c.args.count c.args.elements.now);
         answered = rw (p.1, p.2) (record { is = reads_or_memory f chain order sizes type fill form value below c.requires.codec maps formed opened positive c.in_ok-stored.stored read c.in_err-decode_arrays_into.field-0.0 found; no_fault = search rules });
       };
     }
@@ -168,9 +152,8 @@ returns g c =
     let read = subst (λ (o : Option Endianness). AnswersBy memory (Holds type) (Ok c.in_ok-stored.stored) (bytes_chunk o (form_of sizes type fill) below)) c.little.ensures.made c.in_ok-stored.ensures.decodes.exact in
     let positive = subst (All (λ size. 0 < size)) c.as_slice.ensures.value c.as_slice.ensures.positive in
     let w = c.in_ok-decode_arrays_into.ensures.moved in
-    let count = c.len-count.result in
-    let whole = value_long order sizes type fill below c.args.size c.in_ok-stored.stored (bytes_takes f chain order sizes type fill form value below c.requires.codec maps formed opened) c.requires.sized read in
-    let room : count ≤ length c.args.elements.now = omega (arith, c.requires.room, c.len-count.ensures, ap length (raw_items c.in_ok-below.below), whole) in
+    let count = c.args.count in
+    let room = c.requires.room in
     let turned : List ℕ = turned_bytes c.turn_size-turn.result w.raw.items in
     let long : count ≡ length turned = sym (length-take-le count c.args.elements.now room) ∙ sym c.decode_arrays_into.auto.moved ∙ ap length w.there.0 in
     let found = subst (λ (cs : List ArrayToArrayCodec). IfOk (decoded_chunk (Ok tt) (arrays_map type (map mapping_of cs) sizes) type sizes c.in_ok-stored.stored) (λ chunk. Holds type (flen w.raw) chunk)) c.as_slice-codecs.ensures.value w.answered in
