@@ -74,6 +74,7 @@ impl Model for PackBitsCodec {
 fn check_value(layout: &PackedLayout, value: &[u8]) -> Result<(), CodecError>
     requires layout { IsPackedLayout layout.now }
     ensures answer { result ≡ value_checked layout.now value.now }
+    ensures no_fault { is_fault result ≡ false }
 {
     let expected = layout.value_len();
     let found = value.len() as u64;

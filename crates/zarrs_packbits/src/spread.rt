@@ -99,11 +99,23 @@ fn put_blocks(
     let whole = out.len() / room;
     for block in 0..whole {
         let at = room * block;
-        put_block(&mut out[at..at + room], layout, &bytes[len * block..], count, weight);
+        put_block(
+            &mut out[at..at + room],
+            layout,
+            &bytes[len * block..],
+            count,
+            weight,
+        );
     }
     let done = room * whole;
     if done < out.len() {
-        put_block(&mut out[done..], layout, &bytes[len * whole..], count, weight);
+        put_block(
+            &mut out[done..],
+            layout,
+            &bytes[len * whole..],
+            count,
+            weight,
+        );
     }
 }
 
@@ -217,7 +229,15 @@ fn put_each(
     for (start, places) in runs {
         let (skip, parts, used) = place_run(layout, *start, *places, count);
         let next = done + parts as usize;
-        put_behind(&mut out[done..next], layout, &bytes[at..], skip, count, room, len);
+        put_behind(
+            &mut out[done..next],
+            layout,
+            &bytes[at..],
+            skip,
+            count,
+            room,
+            len,
+        );
         at += used;
         done = next;
     }
