@@ -220,26 +220,24 @@ map_more f to from p h k e =
 
 -- ---- blocks behind one another
 
-pub last_step : (l : PackedLayout) (c m left n : ℕ) (old new block from bytes : List ℕ) → l.count ≡ c → m * c ≡ 8 → 0 < c → l.first + l.count + l.above ≡ 8 → block ≡ map (lifted_byte l.first (sign_weight l.sign l.count)) (flat_map (fields_of c m) from) → take left from ≡ take left bytes → left ≤ length bytes → n * c ≤ 8 * left → n ≤ m * length from → new ≡ old ++ take n block
-    → bits_of new ≡ bits_of old ++ components_from l 0 n (bits_of bytes)
-last_step l c m left n old new block from bytes is whole some size made begins within long short added =
+pub last_step : (l : PackedLayout) (c m left n : ℕ) (new block from bytes : List ℕ) → l.count ≡ c → m * c ≡ 8 → 0 < c → l.first + l.count + l.above ≡ 8 → block ≡ map (lifted_byte l.first (sign_weight l.sign l.count)) (flat_map (fields_of c m) from) → take left from ≡ take left bytes → left ≤ length bytes → n * c ≤ 8 * left → n ≤ m * length from → new ≡ take n block
+    → bits_of new ≡ components_from l 0 n (bits_of bytes)
+last_step l c m left n new block from bytes is whole some size made begins within long short written =
     let rest = drop left from in
-    ap bits_of added ∙ flat_map-append (low_bits 8) old (take n block)
-    ∙ ap (λ (xs : List ℕ). bits_of old ++ bits_of (take n xs)) made
-    ∙ ap (λ (xs : List ℕ). bits_of old ++ xs) (block_is l c m left 0 n from bytes rest is whole some size (sym (take-append-drop left from) ∙ ap (λ (xs : List ℕ). xs ++ rest) begins) (omega arith) long short)
+    ap bits_of (written ∙ ap (take n) made)
+    ∙ block_is l c m left 0 n from bytes rest is whole some size (sym (take-append-drop left from) ∙ ap (λ (xs : List ℕ). xs ++ rest) begins) (omega arith) long short
 
-pub final_step : (l : PackedLayout) (at w r s parts : ℕ) (old out new bytes : List ℕ) → parts ≡ w + r → 8 * s ≡ at + w * l.count
-    → out ≡ old ++ components_from l at w (bits_of bytes) → new ≡ out ++ components_from l 0 r (bits_of (take (length bytes - s) (drop s bytes)))
-    → new ≡ old ++ components_from l at parts (bits_of bytes)
-final_step l at w r s parts old out new bytes sum place before added =
+pub final_step : (l : PackedLayout) (at w r s parts : ℕ) (front piece all bytes : List ℕ) → parts ≡ w + r → 8 * s ≡ at + w * l.count → all ≡ front ++ piece
+    → bits_of front ≡ components_from l at w (bits_of bytes) → bits_of piece ≡ components_from l 0 r (bits_of (take (length bytes - s) (drop s bytes)))
+    → bits_of all ≡ components_from l at parts (bits_of bytes)
+final_step l at w r s parts front piece all bytes sum place joined before added =
     let bits = bits_of bytes in
-    added
-    ∙ ap (λ (xs : List ℕ). out ++ components_from l 0 r (bits_of xs)) (take_rest bytes s)
-    ∙ ap (λ (xs : List ℕ). out ++ xs) (components_behind l s r bytes ∙ ap (λ k. components_from l k r bits) place)
-    ∙ ap (λ (xs : List ℕ). xs ++ components_from l (at + w * l.count) r bits) before
-    ∙ append_assoc old (components_from l at w bits) (components_from l (at + w * l.count) r bits)
-    ∙ ap (λ (xs : List ℕ). old ++ xs) (sym (components_more l at w r bits))
-    ∙ ap (λ k. old ++ components_from l at k bits) (sym sum)
+    ap bits_of joined
+    ∙ flat_map-append (low_bits 8) front piece
+    ∙ ap (λ (xs : List ℕ). xs ++ bits_of piece) before
+    ∙ ap (λ (xs : List ℕ). components_from l at w bits ++ xs) (added ∙ ap (λ (xs : List ℕ). components_from l 0 r (bits_of xs)) (take_rest bytes s) ∙ components_behind l s r bytes ∙ ap (λ k. components_from l k r bits) place)
+    ∙ sym (components_more l at w r bits)
+    ∙ ap (λ k. components_from l at k bits) (sym sum)
 
 -- where a block's bytes begin, its kept bits do
 pub place_of_block : (l : PackedLayout) (count room len b : ℕ) → l.count ≡ count → room * count ≡ 8 * len → 8 * (len * b) ≡ 0 + room * b * l.count
@@ -265,15 +263,14 @@ one_part bytes p first c lt h =
     ∙ sym (field_within (low_bits 8 byte) 0 first c byte (sym (low_bits-take (first + c) 8 byte h)))
 
 -- a component more of those in the first byte
-head_more : (l : PackedLayout) (skip p x y : ℕ) (old out new bytes : List ℕ) → 0 < l.count → l.first + l.count + l.above ≡ 8 → 0 < length bytes → (skip + p) * l.count + l.count ≤ 8 → x ≡ cut_byte ((skip + p) * l.count) l.count (get_or bytes 0 0) → y ≡ lifted_byte l.first (sign_weight l.sign l.count) x
-    → bits_of out ≡ bits_of old ++ components_from l (skip * l.count) p (bits_of bytes) → new ≡ out ++ y ∷ [] → bits_of new ≡ bits_of old ++ components_from l (skip * l.count) (p + 1) (bits_of bytes)
-head_more l skip p x y old out new bytes some size filled room isx isy before added =
+head_more : (l : PackedLayout) (skip p x y : ℕ) (front all bytes : List ℕ) → 0 < l.count → l.first + l.count + l.above ≡ 8 → 0 < length bytes → (skip + p) * l.count + l.count ≤ 8 → x ≡ cut_byte ((skip + p) * l.count) l.count (get_or bytes 0 0) → y ≡ lifted_byte l.first (sign_weight l.sign l.count) x
+    → bits_of front ≡ components_from l (skip * l.count) p (bits_of bytes) → all ≡ front ++ y ∷ [] → bits_of all ≡ components_from l (skip * l.count) (p + 1) (bits_of bytes)
+head_more l skip p x y front all bytes some size filled room isx isy before added =
     let c = l.count in
     let bits = bits_of bytes in
     let first = l.first in
     let here = (skip + p) * c in
     let at = skip * c in
-    let front = components_from l at p bits in
     let place : here ≡ at + p * c + 0 * c = omega arith in
     let below : x < 2 ^ c = rw isx (mod_below (get_or bytes 0 0 / 2 ^ here) (2 ^ c) (pow_pos c)) in
     let kept : low_bits c x ≡ field here c bits
@@ -283,17 +280,16 @@ head_more l skip p x y old out new bytes some size filled room isx isy before ad
     ∙ ap (full_component first l.above l.sign) (kept ∙ ap (λ n. field n c bits) place)
     ∙ sym (append-nil (full_component first l.above l.sign (field (at + p * c + 0 * c) c bits))) in
     ap bits_of added
-    ∙ flat_map-append (low_bits 8) out (y ∷ [])
+    ∙ flat_map-append (low_bits 8) front (y ∷ [])
     ∙ ap (λ (xs : List ℕ). xs ++ bits_of (y ∷ [])) before
-    ∙ ap (λ (xs : List ℕ). (bits_of old ++ front) ++ xs) (append-nil (low_bits 8 y) ∙ byte)
-    ∙ append_assoc (bits_of old) front (components_from l (at + p * c) 1 bits)
-    ∙ ap (λ (xs : List ℕ). bits_of old ++ xs) (sym (components_more l at p 1 bits))
+    ∙ ap (λ (xs : List ℕ). components_from l at p bits ++ xs) (append-nil (low_bits 8 y) ∙ byte)
+    ∙ sym (components_more l at p 1 bits)
 
-pub head_step : (l : PackedLayout) (count skip p x y : ℕ) (old out new bytes : List ℕ) → l.count ≡ count → 0 < l.count → l.first + l.count + l.above ≡ 8 → 0 < length bytes → (skip + p) * count + count ≤ 8 → x ≡ cut_byte ((skip + p) * count) count (get_or bytes 0 0) → y ≡ lifted_byte l.first (sign_weight l.sign count) x
-    → bits_of out ≡ bits_of old ++ components_from l (skip * count) p (bits_of bytes) → new ≡ out ++ y ∷ [] → bits_of new ≡ bits_of old ++ components_from l (skip * count) (p + 1) (bits_of bytes)
-head_step l count skip p x y old out new bytes is some size filled =
-    subst (λ (k : ℕ). (skip + p) * k + k ≤ 8 → x ≡ cut_byte ((skip + p) * k) k (get_or bytes 0 0) → y ≡ lifted_byte l.first (sign_weight l.sign k) x → bits_of out ≡ bits_of old ++ components_from l (skip * k) p (bits_of bytes) → new ≡ out ++ y ∷ [] → bits_of new ≡ bits_of old ++ components_from l (skip * k) (p + 1) (bits_of bytes)) is
-    (head_more l skip p x y old out new bytes some size filled)
+pub head_step : (l : PackedLayout) (count skip p x y : ℕ) (front all bytes : List ℕ) → l.count ≡ count → 0 < l.count → l.first + l.count + l.above ≡ 8 → 0 < length bytes → (skip + p) * count + count ≤ 8 → x ≡ cut_byte ((skip + p) * count) count (get_or bytes 0 0) → y ≡ lifted_byte l.first (sign_weight l.sign count) x
+    → bits_of front ≡ components_from l (skip * count) p (bits_of bytes) → all ≡ front ++ y ∷ [] → bits_of all ≡ components_from l (skip * count) (p + 1) (bits_of bytes)
+head_step l count skip p x y front all bytes is some size filled =
+    subst (λ (k : ℕ). (skip + p) * k + k ≤ 8 → x ≡ cut_byte ((skip + p) * k) k (get_or bytes 0 0) → y ≡ lifted_byte l.first (sign_weight l.sign k) x → bits_of front ≡ components_from l (skip * k) p (bits_of bytes) → all ≡ front ++ y ∷ [] → bits_of all ≡ components_from l (skip * k) (p + 1) (bits_of bytes)) is
+    (head_more l skip p x y front all bytes some size filled)
 
 -- and of some of them in a row
 cut_parts : (c first s n : ℕ) (bytes : List ℕ) → s + n ≤ length bytes → first + c ≤ 8 → flat_map (low_bits c) (map (cut_byte first c) (take n (drop s bytes))) ≡ flat_map (λ j. field first c (component_bits 1 bytes (s + j))) (range_with_len 0 n)

@@ -1,6 +1,6 @@
 -- What the codec computes is what its definitions say.
 use Rattle.zarrs_data_type.specs.Form.{form_of}
-use Rattle.std.proofs.Common.{◌≡◌, ℕ, ◌+◌, ◌*◌, ◌<◌, ◌≤◌, ◌^◌, ◌==◌, Bool, true, nat_lt, Result, Ok, Err, List, length, map, drop, arith, ap, sym, ◌∙◌, subst}
+use Rattle.std.proofs.Common.{◌≡◌, ℕ, ◌+◌, ◌*◌, ◌<◌, ◌≤◌, ◌^◌, ◌==◌, Bool, true, nat_lt, Some, Result, Ok, Err, List, length, map, drop, arith, ap, sym, ◌∙◌, subst}
 use Rattle.std.specs.List.{flat_map, range_with_len}
 use Rattle.std.specs.Prelude.{IsOkAnd}
 use Rattle.std.proofs.lemmas.Bool.Decides.{nat_tests}
@@ -9,7 +9,7 @@ use Rattle.zarrs_chunk.specs.ChunkShape.{product}
 use Rattle.zarrs_chunk.specs.declared.codec_error.CodecError.{CodecError}
 use Rattle.zarrs_chunk.specs.declared.codec_error.CodecError.TheVariants.{InvalidBytesLength, Overflow, PaddingByte}
 use Rattle.zarrs_data_type.specs.Element.{plain}
-use Rattle.zarrs_data_type.specs.ElementType.{ElementType, fixed, text, bytes, optional, element_size}
+use Rattle.zarrs_data_type.specs.ElementType.{ElementType, fixed, text, bytes, optional, element_size, fixed_size_of}
 use Rattle.zarrs_array_bytes.specs.Elements.{elements}
 use Rattle.zarrs_array_bytes.specs.Held.{Held, Raw, flen, vlen, masked}
 use Rattle.zarrs_array_bytes.specs.Parts.{fixed_part}
@@ -22,7 +22,7 @@ use Rattle.zarrs_bytes.proofs.Coding.{bind_ok, demand_ok, ok, part_is}
 use Rattle.zarrs_packbits.specs.Bits.{bits_of}
 use Rattle.zarrs_packbits.specs.BitStream.{chunk_stream, stream_of_bytes, components_from, element_bits, packed_element}
 use Rattle.zarrs_packbits.specs.declared.layout.PackedLayout.{PackedLayout}
-use Rattle.zarrs_packbits.specs.PackBitsCodec.{packbits_value, packbits_chunk}
+use Rattle.zarrs_packbits.specs.PackBitsCodec.{packbits_value, packbits_chunk, value_checked}
 use Rattle.zarrs_packbits.specs.PackBitsSettings.{PackBitsSettings, packed_layout}
 use Rattle.zarrs_packbits.specs.PackedLayout.{IsPackedLayout, layout_components, element_bits_len}
 use Rattle.zarrs_packbits.specs.PaddingByte.{lead, value_len, padding_holds, value_with}
@@ -98,7 +98,7 @@ all_components l v =
     ∙ run_elements l v 0 l.elements
 
 -- and have as many bytes as the elements
-unpacked_long : (l : PackedLayout) (v : List ℕ) → IsPackedLayout l → length v ≡ value_len l → length (packing (components_from l 0 (layout_components l) (bits_of (drop (lead l) v)))) ≡ layout_components l * l.size
+pub unpacked_long : (l : PackedLayout) (v : List ℕ) → IsPackedLayout l → length v ≡ value_len l → length (packing (components_from l 0 (layout_components l) (bits_of (drop (lead l) v)))) ≡ layout_components l * l.size
 unpacked_long l v s e =
     let size = l.group * l.size in
     let places = range_with_len 0 l.elements in
@@ -135,3 +135,30 @@ decoded_holds settings sizes (fixed width components sign) fill value raw l e lo
 decoded_holds settings sizes text fill value raw l e long pad is = absurd cc
 decoded_holds settings sizes bytes fill value raw l e long pad is = absurd cc
 decoded_holds settings sizes (optional type) fill value raw l e long pad is = absurd cc
+
+-- ---- what is looked at before a value is decoded
+
+-- the value has its length, and its padding byte
+pub record IsPassed (l : PackedLayout) (value : List ℕ) : Type 0 where
+  pub long : length value ≡ value_len l
+  pub padded : padding_holds l value ≡ true
+
+pub value_passed : (l : PackedLayout) (value : List ℕ) → ok tt ≡ value_checked l value → IsPassed l value
+value_passed l value e =
+    let a = bind_ok (demand (length value == value_len l) (InvalidBytesLength (length value) (value_len l))) _ tt (sym e) in
+    let test = demand_ok (length value == value_len l) (InvalidBytesLength (length value) (value_len l)) a.0 a.1 in
+    record {
+      long = grind (arith, nat_tests);
+      padded = demand_ok (padding_holds l value) PaddingByte tt a.2;
+    }
+
+-- how many bytes the elements have
+pub elements_long : (settings : PackBitsSettings) (sizes : List ℕ) (type : ElementType) (fill : List ℕ) (size : ℕ) (l : PackedLayout) → packed_layout settings (form_of sizes type fill) ≡ Ok l → fixed_size_of type ≡ Some size → product sizes * size ≡ layout_components l * l.size
+elements_long settings sizes (fixed width components sign) fill size l e sized =
+    let t = taken settings sizes width components sign fill l e in
+    let is : element_size width components ≡ size = cc in
+    ap (λ k. product sizes * k) (sym is ∙ t.size) ∙ ap (λ n. n * (l.group * l.size)) (sym t.elements)
+    ∙ (let d : l.elements * (l.group * l.size) ≡ layout_components l * l.size = omega arith in d)
+elements_long settings sizes text fill size l e sized = absurd cc
+elements_long settings sizes bytes fill size l e sized = absurd cc
+elements_long settings sizes (optional type) fill size l e sized = absurd cc

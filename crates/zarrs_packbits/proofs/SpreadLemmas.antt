@@ -1,9 +1,13 @@
 -- Components of one byte each, from one of them on in a byte.
 use Rattle.std.proofs.Common.{◌≡◌, ℕ, ◌+◌, ◌-◌, ◌*◌, ◌/◌, ◌%◌, ◌^◌, ◌<◌, ◌≤◌, false, List, ◌++◌, length, take, drop, get_or, inl, inr, arith, ap, sym, subst, ◌∙◌}
+use Rattle.std.specs.List.{range_with_len}
 use Rattle.std.proofs.Math.Nat.{mul-le-mul_right}
 use Rattle.std.proofs.lemmas.Bool.{cases_eq}
-use Rattle.std.proofs.lemmas.List.{append_assoc, drop-drop, drop_more, length-drop, take_rest}
-use Rattle.zarrs_packbits.specs.Bits.{bits_of, field}
+use Rattle.std.proofs.lemmas.List.{append-nil, append_assoc, drop-drop, drop_all, drop_more, length-append, length-drop, length-take-le, take_at, take_rest}
+use Rattle.std.proofs.lemmas.List.Concat.{flat_map-append}
+use Rattle.std.proofs.lemmas.List.FromFn.{length-range_with_len}
+use Rattle.zarrs_chunk.specs.Runs.{joined_runs}
+use Rattle.zarrs_packbits.specs.Bits.{bits_of, field, low_bits}
 use Rattle.zarrs_packbits.specs.BitStream.{components_from}
 use Rattle.zarrs_packbits.specs.KeptBits.{full_component}
 use Rattle.zarrs_packbits.specs.PackedLayout.{IsOneTwoOrFour, IsPackedLayout, element_bits_len, is_whole}
@@ -106,15 +110,16 @@ each_sum l at i used bytes runs lt sums is =
     omega (arith, sums, is, next)
 
 -- a run more
-pub each_step : (l : PackedLayout) (at i skip parts used count : ℕ) (old out new bytes : List ℕ) (runs : List (ℕ × ℕ)) → i < length runs → l.count ≡ count → skip * count ≡ (get_or runs i (0, 0)).0 * element_bits_len l % 8 → parts ≡ (get_or runs i (0, 0)).1 * l.group → used ≡ run_end l (get_or runs i (0, 0)) - run_start l (get_or runs i (0, 0))
-    → (skip + parts) * count ≤ 8 * used → length bytes ≡ at + runs_len l (drop i runs) → old ++ run_bits l bytes runs ≡ out ++ run_bits l (drop at bytes) (drop i runs) → new ≡ out ++ components_from l (skip * count) parts (bits_of (take (length bytes - at) (drop at bytes)))
-    → old ++ run_bits l bytes runs ≡ new ++ run_bits l (drop (at + used) bytes) (drop (i + 1) runs)
-each_step l at i skip parts used count old out new bytes runs lt is place size bytes_used inside sums before added =
+pub each_step : (l : PackedLayout) (at i skip parts used count : ℕ) (front piece all bytes : List ℕ) (runs : List (ℕ × ℕ)) → i < length runs → l.count ≡ count → skip * count ≡ (get_or runs i (0, 0)).0 * element_bits_len l % 8 → parts ≡ (get_or runs i (0, 0)).1 * l.group → used ≡ run_end l (get_or runs i (0, 0)) - run_start l (get_or runs i (0, 0))
+    → (skip + parts) * count ≤ 8 * used → length bytes ≡ at + runs_len l (drop i runs) → all ≡ front ++ piece → run_bits l bytes runs ≡ bits_of front ++ run_bits l (drop at bytes) (drop i runs) → bits_of piece ≡ components_from l (skip * count) parts (bits_of (take (length bytes - at) (drop at bytes)))
+    → run_bits l bytes runs ≡ bits_of all ++ run_bits l (drop (at + used) bytes) (drop (i + 1) runs)
+each_step l at i skip parts used count front piece all bytes runs lt is place size bytes_used inside sums joined before added =
     let r : ℕ × ℕ = get_or runs i (0, 0) in
     let tail = drop (i + 1) runs in
     let rest = drop at bytes in
     let len = run_end l r - run_start l r in
-    let front = components_from l (skip * count) parts (bits_of rest) in
+    let out = bits_of front in
+    let made = components_from l (skip * count) parts (bits_of rest) in
     let left = each_sum l at i used bytes runs lt sums bytes_used in
     let within : used ≤ length rest = omega (arith, left, length-drop at bytes) in
     let ends : skip * count + parts * l.count ≤ 8 * used = omega (arith, inside, ap (λ n. parts * n) is) in
@@ -124,6 +129,37 @@ each_step l at i skip parts used count old out new bytes runs lt is place size b
     ∙ ap (λ n. out ++ (components_from l n (r.1 * l.group) (bits_of (take used rest)) ++ run_bits l (drop used rest) tail)) (sym place)
     ∙ ap (λ n. out ++ (components_from l (skip * count) n (bits_of (take used rest)) ++ run_bits l (drop used rest) tail)) (sym size)
     ∙ ap (λ (xs : List ℕ). out ++ (xs ++ run_bits l (drop used rest) tail)) (components_front l (skip * count) parts used rest within ends)
-    ∙ ap (λ (xs : List ℕ). out ++ (front ++ run_bits l xs tail)) (drop-drop used at bytes)
-    ∙ sym (append_assoc out front (run_bits l (drop (at + used) bytes) tail))
-    ∙ ap (λ (xs : List ℕ). xs ++ run_bits l (drop (at + used) bytes) tail) (sym (added ∙ ap (λ (xs : List ℕ). out ++ components_from l (skip * count) parts (bits_of xs)) (take_rest bytes at)))
+    ∙ ap (λ (xs : List ℕ). out ++ (made ++ run_bits l xs tail)) (drop-drop used at bytes)
+    ∙ sym (append_assoc out made (run_bits l (drop (at + used) bytes) tail))
+    ∙ ap (λ (xs : List ℕ). xs ++ run_bits l (drop (at + used) bytes) tail)
+    (sym (ap bits_of joined ∙ flat_map-append (low_bits 8) front piece ∙ ap (λ (xs : List ℕ). out ++ xs) (added ∙ ap (λ (xs : List ℕ). components_from l (skip * count) parts (bits_of xs)) (take_rest bytes at))))
+
+-- the places that are left are those of the runs that are left
+pub each_count : (l : PackedLayout) (done i parts len : ℕ) (runs : List (ℕ × ℕ)) → i < length runs → len ≡ done + length (joined_runs (drop i runs)) * l.group → parts ≡ (get_or runs i (0, 0)).1 * l.group
+    → len ≡ (done + parts) + length (joined_runs (drop (i + 1) runs)) * l.group
+each_count l done i parts len runs lt counted size =
+    let r : ℕ × ℕ = get_or runs i (0, 0) in
+    let rest = joined_runs (drop (i + 1) runs) in
+    let next : length (joined_runs (drop i runs)) ≡ r.1 + length rest
+    = ap (λ (rs : List (ℕ × ℕ)). length (joined_runs rs)) (drop_more runs i (0, 0) lt) ∙ length-append (range_with_len r.0 r.1) rest ∙ ap (λ n. n + length rest) (length-range_with_len r.0 r.1) in
+    let all : length (joined_runs (drop i runs)) * l.group ≡ (r.1 + length rest) * l.group = ap (λ n. n * l.group) next in
+    let sum : (r.1 + length rest) * l.group ≡ r.1 * l.group + length rest * l.group = omega arith in
+    omega (arith, counted, all, sum, size)
+
+-- ---- written over a part of a list
+
+-- what is written behind what was there
+pub written_behind : (out piece rest : List ℕ) (w n : ℕ) → w ≤ length out → n ≡ w + length piece → take n (take w out ++ (piece ++ rest)) ≡ take w out ++ piece
+written_behind out piece rest w n within is =
+    ap (take n) (sym (append_assoc (take w out) piece rest))
+    ∙ take_at (take w out ++ piece) rest n (length-append (take w out) piece ∙ omega (arith, length-take-le w out within, is))
+
+-- what is written from a place to the end
+pub written_to_end : (out piece : List ℕ) (w k : ℕ) → length out ≤ w + k → take w out ++ (piece ++ drop k (drop w out)) ≡ take w out ++ piece
+written_to_end out piece w k whole =
+    ap (λ (xs : List ℕ). take w out ++ (piece ++ xs)) (drop_all k (drop w out) (omega (arith, length-drop w out, whole)))
+    ∙ ap (λ (xs : List ℕ). take w out ++ xs) (append-nil piece)
+
+-- how long a part is
+pub length-part : (out : List ℕ) (w k : ℕ) → w + k ≤ length out → length (take k (drop w out)) ≡ k
+length-part out w k within = length-take-le k (drop w out) (omega (arith, length-drop w out, within))

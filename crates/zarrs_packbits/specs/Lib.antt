@@ -30,6 +30,7 @@ pub use Rattle.zarrs_data_type.specs.FillValue
 pub use Rattle.zarrs_data_type.specs.Form
 pub use Rattle.zarrs_array_bytes.specs.Elements
 pub use Rattle.zarrs_array_bytes.specs.Held
+pub use Rattle.zarrs_array_bytes.specs.Pieces
 pub use Rattle.zarrs_array_bytes.specs.Tight
 pub use Rattle.zarrs_array_bytes.specs.Update
 pub use Rattle.zarrs_array_bytes.specs.Validity

@@ -60,6 +60,12 @@ packbits_chunk settings form value = do
   _ ← demand (padding_holds l value) PaddingByte
   Ok (map (packed_element l value) (range_with_len 0 (product form.sizes)))
 
+-- a value has its length, and its padding byte is the number of spare bits, or the first error
+abbrev pub value_checked : PackedLayout → List ℕ → Result (Unit {0}) CodecError
+value_checked l value = do
+  _ ← demand (length value == value_len l) (InvalidBytesLength (length value) (value_len l))
+  demand (padding_holds l value) PaddingByte
+
 -- where all bits of whole bytes are kept, the value of a container's chunk is answered in no new memory, or the first error
 abbrev pub PackBitsEncodesInPlace : PackBitsSettings → Form → Held → Result (CowSlice ℕ Global) CodecError → Type 0
 PackBitsEncodesInPlace settings form held result =

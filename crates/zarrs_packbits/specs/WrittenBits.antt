@@ -60,8 +60,4 @@ PutsComponents l at parts kept before after result = Puts before after result (c
 abbrev pub AppendsBits : {T E : Type 0} → Vec ℕ Global → Vec ℕ Global → Result T E → List ℕ → Type 0
 AppendsBits old new result more = Puts (bits_of old.items) (bits_of new.items) result more
 
--- so many components are appended to the bytes, made of the kept bits that stand in other bytes from bit `at` on
-abbrev pub AppendsComponents : {T E : Type 0} → PackedLayout → ℕ → ℕ → List ℕ → Vec ℕ Global → Vec ℕ Global → Result T E → Type 0
-AppendsComponents l at parts kept old new result = AppendsBits old new result (components_in l at parts kept)
-
 -- ---- bits in words

@@ -1,10 +1,13 @@
 //! The codec `packbits` over whole chunks.
 ghost use Rattle.zarrs_data_type.specs.Form.{form_of};
+ghost use Rattle.zarrs_data_type.specs.ElementType.{fixed_size_of};
 ghost use Rattle.zarrs_array_bytes.specs.Held.{items_of};
+ghost use Rattle.zarrs_array_bytes.specs.Pieces.{fixed_of};
+ghost use Rattle.zarrs_array_bytes.specs.Validity.{Holds};
 ghost use Rattle.zarrs_codec.specs.Grammar.{Encodes, Decodes};
 ghost use Rattle.zarrs_packbits.specs.PackBitsGrammar.{packbits_grammar};
-ghost use Rattle.std.specs.Prelude.{◌≡◌, ℕ, ◌+◌, ◌^◌, ◌<◌, IfOk, None, Ok, Some, true, false};
-ghost use Rattle.zarrs_chunk.specs.Answer.{is_fault};
+ghost use Rattle.std.specs.Prelude.{◌≡◌, ℕ, ◌+◌, ◌*◌, ◌^◌, ◌<◌, length, IfOk, None, Ok, OnErr, Some, true, false};
+ghost use Rattle.zarrs_chunk.specs.Answer.{GivesBy, is_fault, seen};
 ghost use Rattle.zarrs_chunk.specs.ChunkShape.{product};
 ghost use Rattle.zarrs_metadata.specs.CodecMetadata.{packbits_name};
 ghost use Rattle.zarrs_metadata.specs.MetadataV3.{configuration_seen, MakesConfiguration};
@@ -13,13 +16,13 @@ ghost use Rattle.zarrs_codec.specs.MadeAgain.{MadeAgain};
 ghost use Rattle.zarrs_codec.specs.declared.capabilities.PartialDecoderCapability.{PartialDecoderCapability};
 ghost use Rattle.zarrs_codec.specs.declared.capabilities.PartialEncoderCapability.{PartialEncoderCapability};
 ghost use Rattle.zarrs_bytes.specs.GivenBytes.{DecodesNow, EncodesNow, IsGiven, HoldsGiven};
-ghost use Rattle.zarrs_packbits.specs.PackBitsCodec.{packbits_value, packbits_chunk, PackBitsEncodesInPlace, PackBitsDecodesInPlace, Keeps, KeepsIn};
+ghost use Rattle.zarrs_packbits.specs.PackBitsCodec.{packbits_value, packbits_chunk, PackBitsEncodesInPlace, PackBitsDecodesInPlace, Keeps, KeepsIn, value_checked};
 ghost use Rattle.zarrs_packbits.specs.PackBitsSettings.{is_reversed, packbits_settings, packed_layout, first_of, last_bit_of, padding_for, KeepsAllBytes, PackBitsRepresentsNow};
 ghost use Rattle.zarrs_packbits.specs.PackedLayout.{IsPackedLayout};
 ghost use Rattle.zarrs_packbits.specs.SettingsMetadata.{settings_made, write_settings};
 
 use crate::layout::PackedLayout;
-use crate::packed_values::{packed_raw, unpacked_raw};
+use crate::packed_values::{packed_raw, unpack_into, unpacked_raw};
 use std::alloc::Global;
 use std::marker::Model;
 use zarrs_array_bytes::{ArrayBytes, ArrayBytesRaw};
@@ -64,6 +67,27 @@ impl Model for PackBitsCodec {
     ghost invariant = { λ codec. is_reversed codec.first_bit codec.last_bit ≡ false };
 
     ghost inverse = { λ settings. record { padding_encoding = settings.padding; first_bit = settings.first_bit; last_bit = settings.last_bit } };
+}
+
+/// Whether a value has the length and the padding byte of those of such chunks. Errors:
+/// `InvalidBytesLength`, `PaddingByte`.
+fn check_value(layout: &PackedLayout, value: &[u8]) -> Result<(), CodecError>
+    requires layout { IsPackedLayout layout.now }
+    ensures answer { result ≡ value_checked layout.now value.now }
+    ensures no_fault { is_fault result ≡ false }
+{
+    let expected = layout.value_len();
+    let found = value.len() as u64;
+    if found != expected {
+        return Err(CodecError::InvalidBytesLength {
+            len: found,
+            expected,
+        });
+    }
+    if !layout.padding_holds(value) {
+        return Err(CodecError::PaddingByte);
+    }
+    Ok(())
 }
 
 impl PackBitsCodec {
@@ -278,19 +302,38 @@ impl PackBitsCodec {
         if layout.is_whole() {
             return self.decode_whole(alloc, value, shape, data_type, fill_value);
         }
-        let expected = layout.value_len();
-        let found = value.len() as u64;
-        if found != expected {
-            return Err(CodecError::InvalidBytesLength {
-                len: found,
-                expected,
-            });
-        }
-        if !layout.padding_holds(&value) {
-            return Err(CodecError::PaddingByte);
-        }
+        check_value(&layout, &value)?;
         let elements = unpacked_raw(alloc, &layout, value)?;
         Ok(ArrayBytes::new_flen(elements))
+    }
+
+    /// Writes the elements of the chunk that a value stands for, all of `size` bytes, into `elements`.
+    /// Errors: those of `decode`, which leave what was there.
+    ///
+    /// Where all bits of whole bytes are kept, and where components of one byte keep one bit, two or
+    /// four, it takes no memory.
+    pub fn decode_into(
+        &self,
+        alloc: Global,
+        value: ArrayBytesRaw<'_>,
+        shape: &ChunkShape,
+        data_type: &DataType,
+        fill_value: &FillValue,
+        size: usize,
+        elements: &mut [u8],
+    ) -> Result<(), CodecError>
+        requires some { 0 < size }
+        requires sized { fixed_size_of data_type.now ≡ Some size }
+        requires len { length elements.old ≡ product shape.now * size }
+        ensures decoded { GivesBy (λ items. Holds data_type.now (fixed_of items))
+            (seen (λ _. elements.new) result) (packbits_chunk self.now
+            (form_of shape.now data_type.now fill_value.now) (items_of value.entry)) }
+        ensures left { OnErr result (elements.new ≡ elements.old) }
+    {
+        let layout = self.layout(shape, data_type, fill_value)?;
+        check_value(&layout, &value)?;
+        unpack_into(alloc, &layout, &value, elements)?;
+        Ok(())
     }
 }
 

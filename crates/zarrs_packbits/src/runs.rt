@@ -12,14 +12,13 @@ ghost use Rattle.zarrs_packbits.specs.PartialRead.{packed_places_bytes, read_pac
 ghost use Rattle.zarrs_packbits.specs.ReadPlan.{packed_ranges, run_span, run_bits, runs_len};
 ghost use Rattle.zarrs_packbits.specs.WrittenBits.{Puts};
 
-use crate::bit_appends::in_range;
 use crate::bit_writer::BitWriter;
 use crate::layout::PackedLayout;
-use crate::spread::append_runs;
+use crate::spread::put_spread_runs;
 use std::alloc::{AllocError, Global};
 use zarrs_bytes::fill_runs;
 use zarrs_chunk::{CodecError, count_places};
-use zarrs_codec::{ByteRange, BytesPartialDecoderTraits};
+use zarrs_codec::{ByteRange, BytesPartialDecoderTraits, bytes_are};
 
 /// One range of bytes for each run of places.
 pub(crate) fn run_ranges(
@@ -86,9 +85,10 @@ fn unpack_runs(
     let element = layout.group.saturating_mul(layout.size);
     let room = count_places(runs).saturating_mul(element);
     if layout.is_spread() {
-        let mut out = Vec::with_capacity(alloc, room as usize)?;
-        append_runs(&mut out, layout, bytes, runs)?;
-        return Ok(in_range(out));
+        let mut out = vec![in alloc; 0; room as usize]?;
+        put_spread_runs(&mut out, layout, bytes, runs);
+        bytes_are(&out);
+        return Ok(out);
     }
     let mut writer = BitWriter::with_capacity(alloc, room as usize)?;
     put_runs(&mut writer, layout, bytes, runs)?;

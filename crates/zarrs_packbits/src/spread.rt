@@ -1,16 +1,17 @@
 //! Components of one byte each, of which one bit is kept, or two or four: a block of them at a time.
-ghost use Rattle.std.specs.Prelude.{◌≡◌, ◌+◌, ◌-◌, ◌*◌, ◌%◌, ◌<◌, ◌≤◌, ◌++◌, false, All, IfOk, length, take};
+ghost use Rattle.std.specs.Prelude.{◌≡◌, ◌+◌, ◌-◌, ◌*◌, ◌%◌, ◌<◌, ◌≤◌, false, All, length, take};
+ghost use Rattle.zarrs_chunk.specs.Runs.{joined_runs};
+ghost use Rattle.zarrs_packbits.specs.Bits.{bits_of};
+ghost use Rattle.zarrs_packbits.specs.BitStream.{components_in};
 ghost use Rattle.zarrs_packbits.specs.BlockBits.{block_len};
 ghost use Rattle.zarrs_packbits.specs.KeptBits.{sign_weight};
 ghost use Rattle.zarrs_packbits.specs.PackedLayout.{IsOneTwoOrFour, IsPackedLayout, element_bits_len, is_whole};
 ghost use Rattle.zarrs_packbits.specs.PartialRead.{run_end, run_start};
 ghost use Rattle.zarrs_packbits.specs.ReadPlan.{run_bits, runs_len};
-ghost use Rattle.zarrs_packbits.specs.WrittenBits.{AppendsBits, AppendsComponents};
 
 use crate::blocks::{bit_block, half_block, lift_byte, quarter_block};
 use crate::layout::PackedLayout;
 use crate::words::weight_of_sign;
-use std::alloc::AllocError;
 
 /// So many bytes from the first one on, and any others behind them: a whole block is read at once
 /// where there is one.
@@ -29,153 +30,127 @@ fn take_block<const N: usize>(bytes: &[u8], used: usize) -> [u8; N]
     taken
 }
 
-/// Appends so many bytes of a block: where there is room for all of them, these are written at once
-/// and what is too much is dropped again.
+/// Writes the first bytes of a block, as many as there is room for: a whole block by a move of constant
+/// length.
 #[inline(always)]
-fn append_front<const N: usize>(
-    out: &mut Vec<u8>,
-    block: &[u8; N],
-    parts: usize,
-) -> Result<(), AllocError>
-    requires within { parts ≤ N }
-    ensures items { IfOk result (λ _. out.new.items ≡ out.old.items ++ take parts block.now) }
+fn put_front<const N: usize>(out: &mut [u8], block: &[u8; N])
+    requires within { length out.old ≤ N }
+    ensures front { out.new ≡ take (length out.old) block.now }
 {
-    let len = out.len();
-    if out.capacity() - len < N {
-        return out.extend_from_slice(&block[..parts]);
+    let parts = out.len();
+    if parts == N {
+        out.copy_from_slice(block);
+    } else {
+        out.copy_from_slice(&block[..parts]);
     }
-    out.extend_from_slice(block)?;
-    out.truncate(len + parts);
-    Ok(())
 }
 
-/// Appends so many components of one byte, as many as a block has or fewer, whose kept bits, one,
-/// two or four each, stand in the bytes from the first one on.
+/// Writes as many components of one byte as there is room for, a block of them or fewer, whose kept
+/// bits, one, two or four each, stand in the bytes from the first one on.
 #[inline(always)]
-fn append_block(
-    out: &mut Vec<u8>,
-    layout: PackedLayout,
-    bytes: &[u8],
-    parts: usize,
-    count: u64,
-    weight: u8,
-) -> Result<(), AllocError>
+fn put_block(out: &mut [u8], layout: PackedLayout, bytes: &[u8], count: u64, weight: u8)
     requires count { layout.count ≡ count }
     requires kept { IsOneTwoOrFour count }
     requires size { layout.first + layout.count + layout.above ≡ 8 }
     requires weight { weight ≡ sign_weight layout.sign count }
-    requires few { parts * count ≤ 8 * block_len count }
-    requires inside { parts * count ≤ 8 * length bytes.now }
-    ensures appended { AppendsComponents layout 0 parts bytes.now out.old out.new result }
+    requires few { length out.old * count ≤ 8 * block_len count }
+    requires inside { length out.old * count ≤ 8 * length bytes.now }
+    ensures written { bits_of out.new ≡ components_in layout 0 (length out.old) bytes.now }
 {
     let first = layout.first;
-    let used = (parts * count as usize + 7) / 8;
+    let used = (out.len() * count as usize + 7) / 8;
     match count {
         1 => {
             let block = bit_block(&take_block(bytes, used), first, weight);
-            append_front(out, &block, parts)?;
-            Ok(())
+            put_front(out, &block);
         }
         2 => {
             let block = quarter_block(&take_block(bytes, used), first, weight);
-            append_front(out, &block, parts)?;
-            Ok(())
+            put_front(out, &block);
         }
         _ => {
             let block = half_block(&take_block(bytes, used), first, weight);
-            append_front(out, &block, parts)?;
-            Ok(())
+            put_front(out, &block);
         }
     }
 }
 
-/// Appends so many components of one byte, a block of `room` of them at a time, out of `len` bytes.
-/// Their kept bits, one, two or four each, stand in the bytes from the first one on.
+/// Writes as many components of one byte as there is room for, a block of `room` of them at a time, out
+/// of `len` bytes. Their kept bits, one, two or four each, stand in the bytes from the first one on.
 #[inline(always)]
-fn append_blocks(
-    out: &mut Vec<u8>,
+fn put_blocks(
+    out: &mut [u8],
     layout: PackedLayout,
     bytes: &[u8],
-    parts: u64,
     count: u64,
-    room: u64,
+    room: usize,
     len: usize,
-) -> Result<(), AllocError>
+)
     requires count { layout.count ≡ count }
     requires kept { IsOneTwoOrFour count }
     requires some { 0 < room }
     requires room { room * count ≡ 8 * len }
     requires len { len ≡ block_len count }
     requires size { layout.first + layout.count + layout.above ≡ 8 }
-    requires inside { parts * count ≤ 8 * length bytes.now }
-    ensures appended { AppendsComponents layout 0 parts bytes.now out.old out.new result }
+    requires inside { length out.old * count ≤ 8 * length bytes.now }
+    ensures written { bits_of out.new ≡ components_in layout 0 (length out.old) bytes.now }
 {
     let weight = weight_of_sign(count, layout.sign) as u8;
-    let whole = (parts / room) as usize;
+    let whole = out.len() / room;
     for block in 0..whole {
-        append_block(
-            out,
+        let at = room * block;
+        put_block(
+            &mut out[at..at + room],
             layout,
             &bytes[len * block..],
-            room as usize,
             count,
             weight,
-        )?;
+        );
     }
-    if parts % room == 0 {
-        return Ok(());
+    let done = room * whole;
+    if done < out.len() {
+        put_block(
+            &mut out[done..],
+            layout,
+            &bytes[len * whole..],
+            count,
+            weight,
+        );
     }
-    append_block(
-        out,
-        layout,
-        &bytes[len * whole..],
-        (parts % room) as usize,
-        count,
-        weight,
-    )?;
-    Ok(())
 }
 
-/// Appends so many components of one byte, whose kept bits stand in the first byte behind those of
-/// `skip` others.
+/// Writes as many components of one byte as there is room for, whose kept bits stand in the first byte
+/// behind those of `skip` others.
 #[inline(always)]
-fn append_head(
-    out: &mut Vec<u8>,
-    layout: PackedLayout,
-    bytes: &[u8],
-    skip: u64,
-    parts: u64,
-    count: u64,
-) -> Result<(), AllocError>
+fn put_head(out: &mut [u8], layout: PackedLayout, bytes: &[u8], skip: u64, count: u64)
     requires count { layout.count ≡ count }
     requires kept { IsOneTwoOrFour count }
     requires size { layout.first + layout.count + layout.above ≡ 8 }
     requires some { 0 < length bytes.now }
-    requires inside { (skip + parts) * count ≤ 8 }
-    ensures appended { AppendsComponents layout (skip * count) parts bytes.now out.old out.new result }
+    requires inside { (skip + length out.old) * count ≤ 8 }
+    ensures written { bits_of out.new ≡ components_in layout (skip * count) (length out.old) bytes.now }
 {
     let weight = weight_of_sign(count, layout.sign) as u8;
     let mask = (1u8 << count) - 1;
-    for part in 0..parts {
-        let kept = (bytes[0] >> ((skip + part) * count)) & mask;
-        out.push(lift_byte(kept, layout.first, weight))?;
+    for part in 0..out.len() {
+        let kept = (bytes[0] >> ((skip + part as u64) * count)) & mask;
+        out[part] = lift_byte(kept, layout.first, weight);
     }
-    Ok(())
 }
 
-/// Appends so many components of one byte, whose kept bits, one, two or four each, stand in the bytes
-/// behind those of `skip` others in the first byte: one by one up to its end, and then by blocks.
+/// Writes as many components of one byte as there is room for, whose kept bits, one, two or four each,
+/// stand in the bytes behind those of `skip` others in the first byte: one by one up to its end, and
+/// then by blocks.
 #[inline(always)]
-fn append_behind(
-    out: &mut Vec<u8>,
+fn put_behind(
+    out: &mut [u8],
     layout: PackedLayout,
     bytes: &[u8],
     skip: u64,
-    parts: u64,
     count: u64,
-    room: u64,
+    room: usize,
     len: usize,
-) -> Result<(), AllocError>
+)
     requires count { layout.count ≡ count }
     requires kept { IsOneTwoOrFour count }
     requires some { 0 < room }
@@ -184,19 +159,20 @@ fn append_behind(
     requires size { layout.first + layout.count + layout.above ≡ 8 }
     requires bit { skip * count < 8 }
     requires filled { 0 < length bytes.now }
-    requires inside { (skip + parts) * count ≤ 8 * length bytes.now }
-    ensures appended { AppendsComponents layout (skip * count) parts bytes.now out.old out.new result }
+    requires inside { (skip + length out.old) * count ≤ 8 * length bytes.now }
+    ensures written { bits_of out.new ≡ components_in layout (skip * count) (length out.old) bytes.now }
 {
     if skip == 0 {
-        return append_blocks(out, layout, bytes, parts, count, room, len);
+        put_blocks(out, layout, bytes, count, room, len);
+        return;
     }
-    let head = (8 / count - skip).min(parts);
-    append_head(out, layout, bytes, skip, head, count)?;
-    if head == parts {
-        return Ok(());
+    let head = (8 / count - skip) as usize;
+    if out.len() <= head {
+        put_head(out, layout, bytes, skip, count);
+        return;
     }
-    append_blocks(out, layout, &bytes[1..], parts - head, count, room, len)?;
-    Ok(())
+    put_head(&mut out[..head], layout, bytes, skip, count);
+    put_blocks(&mut out[head..], layout, &bytes[1..], count, room, len);
 }
 
 /// Of a run of places: how many components its first byte has before it, how many components it has,
@@ -223,17 +199,17 @@ fn place_run(layout: PackedLayout, start: u64, places: u64, count: u64) -> (u64,
     (begin % 8 / count, parts, used as usize)
 }
 
-/// Appends the components of the elements of the runs, of the runs' bytes joined.
+/// Writes the components of the elements of the runs, of the runs' bytes joined.
 #[inline(always)]
-fn append_each(
-    out: &mut Vec<u8>,
+fn put_each(
+    out: &mut [u8],
     layout: PackedLayout,
     bytes: &[u8],
     runs: &[(u64, u64)],
     count: u64,
-    room: u64,
+    room: usize,
     len: usize,
-) -> Result<(), AllocError>
+)
     requires layout { IsPackedLayout layout }
     requires in_part { is_whole layout ≡ false }
     requires count { layout.count ≡ count }
@@ -245,24 +221,35 @@ fn append_each(
     requires filled { All (λ run. 0 < run.1) runs.now }
     requires below { All (λ run. run.0 + run.1 ≤ layout.elements) runs.now }
     requires sum { length bytes.now ≡ runs_len layout runs.now }
-    ensures appended { AppendsBits out.old out.new result (run_bits layout bytes.now runs.now) }
+    requires places { length out.old ≡ length (joined_runs runs.now) * layout.group }
+    ensures written { bits_of out.new ≡ run_bits layout bytes.now runs.now }
 {
     let mut at = 0;
+    let mut done = 0;
     for (start, places) in runs {
         let (skip, parts, used) = place_run(layout, *start, *places, count);
-        append_behind(out, layout, &bytes[at..], skip, parts, count, room, len)?;
+        let next = done + parts as usize;
+        put_behind(
+            &mut out[done..next],
+            layout,
+            &bytes[at..],
+            skip,
+            count,
+            room,
+            len,
+        );
         at += used;
+        done = next;
     }
-    Ok(())
 }
 
-/// Appends the components of one byte of the elements of the runs, of the runs' bytes joined.
-pub(crate) fn append_runs(
-    out: &mut Vec<u8>,
+/// Writes the components of one byte of the elements of the runs, of the runs' bytes joined.
+pub(crate) fn put_spread_runs(
+    out: &mut [u8],
     layout: &PackedLayout,
     bytes: &[u8],
     runs: &[(u64, u64)],
-) -> Result<(), AllocError>
+)
     requires layout { IsPackedLayout layout.now }
     requires in_part { is_whole layout.now ≡ false }
     requires size { layout.now.first + layout.now.count + layout.now.above ≡ 8 }
@@ -270,31 +257,27 @@ pub(crate) fn append_runs(
     requires filled { All (λ run. 0 < run.1) runs.now }
     requires below { All (λ run. run.0 + run.1 ≤ layout.now.elements) runs.now }
     requires sum { length bytes.now ≡ runs_len layout.now runs.now }
-    ensures appended { AppendsBits out.old out.new result (run_bits layout.now bytes.now runs.now) }
+    requires places { length out.old ≡ length (joined_runs runs.now) * layout.now.group }
+    ensures written { bits_of out.new ≡ run_bits layout.now bytes.now runs.now }
 {
     match layout.count {
-        1 => append_each(out, *layout, bytes, runs, 1, 64, 8),
-        2 => append_each(out, *layout, bytes, runs, 2, 64, 16),
-        _ => append_each(out, *layout, bytes, runs, 4, 128, 64),
+        1 => put_each(out, *layout, bytes, runs, 1, 64, 8),
+        2 => put_each(out, *layout, bytes, runs, 2, 64, 16),
+        _ => put_each(out, *layout, bytes, runs, 4, 128, 64),
     }
 }
 
-/// Appends so many components of one byte, whose kept bits, one, two or four each, stand in the bytes
-/// from the first one on.
-pub(crate) fn append_spread(
-    out: &mut Vec<u8>,
-    layout: &PackedLayout,
-    bytes: &[u8],
-    parts: u64,
-) -> Result<(), AllocError>
+/// Writes as many components of one byte as there is room for, whose kept bits, one, two or four each,
+/// stand in the bytes from the first one on.
+pub(crate) fn put_spread(out: &mut [u8], layout: &PackedLayout, bytes: &[u8])
     requires size { layout.now.first + layout.now.count + layout.now.above ≡ 8 }
     requires count { IsOneTwoOrFour layout.now.count }
-    requires inside { parts * layout.now.count ≤ 8 * length bytes.now }
-    ensures appended { AppendsComponents layout.now 0 parts bytes.now out.old out.new result }
+    requires inside { length out.old * layout.now.count ≤ 8 * length bytes.now }
+    ensures written { bits_of out.new ≡ components_in layout.now 0 (length out.old) bytes.now }
 {
     match layout.count {
-        1 => append_blocks(out, *layout, bytes, parts, 1, 64, 8),
-        2 => append_blocks(out, *layout, bytes, parts, 2, 64, 16),
-        _ => append_blocks(out, *layout, bytes, parts, 4, 128, 64),
+        1 => put_blocks(out, *layout, bytes, 1, 64, 8),
+        2 => put_blocks(out, *layout, bytes, 2, 64, 16),
+        _ => put_blocks(out, *layout, bytes, 4, 128, 64),
     }
 }

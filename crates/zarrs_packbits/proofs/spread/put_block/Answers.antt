@@ -2,13 +2,13 @@ use Rattle.std.proofs.Common.{◌≡◌, ◌≤◌, ◌+◌, ◌*◌, ◌/◌, �
 use Rattle.std.specs.List.{flat_map}
 use Rattle.zarrs_packbits.specs.BlockBits.{fields_of, lifted_byte}
 use Rattle.zarrs_packbits.specs.KeptBits.{sign_weight}
-use Rattle.zarrs_packbits.proofs.spread.append_block.Goals as goal
+use Rattle.zarrs_packbits.proofs.spread.put_block.Goals as goal
 use Rattle.zarrs_packbits.proofs.BlockLemmas.{last_step}
 
-pub returns-in_ok-append_front-in-1 : goal.returns-in_ok-append_front-in-1
-returns-in_ok-append_front-in-1 c =
+pub returns-in-1 : goal.returns-in-1
+returns-in-1 c =
     let l = c.args.layout in
-    let parts = c.args.parts in
+    let parts = length c.args.out.now in
     let count = c.args.count in
     let used = (parts * count + 7) / 8 in
     let from = c.take_block.result in
@@ -19,12 +19,12 @@ returns-in_ok-append_front-in-1 c =
     let made = c.bit_block-block.ensures.value ∙ ap (λ w. map (lifted_byte l.first w) (flat_map (fields_of 1 8) from)) weight in
     let bits : parts * count ≡ parts * 1 = ap (λ n. parts * n) is in
     let few : parts * 1 ≤ 8 * 8 = rw is at c.requires.few in
-    record { appended = last_step l 1 8 used parts c.args.out.now.items c.append_front.new.out.items c.bit_block-block.result from c.args.bytes.now kept (omega arith) (omega arith) c.requires.size made c.take_block.ensures.front (omega (arith, c.requires.inside)) (omega (arith, bits)) (omega (arith, bits, few, long)) c.in_ok-append_front-in-1.ensures.items }
+    record { written = last_step l 1 8 used parts c.put_front.new.out c.bit_block-block.result from c.args.bytes.now kept (omega arith) (omega arith) c.requires.size made c.take_block.ensures.front (omega (arith, c.requires.inside)) (omega (arith, bits)) (omega (arith, bits, few, long)) c.put_front.ensures.front }
 
-pub returns-in_ok-append_front-in-2 : goal.returns-in_ok-append_front-in-2
-returns-in_ok-append_front-in-2 c =
+pub returns-in-2 : goal.returns-in-2
+returns-in-2 c =
     let l = c.args.layout in
-    let parts = c.args.parts in
+    let parts = length c.args.out.now in
     let count = c.args.count in
     let used = (parts * count + 7) / 8 in
     let from = c.take_block-in-2.result in
@@ -35,12 +35,12 @@ returns-in_ok-append_front-in-2 c =
     let made = c.quarter_block-block.ensures.value ∙ ap (λ w. map (lifted_byte l.first w) (flat_map (fields_of 2 4) from)) weight in
     let bits : parts * count ≡ parts * 2 = ap (λ n. parts * n) is in
     let few : parts * 2 ≤ 8 * 16 = rw is at c.requires.few in
-    record { appended = last_step l 2 4 used parts c.args.out.now.items c.append_front-in-2.new.out.items c.quarter_block-block.result from c.args.bytes.now kept (omega arith) (omega arith) c.requires.size made c.take_block-in-2.ensures.front (omega (arith, c.requires.inside)) (omega (arith, bits)) (omega (arith, bits, few, long)) c.in_ok-append_front-in-2.ensures.items }
+    record { written = last_step l 2 4 used parts c.put_front-in-2.new.out c.quarter_block-block.result from c.args.bytes.now kept (omega arith) (omega arith) c.requires.size made c.take_block-in-2.ensures.front (omega (arith, c.requires.inside)) (omega (arith, bits)) (omega (arith, bits, few, long)) c.put_front-in-2.ensures.front }
 
-pub returns-in_ok-append_front-in_default : goal.returns-in_ok-append_front-in_default
-returns-in_ok-append_front-in_default c =
+pub returns-in_default : goal.returns-in_default
+returns-in_default c =
     let l = c.args.layout in
-    let parts = c.args.parts in
+    let parts = length c.args.out.now in
     let count = c.args.count in
     let used = (parts * count + 7) / 8 in
     let from = c.take_block-in_default.result in
@@ -51,4 +51,4 @@ returns-in_ok-append_front-in_default c =
     let made = c.half_block-block.ensures.value ∙ ap (λ w. map (lifted_byte l.first w) (flat_map (fields_of 4 2) from)) weight in
     let bits : parts * count ≡ parts * 4 = ap (λ n. parts * n) is in
     let few : parts * 4 ≤ 8 * 64 = rw is at c.requires.few in
-    record { appended = last_step l 4 2 used parts c.args.out.now.items c.append_front-in_default.new.out.items c.half_block-block.result from c.args.bytes.now kept (omega arith) (omega arith) c.requires.size made c.take_block-in_default.ensures.front (omega (arith, c.requires.inside)) (omega (arith, bits)) (omega (arith, bits, few, long)) c.in_ok-append_front-in_default.ensures.items }
+    record { written = last_step l 4 2 used parts c.put_front-in_default.new.out c.half_block-block.result from c.args.bytes.now kept (omega arith) (omega arith) c.requires.size made c.take_block-in_default.ensures.front (omega (arith, c.requires.inside)) (omega (arith, bits)) (omega (arith, bits, few, long)) c.put_front-in_default.ensures.front }
