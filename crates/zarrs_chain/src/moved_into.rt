@@ -212,7 +212,7 @@ fn packbits_decode_into<B: BytesToBytesCodecTraits>(
         fill_value,
     } = form;
     let wanted = &mut elements[..count];
-    codec.decode_into(alloc, below, shape, data_type, fill_value, size, wanted)?;
+    codec.decode_elements_into(alloc, below, shape, data_type, fill_value, size, wanted)?;
     Ok(count)
 }
 

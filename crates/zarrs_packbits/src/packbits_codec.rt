@@ -312,7 +312,7 @@ impl PackBitsCodec {
     ///
     /// Where all bits of whole bytes are kept, and where components of one byte keep one bit, two or
     /// four, it takes no memory.
-    pub fn decode_into(
+    pub fn decode_elements_into(
         &self,
         alloc: Global,
         value: ArrayBytesRaw<'_>,

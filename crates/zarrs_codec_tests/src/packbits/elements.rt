@@ -120,7 +120,7 @@ fn write(
     if size == 0 || room(form, size) != Some(elements.len() as u64) {
         return Err(CodecError::ArrayBytesKind);
     }
-    codec.decode_into(
+    codec.decode_elements_into(
         alloc, value, shape, data_type, fill_value, size, elements,
     )
 }

@@ -57,12 +57,12 @@ returns-in_err-below g c =
       };
     }
 
-pub decode_into-requires-clause-len : goal.decode_into-requires-clause-len
-decode_into-requires-clause-len g c =
+pub decode_elements_into-requires-clause-len : goal.decode_elements_into-requires-clause-len
+decode_elements_into-requires-clause-len g c =
     length-take-le c.args.count c.args.elements.now c.requires.room ∙ c.requires.count
 
-pub returns-in_err-decode_into : goal.returns-in_err-decode_into
-returns-in_err-decode_into g c =
+pub returns-in_err-decode_elements_into : goal.returns-in_err-decode_elements_into
+returns-in_err-decode_elements_into g c =
     let f = g.B.BytesToBytesCodecTraits.functions in
     let chain = plain_chain c.args.chain.now in
     let sizes = c.args.form.shape.now in
@@ -73,9 +73,9 @@ returns-in_err-decode_into g c =
     let form : List ℕ × BytesRepresentation = (taken.shape, taken.representation) in
     let below = (raw_of c.in_ok-below.below).items in
     let opened = subst (λ bs. outer_bytes f bs taken.representation value ≡ Ok below) c.deref.ensures.value c.in_ok-below.ensures.answer.is in
-    let e = c.in_err-decode_into.ensures in
-    let p = err_from_is_err_and c.from_residual-in_err-decode_into.result c.from_residual-in_err-decode_into.ensures.1 in
-    let read = packbits_read (λ items. Holds type (fixed_of items)) (Err c.in_err-decode_into.field-0.0) f chain c.args.codec.now sizes type fill form value below c.requires.codec c.requires.arrays c.in_ok-taken.ensures.answer.is opened e.decoded in
+    let e = c.in_err-decode_elements_into.ensures in
+    let p = err_from_is_err_and c.from_residual-in_err-decode_elements_into.result c.from_residual-in_err-decode_elements_into.ensures.1 in
+    let read = packbits_read (λ items. Holds type (fixed_of items)) (Err c.in_err-decode_elements_into.field-0.0) f chain c.args.codec.now sizes type fill form value below c.requires.codec c.requires.arrays c.in_ok-taken.ensures.answer.is opened e.decoded in
     record {
       written = record {
         items = [];
@@ -98,15 +98,15 @@ returns g c =
     let form : List ℕ × BytesRepresentation = (taken.shape, taken.representation) in
     let below = (raw_of c.in_ok-below.below).items in
     let opened = subst (λ bs. outer_bytes f bs taken.representation value ≡ Ok below) c.deref.ensures.value c.in_ok-below.ensures.answer.is in
-    let items : List ℕ = c.decode_into.new.elements in
+    let items : List ℕ = c.decode_elements_into.new.elements in
     let room = c.requires.room in
-    let long = sym (length-take-le c.args.count c.args.elements.now room) ∙ sym c.decode_into.auto.elements in
+    let long = sym (length-take-le c.args.count c.args.elements.now room) ∙ sym c.decode_elements_into.auto.elements in
     record {
       written = record {
         items = items;
         counted = long;
         there = front_there c.args.count items c.args.elements.now items room long refl;
         left = tt;
-        answered = packbits_read (λ items. Holds type (fixed_of items)) (Ok items) f chain c.args.codec.now sizes type fill form value below c.requires.codec c.requires.arrays c.in_ok-taken.ensures.answer.is opened c.in_ok-decode_into.ensures.decoded;
+        answered = packbits_read (λ items. Holds type (fixed_of items)) (Ok items) f chain c.args.codec.now sizes type fill form value below c.requires.codec c.requires.arrays c.in_ok-taken.ensures.answer.is opened c.in_ok-decode_elements_into.ensures.decoded;
       };
     }

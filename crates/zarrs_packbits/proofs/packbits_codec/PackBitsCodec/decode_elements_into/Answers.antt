@@ -8,7 +8,7 @@ use Rattle.zarrs_packbits.specs.PackedLayout.{layout_components}
 use Rattle.zarrs_packbits.specs.PaddingByte.{lead}
 use Rattle.zarrs_packbits.specs.Packing.{packing}
 use Rattle.zarrs_packbits.proofs.Coding.{IsPassed, decoded_holds, elements_long, value_passed}
-use Rattle.zarrs_packbits.proofs.packbits_codec.PackBitsCodec.decode_into.Goals as goal
+use Rattle.zarrs_packbits.proofs.packbits_codec.PackBitsCodec.decode_elements_into.Goals as goal
 
 pub unpack_into-requires-clause-room : goal.unpack_into-requires-clause-room
 unpack_into-requires-clause-room c =
