@@ -4,7 +4,7 @@ use Rattle.std.specs.Prelude.{◌≡◌, ℕ, ◌==◌, true, List, length, drop
 use Rattle.std.specs.List.{range_with_len}
 use Rattle.std.proofs.Common.{Global}
 use Rattle.std.specs.declared.borrow.CowSlice.{CowSlice}
-use Rattle.zarrs_chunk.specs.Answer.{◌>>=◌, demand}
+use Rattle.zarrs_chunk.specs.Answer.{◌>>=◌, GivesBy, demand, seen}
 use Rattle.zarrs_chunk.specs.ChunkShape.{product}
 use Rattle.zarrs_chunk.specs.declared.codec_error.CodecError.{CodecError}
 use Rattle.zarrs_chunk.specs.declared.codec_error.CodecError.TheVariants.{InvalidBytesLength, PaddingByte}
@@ -12,7 +12,8 @@ use Rattle.zarrs_data_type.specs.Element.{Chunk}
 use Rattle.zarrs_data_type.specs.ElementType.{ElementType}
 use Rattle.zarrs_array_bytes.specs.Elements.{elements}
 use Rattle.zarrs_array_bytes.specs.Held.{Held, items_of}
-use Rattle.zarrs_array_bytes.specs.Validity.{validity}
+use Rattle.zarrs_array_bytes.specs.Pieces.{fixed_of}
+use Rattle.zarrs_array_bytes.specs.Validity.{Holds, validity}
 use Rattle.zarrs_data_type.specs.Form.{Form, form_of}
 use Rattle.zarrs_bytes.specs.BytesCodec.{IsChunk}
 use Rattle.zarrs_bytes.specs.GivenBytes.{EncodesNow, DecodesNow, IsGiven, HoldsGiven}
@@ -65,6 +66,11 @@ abbrev pub value_checked : PackedLayout → List ℕ → Result (Unit {0}) Codec
 value_checked l value = do
   _ ← demand (length value == value_len l) (InvalidBytesLength (length value) (value_len l))
   demand (padding_holds l value) PaddingByte
+
+-- these are the elements, all of one size, of the chunk that a value stands for, or the first error is returned
+abbrev pub PackBitsPutsElements : {T : Type 0} → PackBitsSettings → Form → List ℕ → List ℕ → Result T CodecError → Type 0
+PackBitsPutsElements settings form value elements result =
+    GivesBy (λ items. Holds form.type (fixed_of items)) (seen (λ _. elements) result) (packbits_chunk settings form value)
 
 -- where all bits of whole bytes are kept, the value of a container's chunk is answered in no new memory, or the first error
 abbrev pub PackBitsEncodesInPlace : PackBitsSettings → Form → Held → Result (CowSlice ℕ Global) CodecError → Type 0

@@ -2,12 +2,10 @@
 ghost use Rattle.zarrs_data_type.specs.Form.{form_of};
 ghost use Rattle.zarrs_data_type.specs.ElementType.{fixed_size_of};
 ghost use Rattle.zarrs_array_bytes.specs.Held.{items_of};
-ghost use Rattle.zarrs_array_bytes.specs.Pieces.{fixed_of};
-ghost use Rattle.zarrs_array_bytes.specs.Validity.{Holds};
 ghost use Rattle.zarrs_codec.specs.Grammar.{Encodes, Decodes};
 ghost use Rattle.zarrs_packbits.specs.PackBitsGrammar.{packbits_grammar};
 ghost use Rattle.std.specs.Prelude.{◌≡◌, ℕ, ◌+◌, ◌*◌, ◌^◌, ◌<◌, length, IfOk, None, Ok, OnErr, Some, true, false};
-ghost use Rattle.zarrs_chunk.specs.Answer.{GivesBy, is_fault, seen};
+ghost use Rattle.zarrs_chunk.specs.Answer.{is_fault};
 ghost use Rattle.zarrs_chunk.specs.ChunkShape.{product};
 ghost use Rattle.zarrs_metadata.specs.CodecMetadata.{packbits_name};
 ghost use Rattle.zarrs_metadata.specs.MetadataV3.{configuration_seen, MakesConfiguration};
@@ -16,7 +14,7 @@ ghost use Rattle.zarrs_codec.specs.MadeAgain.{MadeAgain};
 ghost use Rattle.zarrs_codec.specs.declared.capabilities.PartialDecoderCapability.{PartialDecoderCapability};
 ghost use Rattle.zarrs_codec.specs.declared.capabilities.PartialEncoderCapability.{PartialEncoderCapability};
 ghost use Rattle.zarrs_bytes.specs.GivenBytes.{DecodesNow, EncodesNow, IsGiven, HoldsGiven};
-ghost use Rattle.zarrs_packbits.specs.PackBitsCodec.{packbits_value, packbits_chunk, PackBitsEncodesInPlace, PackBitsDecodesInPlace, Keeps, KeepsIn, value_checked};
+ghost use Rattle.zarrs_packbits.specs.PackBitsCodec.{packbits_value, packbits_chunk, PackBitsEncodesInPlace, PackBitsDecodesInPlace, PackBitsPutsElements, Keeps, KeepsIn, value_checked};
 ghost use Rattle.zarrs_packbits.specs.PackBitsSettings.{is_reversed, packbits_settings, packed_layout, first_of, last_bit_of, padding_for, KeepsAllBytes, PackBitsRepresentsNow};
 ghost use Rattle.zarrs_packbits.specs.PackedLayout.{IsPackedLayout};
 ghost use Rattle.zarrs_packbits.specs.SettingsMetadata.{settings_made, write_settings};
@@ -325,9 +323,8 @@ impl PackBitsCodec {
         requires some { 0 < size }
         requires sized { fixed_size_of data_type.now ≡ Some size }
         requires len { length elements.old ≡ product shape.now * size }
-        ensures decoded { GivesBy (λ items. Holds data_type.now (fixed_of items))
-            (seen (λ _. elements.new) result) (packbits_chunk self.now
-            (form_of shape.now data_type.now fill_value.now) (items_of value.entry)) }
+        ensures decoded { PackBitsPutsElements self.now
+            (form_of shape.now data_type.now fill_value.now) (items_of value.entry) elements.new result }
         ensures left { OnErr result (elements.new ≡ elements.old) }
     {
         let layout = self.layout(shape, data_type, fill_value)?;
