@@ -1,5 +1,7 @@
 //! Elements that are written where they are wanted. The bits of each value are worked out by hand: the
 //! kept bits of the elements, the lowest first, in bytes that are filled from the lowest bit on.
+ghost use Rattle.std.specs.Prelude.{◌≡◌, ◌*◌, true};
+ghost use Rattle.zarrs_chunk.specs.ChunkShape.{product};
 
 use super::reads::{ALL_BITS, PADDED_FIRST, PADDED_LAST, Settings, codec};
 use crate::checks::answers;
@@ -7,7 +9,7 @@ use crate::forms::{Chunk, ChunkForm, THREE, chunk_form};
 use std::alloc::Global;
 use std::borrow::CowSlice;
 use std::process::Abort;
-use zarrs_chunk::CodecError;
+use zarrs_chunk::{ChunkShape, CodecError};
 use zarrs_metadata::PackBitsPaddingEncoding;
 use zarrs_packbits::PackBitsCodec;
 
@@ -20,8 +22,8 @@ struct Decoded {
     elements: Result<&'static [u8], CodecError>,
 }
 
-/// What stands in the place of elements before they are written.
-const BEFORE: [u8; 10] = [9; 10];
+/// What stands in the place of the elements of three words before they are written.
+const BEFORE: [u8; 6] = [9; 6];
 
 const DECODED: [Decoded; 6] = [
     Decoded {
@@ -99,9 +101,17 @@ const DECODED: [Decoded; 6] = [
     },
 ];
 
-/// How many bytes a chunk's elements have, all of one size.
-fn room(form: &ChunkForm, size: usize) -> Option<u64> {
-    form.shape.num_elements().ok()?.checked_mul(size as u64)
+/// Whether the elements of a chunk of this shape, all of one size, have so many bytes.
+fn fits(shape: &ChunkShape, size: usize, len: usize) -> bool
+    ensures room { result ≡ true → len ≡ product shape.now * size }
+{
+    match shape.num_elements() {
+        Ok(count) => match count.checked_mul(size as u64) {
+            Some(bytes) => bytes == len as u64,
+            None => false,
+        },
+        Err(_) => false,
+    }
 }
 
 /// Writes the elements of a row's chunk; a form that doesn't fit is an error of the test.
@@ -117,25 +127,22 @@ fn write(
     let Some(size) = data_type.fixed_size() else {
         return Err(CodecError::ArrayBytesKind);
     };
-    if size == 0 || room(form, size) != Some(elements.len() as u64) {
+    if size == 0 || !fits(shape, size, elements.len()) {
         return Err(CodecError::ArrayBytesKind);
     }
-    codec.decode_elements_into(
-        alloc, value, shape, data_type, fill_value, size, elements,
-    )
+    codec.decode_elements_into(alloc, value, shape, data_type, fill_value, size, elements)
 }
 
 /// A row's elements are written over what stood in their place, or that is left.
 fn writes_row(rt: &impl Abort, alloc: Global, row: &Decoded) -> Result<(), CodecError> {
     let form = chunk_form(alloc, &row.chunk)?;
     let codec = codec(&row.settings)?;
-    let mut elements = BEFORE;
-    let count = row.elements.unwrap_or(&BEFORE[..6]).len();
-    match write(alloc, &codec, &form, row, &mut elements[..count]) {
-        Ok(()) => answers(rt, row.name, Ok(&elements[..count]), row.elements),
+    let mut elements = vec![in alloc; 9u8; row.elements.unwrap_or(&BEFORE).len()]?;
+    match write(alloc, &codec, &form, row, &mut elements) {
+        Ok(()) => answers(rt, row.name, Ok(elements.as_slice()), row.elements),
         Err(cause) => {
             answers(rt, row.name, Err(cause), row.elements)?;
-            answers(rt, row.name, Ok(elements.as_slice()), Ok(BEFORE.as_slice()))
+            answers(rt, row.name, Ok(elements.as_slice()), Ok(&BEFORE))
         }
     }
 }
