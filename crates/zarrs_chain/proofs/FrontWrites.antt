@@ -18,7 +18,6 @@ use Rattle.zarrs_array_bytes.specs.Held.{Held, Raw, flen, masked, owned_bytes, v
 use Rattle.zarrs_array_bytes.specs.Parts.{fixed_items}
 use Rattle.zarrs_array_bytes.specs.Pieces.{fixed_of}
 use Rattle.zarrs_array_bytes.specs.Turned.{WholeComponents, turned_bytes}
-use Rattle.zarrs_array_bytes.specs.Update.{with_items_at}
 use Rattle.zarrs_array_bytes.specs.Validity.{Holds, validity}
 use Rattle.zarrs_codec.specs.BytesToBytesCodec.{BytesCodecs}
 use Rattle.zarrs_codec.specs.CoordinateMap.{CoordinateMap, IsCoordinateMap, inverse_map, moved_chunk}

@@ -1,19 +1,17 @@
-use Rattle.std.proofs.Common.{◌≡◌, ◌<◌, ◌≤◌, ◌*◌, ◌++◌, ℕ, List, [], Option, Ok, Err, IfOk, IsOkAnd, length, drop, map, arith, refl, rules, ap, subst, sym, ◌∙◌}
+use Rattle.std.proofs.Common.{◌≡◌, ◌<◌, ◌++◌, ℕ, List, [], Option, Ok, Err, IfOk, IsOkAnd, length, drop, map, refl, rules, ap, subst, sym, ◌∙◌}
 use Rattle.std.proofs.lemmas.List.{length-take-le, take-append-drop}
 use Rattle.std.proofs.lemmas.Result.{err_from_is_err_and}
 use Rattle.std.specs.List.{All}
 use Rattle.zarrs_chunk.specs.Answer.{AnswersBy, memory}
-use Rattle.zarrs_chunk.specs.ChunkShape.{product}
 use Rattle.zarrs_data_type.specs.Form.{form_of}
 use Rattle.zarrs_data_type.specs.declared.endianness.Endianness.{Endianness}
 use Rattle.zarrs_array_bytes.specs.Held.{flen, raw_of}
 use Rattle.zarrs_array_bytes.specs.Pieces.{fixed_of}
 use Rattle.zarrs_array_bytes.specs.Turned.{WholeComponents, turned_bytes}
 use Rattle.zarrs_array_bytes.specs.Validity.{Holds}
-use Rattle.zarrs_array_bytes.proofs.ValidLemmas.{raw_items}
 use Rattle.zarrs_array_to_array.specs.Mapping.{mapping_of}
 use Rattle.zarrs_array_to_array.specs.declared.array_to_array_codec.ArrayToArrayCodec.{ArrayToArrayCodec}
-use Rattle.zarrs_bytes.specs.BytesCodec.{bytes_chunk, turn_size}
+use Rattle.zarrs_bytes.specs.BytesCodec.{bytes_chunk}
 use Rattle.zarrs_codec.specs.MappedChunk.{decoded_chunk}
 use Rattle.zarrs_codec.specs.declared.bytes_representation.BytesRepresentation.{BytesRepresentation}
 use Rattle.zarrs_chain_meaning.specs.ArrayStages.{arrays_map}
@@ -21,7 +19,7 @@ use Rattle.zarrs_chain_meaning.specs.BytesStages.{outer_bytes}
 use Rattle.zarrs_chain_meaning.specs.CodecMeaning.{chain_chunk}
 use Rattle.zarrs_chain_meaning.proofs.ChainSteps.{refused_chunk, unopened}
 use Rattle.zarrs_chain.specs.ChainView.{plain_chain}
-use Rattle.zarrs_chain.proofs.FrontWrites.{bytes_read, bytes_takes, front_there, reads_or_memory, unread, value_long, whole_components}
+use Rattle.zarrs_chain.proofs.FrontWrites.{bytes_read, front_there, reads_or_memory, unread, whole_components}
 use Rattle.zarrs_chain.proofs.moved_into.bytes_decode_into.Goals as goal
 
 pub returns-in_err-taken : goal.returns-in_err-taken
