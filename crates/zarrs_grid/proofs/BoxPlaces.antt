@@ -19,23 +19,28 @@ module _ (sizes starts lengths : List ℕ) (within : is_box_inside sizes starts 
   axes = let e = is_box_inside-lengths sizes starts lengths within in e.0 ∙ sym e.1
 
   are : box_places sizes starts lengths ≡ map (λ k. row_major sizes (box_tuple starts lengths k)) (range_with_len 0 (product lengths))
-  are = ap (map (row_major sizes)) (box_tuples-numbered starts lengths axes) ∙ map-map (row_major sizes) (box_tuple starts lengths) (range_with_len 0 (product lengths))
+  are =
+      ap (map (row_major sizes)) (box_tuples-numbered starts lengths axes) ∙ map-map (row_major sizes) (box_tuple starts lengths) (range_with_len 0 (product lengths))
 
   pub box_count : length (box_places sizes starts lengths) ≡ product lengths
   box_count = ap (λ (xs : List ℕ). length xs) are ∙ length-map-range_with_len (λ k. row_major sizes (box_tuple starts lengths k)) 0 (product lengths)
 
   pub box_place_at : (k : ℕ) → k < product lengths → get_or (box_places sizes starts lengths) k 0 ≡ row_major sizes (box_tuple starts lengths k)
-  box_place_at k l = ap (λ (xs : List ℕ). get_or xs k 0) are ∙ get_or-map-range_with_len (λ k. row_major sizes (box_tuple starts lengths k)) 0 (product lengths) k k 0 l (omega arith)
+  box_place_at k l =
+      ap (λ (xs : List ℕ). get_or xs k 0) are ∙ get_or-map-range_with_len (λ k. row_major sizes (box_tuple starts lengths k)) 0 (product lengths) k k 0 l (omega arith)
 
   -- no two are the same
-  pub box_places_apart : (j k : ℕ) → k < j → j < product lengths → get_or (box_places sizes starts lengths) j 0 ≢ get_or (box_places sizes starts lengths) k 0
+  pub box_places_apart : (j k : ℕ) → k < j → j < product lengths
+      → get_or (box_places sizes starts lengths) j 0 ≢ get_or (box_places sizes starts lengths) k 0
   box_places_apart j k l h = λ e.
-      let rises = AllPairs-from_increasing (box_places sizes starts lengths) (Rises-increasing 0 (product sizes) (box_places sizes starts lengths) (Rises-box sizes starts lengths within)) in
+      let rises = AllPairs-from_increasing (box_places sizes starts lengths)
+      (Rises-increasing 0 (product sizes) (box_places sizes starts lengths) (Rises-box sizes starts lengths within)) in
       let below = rises k j 0 l (omega (arith, h, box_count)) in
       omega (arith, below, e)
 
 -- they are found without an error
-pub box_placed : (sizes : List ℕ) (box : Region) → is_box_inside sizes box.starts box.lengths ≡ true → product sizes < 2 ^ 64 → places_in_list (product sizes) sizes box ≡ Ok (box_places sizes box.starts box.lengths)
+pub box_placed : (sizes : List ℕ) (box : Region) → is_box_inside sizes box.starts box.lengths ≡ true → product sizes < 2 ^ 64
+    → places_in_list (product sizes) sizes box ≡ Ok (box_places sizes box.starts box.lengths)
 box_placed sizes box within small =
     let long = is_box_inside-lengths sizes box.starts box.lengths within in
     rw (lt_test (product sizes) (2 ^ 64) small, eq-eqb (product sizes) (product sizes) refl, eq-eqb (length box.starts) (length sizes) long.0, within) refl

@@ -23,13 +23,15 @@ pub record IsFound (sizes : List ℕ) (number : ℕ) (tuple : List ℕ) : Type 0
   pub inside : is_tuple_inside sizes tuple ≡ true
   pub is : tuple ≡ tuple_of_number sizes number
 
-pub found_tuple : {sizes tuple : List ℕ} {number : ℕ} {found : Option (List ℕ)} → IsTupleOfNumber sizes number found → found ≡ Some tuple → IsFound sizes number tuple
+pub found_tuple : {sizes tuple : List ℕ} {number : ℕ} {found : Option (List ℕ)} → IsTupleOfNumber sizes number found → found ≡ Some tuple
+    → IsFound sizes number tuple
 found_tuple {sizes} {tuple} {number} h e =
     let it = subst (IsTupleOfNumber sizes number) e h in
     record { inside = it.0; is = sym (tuple_of_number_is sizes tuple number it.0 it.1) }
 
 -- a tuple below the counts, moved to where its box begins, has no index past 64 bits
-pub moved_fits : (starts counts tuple : List ℕ) → length starts ≡ length counts → ((axis : ℕ) → axis < length starts → get_or starts axis 0 + get_or counts axis 0 < 2 ^ 64) → is_tuple_inside counts tuple ≡ true
+pub moved_fits : (starts counts tuple : List ℕ) → length starts ≡ length counts
+    → ((axis : ℕ) → axis < length starts → get_or starts axis 0 + get_or counts axis 0 < 2 ^ 64) → is_tuple_inside counts tuple ≡ true
     → (axis : ℕ) → axis < length tuple → get_or starts axis 0 + get_or tuple axis 0 < 2 ^ 64
 moved_fits starts counts tuple e fits inside = λ axis l.
     let long = is_tuple_inside-length counts tuple inside in
@@ -38,7 +40,8 @@ moved_fits starts counts tuple e fits inside = λ axis l.
     omega (arith, below, end)
 
 -- the tuple of a number is one of the box
-pub listed_at : (starts lengths tuple : List ℕ) (number : ℕ) → length starts ≡ length lengths → number < product lengths → tuple ≡ box_tuple starts lengths number → Contains (box_tuples starts lengths) tuple
+pub listed_at : (starts lengths tuple : List ℕ) (number : ℕ) → length starts ≡ length lengths → number < product lengths
+    → tuple ≡ box_tuple starts lengths number → Contains (box_tuples starts lengths) tuple
 listed_at starts lengths tuple number e below same = (
   number,
   omega (arith, below, length-box_tuples starts lengths e),
@@ -55,20 +58,25 @@ abbrev pub IsOwnPart : List ℕ → Region → ChunkPart → Type 0
 IsOwnPart shape region part = IsChunkPart shape region part.chunk.items part
 
 -- a part more
-pub chunks_more : (first counts : List ℕ) (parts : List ChunkPart) (part : ChunkPart) (number : ℕ) → map chunk_in parts ≡ map (box_tuple first counts) (range_with_len 0 number) → part.chunk.items ≡ box_tuple first counts number
+pub chunks_more : (first counts : List ℕ) (parts : List ChunkPart) (part : ChunkPart) (number : ℕ)
+    → map chunk_in parts ≡ map (box_tuple first counts) (range_with_len 0 number) → part.chunk.items ≡ box_tuple first counts number
     → map chunk_in (parts ++ part ∷ []) ≡ map (box_tuple first counts) (range_with_len 0 (number + 1))
 chunks_more first counts parts part number done here =
     map-append chunk_in parts (part ∷ []) ∙ ap₂ (λ xs x. xs ++ x ∷ []) done here ∙ sym (map-range_with_len_more (box_tuple first counts) 0 number number (omega arith))
 
-pub each_more : (shape : List ℕ) (region : Region) (parts : List ChunkPart) (part : ChunkPart) (numbers : List ℕ) → All (IsOwnPart shape region) parts → IsChunkPart shape region numbers part → All (IsOwnPart shape region) (parts ++ part ∷ [])
+pub each_more : (shape : List ℕ) (region : Region) (parts : List ChunkPart) (part : ChunkPart) (numbers : List ℕ)
+    → All (IsOwnPart shape region) parts → IsChunkPart shape region numbers part → All (IsOwnPart shape region) (parts ++ part ∷ [])
 each_more shape region parts part numbers done here =
     All-push (IsOwnPart shape region) parts part done (subst (λ (ns : List ℕ). IsChunkPart shape region ns part) (sym here.chunk) here)
 
 -- all parts
-pub all_parts : (shape : List ℕ) (region : Region) (first counts : List ℕ) (parts : List ChunkPart) (count : ℕ) → record { starts = first; lengths = counts } ≡ touched shape region → length first ≡ length counts → count ≡ product counts
-    → map chunk_in parts ≡ map (box_tuple first counts) (range_with_len 0 count) → All (IsOwnPart shape region) parts → AreRegionParts shape region parts
+pub all_parts : (shape : List ℕ) (region : Region) (first counts : List ℕ) (parts : List ChunkPart) (count : ℕ)
+    → record { starts = first; lengths = counts } ≡ touched shape region → length first ≡ length counts → count ≡ product counts
+    → map chunk_in parts ≡ map (box_tuple first counts) (range_with_len 0 count) → All (IsOwnPart shape region) parts
+    → AreRegionParts shape region parts
 all_parts shape region first counts parts count is e n done each = record {
-  chunks = done ∙ ap (λ k. map (box_tuple first counts) (range_with_len 0 k)) n ∙ sym (box_tuples-numbered first counts e) ∙ (λ i. box_tuples (is i).starts (is i).lengths);
+  chunks = done ∙ ap (λ k. map (box_tuple first counts) (range_with_len 0 k)) n ∙ sym (box_tuples-numbered first counts e)
+      ∙ (λ i. box_tuples (is i).starts (is i).lengths);
   each = each;
 }
 
@@ -77,7 +85,9 @@ has_zero : (test : Bool) (sizes : List ℕ) → (if test then None else Some siz
 has_zero true sizes e = refl
 has_zero false sizes e = absurd cc
 
-pub no_parts : (shape : List ℕ) (region chunks : Region) (counts : List ℕ) (parts : List ChunkPart) → chunks ≡ touched shape region → counts ≡ chunks.lengths → length chunks.starts ≡ length chunks.lengths → shape_of counts ≡ None → parts ≡ [] → AreRegionParts shape region parts
+pub no_parts : (shape : List ℕ) (region chunks : Region) (counts : List ℕ) (parts : List ChunkPart) → chunks ≡ touched shape region
+    → counts ≡ chunks.lengths → length chunks.starts ≡ length chunks.lengths → shape_of counts ≡ None → parts ≡ []
+    → AreRegionParts shape region parts
 no_parts shape region chunks counts parts is n e none p =
     let zero = has_zero (list_any (λ len. len == 0) chunks.lengths) chunks.lengths (ap shape_of (sym n) ∙ none) in
     record {

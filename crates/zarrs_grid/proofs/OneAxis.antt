@@ -19,7 +19,8 @@ pub quotient_le : (size a b : ℕ) → 0 < size → a ≤ b → a / size ≤ b /
 quotient_le size a b p l = le-div (a / size) b size p (let c = chunk_begins size a in omega (arith, c, l))
 
 -- the chunk of an index of the range is one of those that are touched
-pub quotient_touched : (size start len index : ℕ) → 0 < size → start ≤ index → index < start + len → index / size < start / size + touched_count size start len
+pub quotient_touched : (size start len index : ℕ) → 0 < size → start ≤ index → index < start + len
+    → index / size < start / size + touched_count size start len
 quotient_touched size start zero index p l h = absurd (omega (arith, l, h))
 quotient_touched size start (suc more) index p l h =
     let low = quotient_le size start (start + more) p (omega arith) in
@@ -27,7 +28,8 @@ quotient_touched size start (suc more) index p l h =
     omega (arith, low, high)
 
 -- a chunk that is touched begins before the range's end
-pub begins_before : (size start len number : ℕ) → 0 < size → number < start / size + touched_count size start len → start / size ≤ number → number * size < start + len
+pub begins_before : (size start len number : ℕ) → 0 < size → number < start / size + touched_count size start len → start / size ≤ number
+    → number * size < start + len
 begins_before size start zero number p h l = absurd (omega (arith, h, l))
 begins_before size start (suc more) number p h l =
     let some = quotient_le size start (start + more) p (omega arith) in

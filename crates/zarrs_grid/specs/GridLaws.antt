@@ -15,7 +15,7 @@ abbrev pub TouchedHaveElements : Type 0
 TouchedHaveElements =
     (shape : List ℕ) (region : Region) (numbers : List ℕ) → FitsGrid shape region
     → Contains (touched_chunks shape region) numbers
-        ↔ ((tuple : List ℕ) × Contains (box_tuples region.starts region.lengths) tuple × (quotients shape tuple ≡ numbers))
+    ↔ ((tuple : List ℕ) × Contains (box_tuples region.starts region.lengths) tuple × (quotients shape tuple ≡ numbers))
 
 -- The box lies inside a shape.
 abbrev pub IsInside : List ℕ → Region → Type 0

@@ -25,7 +25,7 @@ PartIsJoined A =
     → FitsGrid shape region → Contains (touched_chunks shape region) numbers
     → HasChunks element shape region chunks answer
     → HasChunks element shape region (numbers ∷ chunks)
-        (update answer (places_in_region shape region numbers) (elements_of_part element shape region numbers))
+    (update answer (places_in_region shape region numbers) (elements_of_part element shape region numbers))
 
 -- With those of all chunks that the region touches, in whatever order they came, the answer is the region's elements in order.
 abbrev pub AllPartsAreJoined : Type 0 → Type 0

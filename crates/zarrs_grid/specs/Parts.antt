@@ -14,7 +14,7 @@ part_to size number start len = min (start + len) (number * size + size)
 
 -- The chunk of these indices and the region have an index in common along each axis, and 64 bits hold where the region ends.
 pub record MeetByAxis (shape numbers starts lengths : List ℕ) : Type 0 where
-  pub numbers_axes : length numbers ≡ length shape
+  pub axes : length numbers ≡ length shape
   pub starts_axes : length starts ≡ length shape
   pub lengths_axes : length lengths ≡ length shape
   pub ends : (axis : ℕ) → axis < length shape → slice_index starts axis + slice_index lengths axis < 2 ^ 64

@@ -1,11 +1,11 @@
 -- The chunks of a grid that a region of the array touches: a box of chunk indices.
 -- Source: the Zarr v3 core specification, "Regular grids"; zarrs, `ChunkGridTraits::chunks_in_array_subset`.
-use Rattle.std.specs.Prelude.{◌≡◌, ℕ, zero, suc, ◌<◌, ◌+◌, ◌-◌, ◌/◌, ◌==◌, List, [], ◌∷◌, length, All, Result, Ok}
+use Rattle.std.specs.Prelude.{◌≡◌, ℕ, zero, suc, ◌<◌, ◌+◌, ◌-◌, ◌/◌, ◌==◌, ◌&&◌, nat_le, nat_lt, Bool, true, false, List, [], ◌∷◌, length, All, Result, Ok}
 use Rattle.zarrs_chunk.specs.Answer.{◌>>=◌, demand}
 use Rattle.zarrs_chunk.specs.Region.{Region}
 use Rattle.zarrs_chunk.specs.Tuples.{box_tuples}
 use Rattle.zarrs_chunk.specs.declared.codec_error.CodecError.{CodecError}
-use Rattle.zarrs_chunk.specs.declared.codec_error.CodecError.TheVariants.{IncompatibleDimensionality}
+use Rattle.zarrs_chunk.specs.declared.codec_error.CodecError.TheVariants.{IncompatibleDimensionality, OutOfBounds}
 use Rattle.zarrs_grid.specs.ChunkTuples.{quotients}
 
 -- The shape of a grid's chunks, and a region of as many axes. No size of a chunk is zero.
@@ -40,3 +40,16 @@ abbrev pub checked_touched : List ℕ → Region → Result Region CodecError
 checked_touched shape region = do
   _ ← demand (length region.starts == length shape) IncompatibleDimensionality
   Ok (touched shape region)
+
+-- the box has the tuple: there is one number an axis, and each is in the range of its axis
+abbrev pub is_in_box : List ℕ → List ℕ → List ℕ → Bool
+is_in_box [] [] [] = true
+is_in_box (start ∷ starts) (len ∷ lengths) (index ∷ tuple) =
+    (nat_le start index && nat_lt index (start + len)) && is_in_box starts lengths tuple
+is_in_box _ _ _ = false
+
+-- a region touches the chunk of these indices, or the first error: it has a range for each axis of the chunks, and their box has the indices
+abbrev pub checked_chunk : List ℕ → Region → List ℕ → Result (Unit {0}) CodecError
+checked_chunk shape region numbers = do
+  chunks ← checked_touched shape region
+  demand (is_in_box chunks.starts chunks.lengths numbers) OutOfBounds

@@ -1,11 +1,13 @@
 //! The part of a region that lies in one chunk.
 ghost use Rattle.std.specs.Prelude.{◌≡◌, ◌<◌, ◌+◌, ◌-◌, ◌*◌, ◌^◌, ℕ, length, IfOk, Contains, slice_index};
-ghost use Rattle.zarrs_grid.specs.Touched.{touched_chunks};
+ghost use Rattle.zarrs_chunk.specs.Answer.{GivesBy};
+ghost use Rattle.zarrs_grid.specs.Touched.{touched_chunks, is_in_box as in_box, checked_chunk};
 ghost use Rattle.zarrs_grid.specs.Parts.{part_from, part_to, starts_in_chunk, starts_in_region, part_lengths, MeetByAxis, IsChunkPart};
 
+use crate::chunk_grid::chunks_in_array_subset;
 use crate::known_box::known_box;
 use std::alloc::{AllocError, Global};
-use zarrs_chunk::{ArrayIndices, ArraySubset, ChunkShape};
+use zarrs_chunk::{ArrayIndices, ArraySubset, ChunkShape, CodecError};
 
 /// The part of a region that lies in one chunk of a grid: the same elements, in the same order, as a box
 /// of the chunk and as a box of the region.
@@ -107,11 +109,8 @@ fn part_shape(
     Ok(found)
 }
 
-/// The part of a region in a chunk that it touches. `shape` is that of a chunk, in elements, and `chunk`
-/// the chunk's indices, as [`chunks_in_array_subset`](crate::chunks_in_array_subset) has them.
-///
-/// Errors: `AllocError`.
-pub fn part_in_chunk(
+/// The part of a region in a chunk that it touches.
+pub(crate) fn known_part(
     alloc: Global,
     shape: &ChunkShape,
     region: &ArraySubset,
@@ -136,4 +135,45 @@ pub fn part_in_chunk(
         in_chunk,
         in_region,
     })
+}
+
+/// Whether a tuple lies in a box.
+fn is_in_box(starts: &[u64], lengths: &[u64], tuple: &[u64]) -> bool
+    requires lengths { length starts.now ≡ length lengths.now }
+    ensures value { result ≡ in_box starts.now lengths.now tuple.now }
+{
+    if tuple.len() != starts.len() {
+        return false;
+    }
+    for axis in 0..starts.len() {
+        let start = starts[axis];
+        let index = tuple[axis];
+        if index < start || index - start >= lengths[axis] {
+            return false;
+        }
+    }
+    true
+}
+
+/// The part of a region in one chunk of a grid. `shape` is that of a chunk, in elements, and `chunk` the
+/// chunk's indices, one of those that [`chunks_in_array_subset`] has.
+///
+/// Errors, the first that holds: `IncompatibleDimensionality` where the region has more or fewer axes
+/// than a chunk; `OutOfBounds` where it doesn't touch the chunk, or where there isn't one index an axis;
+/// `OutOfMemory`.
+pub fn part_in_chunk(
+    alloc: Global,
+    shape: &ChunkShape,
+    region: &ArraySubset,
+    chunk: ArrayIndices,
+) -> Result<ChunkPart, CodecError>
+    ensures part { GivesBy (λ it _. IsChunkPart shape.now region.now chunk.items it) result
+        (checked_chunk shape.now region.now chunk.items) }
+{
+    let chunks = chunks_in_array_subset(alloc, shape, region)?;
+    if !is_in_box(chunks.start(), chunks.shape(), chunk.as_slice()) {
+        return Err(CodecError::OutOfBounds);
+    }
+    let part = known_part(alloc, shape, region, chunk)?;
+    Ok(part)
 }

@@ -7,7 +7,7 @@ ghost use Rattle.zarrs_grid.specs.RegionParts.{AreRegionParts, checked_count};
 ghost use Rattle.zarrs_grid.specs.Touched.{FitsGrid, touched};
 
 use crate::chunk_grid::chunks_in_array_subset;
-use crate::chunk_part::{ChunkPart, part_in_chunk};
+use crate::chunk_part::{ChunkPart, known_part};
 use std::alloc::{AllocError, Global};
 use zarrs_chunk::{ArrayIndices, ArraySubset, ChunkShape, CodecError, unravel_index};
 
@@ -66,7 +66,7 @@ fn parts_of(
     let mut parts = Vec::with_capacity(alloc, count as usize)?;
     for number in 0..count {
         let chunk = tuple_at(alloc, first, counts, number)?;
-        let part = part_in_chunk(alloc, shape, region, chunk)?;
+        let part = known_part(alloc, shape, region, chunk)?;
         parts.push(part)?;
     }
     Ok(parts)

@@ -5,9 +5,10 @@ use crate::checks::{are, is, shape};
 use std::alloc::Global;
 use std::ops::Range;
 use std::process::Abort;
-use zarrs_chunk::{ArraySubset, CodecError};
+use zarrs_chunk::{ArraySubset, ChunkShape, CodecError};
 use zarrs_grid::{
-    ChunkPart, chunks_in_array_subset, gather_elements, plan_region, scatter_elements,
+    ChunkPart, chunks_in_array_subset, gather_elements, part_in_chunk, plan_region,
+    scatter_elements,
 };
 
 /// A part of a region: its chunk, where it begins in the chunk and in the region, how long it is, and its
@@ -22,14 +23,18 @@ struct Part {
 
 /// The shape of the chunks, and of an array of two by two of them, whose elements are numbered.
 const CHUNK: &'static [u64] = &[2, 3];
+
 const ARRAY: &'static [u64] = &[4, 6];
+
 const NUMBERS: &'static [u16] = &[
     0, 1, 2, 3, 4, 5, 6, 7, 8, 9, 10, 11, 12, 13, 14, 15, 16, 17, 18, 19, 20, 21, 22, 23,
 ];
 
 /// A region of it, its shape, and its elements.
 const REGION: &'static [Range<u64>] = &[1..4, 2..5];
+
 const LENGTHS: &'static [u64] = &[3, 3];
+
 const ELEMENTS: &'static [u16] = &[8, 9, 10, 14, 15, 16, 20, 21, 22];
 
 /// Its parts, in the order of the chunks.
@@ -80,8 +85,20 @@ fn is_box(rt: &impl Abort, name: &str, came: &ArraySubset, starts: &[u64], lengt
 
 fn is_part(rt: &impl Abort, came: &ChunkPart, wanted: &Part) {
     are(rt, "chunk", came.chunk.as_slice(), wanted.chunk);
-    is_box(rt, "in the chunk", &came.in_chunk, wanted.in_chunk, wanted.lengths);
-    is_box(rt, "in the region", &came.in_region, wanted.in_region, wanted.lengths);
+    is_box(
+        rt,
+        "in the chunk",
+        &came.in_chunk,
+        wanted.in_chunk,
+        wanted.lengths,
+    );
+    is_box(
+        rt,
+        "in the region",
+        &came.in_region,
+        wanted.in_region,
+        wanted.lengths,
+    );
 }
 
 fn are_parts(rt: &impl Abort, came: &[ChunkPart], wanted: &[Part]) {
@@ -89,6 +106,20 @@ fn are_parts(rt: &impl Abort, came: &[ChunkPart], wanted: &[Part]) {
     for (came, wanted) in came.iter().zip(wanted.iter()) {
         is_part(rt, came, wanted);
     }
+}
+
+/// The part in each chunk by itself.
+fn are_made(
+    rt: &impl Abort,
+    alloc: Global,
+    chunk: &ChunkShape,
+    region: &ArraySubset,
+) -> Result<(), CodecError> {
+    for wanted in PARTS.iter() {
+        let part = part_in_chunk(alloc, chunk, region, wanted.chunk.to_vec(alloc)?)?;
+        is_part(rt, &part, wanted);
+    }
+    Ok(())
 }
 
 /// Each part's elements are taken out of the region's.
@@ -130,6 +161,13 @@ fn parts_of_a_region(rt: HostRuntime) -> Result<(), CodecError> {
     let parts = planned(rt.alloc())?;
     are_parts(&rt, parts.as_slice(), PARTS);
     Ok(())
+}
+
+#[test]
+fn part_in_each_chunk(rt: HostRuntime) -> Result<(), CodecError> {
+    let chunk = shape(rt.alloc(), CHUNK)?;
+    let region = ArraySubset::new_with_ranges(rt.alloc(), REGION)?;
+    are_made(&rt, rt.alloc(), &chunk, &region)
 }
 
 /// The example of the Zarr v3 core specification, "Regular grids".

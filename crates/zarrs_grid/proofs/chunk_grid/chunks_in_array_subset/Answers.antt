@@ -9,8 +9,11 @@ known_box-requires c =
     let lengths = c.shape-lengths.result.now in
     let long : length starts ≡ length shape = omega arith in
     let as_long : length lengths ≡ length shape =
-    ap (λ (xs : List ℕ). length xs) c.shape-lengths.ensures.value ∙ sym c.shape-lengths.ensures.axes ∙ ap (λ (xs : List ℕ). length xs) (sym c.start-starts.ensures.value) ∙ long in
-    let ends : (axis : ℕ) → axis < length starts → get_or starts axis 0 + get_or lengths axis 0 < 2 ^ 64 = rw (c.start-starts.ensures.value, c.shape-lengths.ensures.value) c.shape-lengths.ensures.ends in
+    ap (λ (xs : List ℕ). length xs) c.shape-lengths.ensures.value ∙ sym c.shape-lengths.ensures.axes
+    ∙ ap (λ (xs : List ℕ). length xs) (sym c.start-starts.ensures.value) ∙ long in
+    let ends : (axis : ℕ) → axis < length starts → get_or starts axis 0 + get_or lengths axis 0 < 2 ^ 64 =
+    rw (c.start-starts.ensures.value, c.shape-lengths.ensures.value) c.shape-lengths.ensures.ends in
     record {
-      ends = rw ((c.in_ok-first.ensures {u = tt}).value, (c.in_ok-counts.ensures {u = tt}).value) (touched_region shape starts lengths c.as_slice-sizes.ensures.positive long as_long ends);
+      ends = rw ((c.in_ok-first.ensures {u = tt}).value, (c.in_ok-counts.ensures {u = tt}).value)
+          (touched_region shape starts lengths c.as_slice-sizes.ensures.positive long as_long ends);
     }

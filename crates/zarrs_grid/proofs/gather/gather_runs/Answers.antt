@@ -10,5 +10,8 @@ loop-run-preserved g c =
     let found = c.loop-run.found.items in
     let run = get_or runs i (0, 0) in
     let count : run.0 + run.1 - run.0 ≡ run.1 = omega arith in
-    λ default. (c.in_ok-extend_from_slice.ensures {u = tt}).items ∙ ap (λ n. found ++ take n (drop run.0 whole)) count
-    ∙ run_read whole found runs i default c.loop-run-test.true c.requires.inside (c.loop-run.invariant default)
+    let pushed =
+    ◌∙◌ {b = found ++ take (run.0 + run.1 - run.0) (drop run.0 whole)} (c.in_ok-extend_from_slice.ensures {u = tt}).items
+    (ap (λ n. found ++ take n (drop run.0 whole)) count) in
+    λ default. ◌∙◌ {b = found ++ take run.1 (drop run.0 whole)} pushed
+    (run_read whole found runs i default c.loop-run-test.true c.requires.inside (c.loop-run.invariant default))

@@ -6,8 +6,8 @@ use Rattle.zarrs_chunk.specs.Tuples.{box_tuples}
 use Rattle.zarrs_grid.proofs.NumberedChunks.{listed_at, chunk_in, IsOwnPart, chunks_more, each_more, all_parts}
 use Rattle.zarrs_grid.proofs.region_parts.parts_of.Goals as goal
 
-pub part_in_chunk-requires-clause-known : goal.part_in_chunk-requires-clause-known
-part_in_chunk-requires-clause-known c =
+pub known_part-requires-clause-known : goal.known_part-requires-clause-known
+known_part-requires-clause-known c =
     let first = c.args.first.now in
     let counts = c.args.counts.now in
     let chunk = c.in_ok-chunk.chunk.items in
@@ -24,7 +24,8 @@ loop-number-preserved c =
     let pushed = (c.in_ok-push.ensures {u = tt}).items in
     let is = (c.in_ok-part.ensures {u = tt}).part in
     record {
-      chunks = ap (map chunk_in) pushed ∙ chunks_more c.args.first.now c.args.counts.now parts c.in_ok-part.part c.loop-number.number c.loop-number.invariant.chunks (is.chunk ∙ (c.in_ok-chunk.ensures {u = tt}).value.is);
+      chunks = ap (map chunk_in) pushed ∙ chunks_more c.args.first.now c.args.counts.now parts c.in_ok-part.part c.loop-number.number
+          c.loop-number.invariant.chunks (is.chunk ∙ (c.in_ok-chunk.ensures {u = tt}).value.is);
       each = subst (All (IsOwnPart shape region)) (sym pushed) (each_more shape region parts c.in_ok-part.part c.in_ok-chunk.chunk.items c.loop-number.invariant.each is);
     }
 
@@ -35,7 +36,8 @@ returns c =
     let last : c.loop-number.number ≡ c.args.count = omega arith in
     record {
       parts = record {
-        is = all_parts c.args.shape.now c.args.region.now first counts c.loop-number.parts.items c.args.count c.requires.chunks c.requires.lengths c.requires.count
+        is =
+            all_parts c.args.shape.now c.args.region.now first counts c.loop-number.parts.items c.args.count c.requires.chunks c.requires.lengths c.requires.count
             (c.loop-number.invariant.chunks ∙ ap (λ k. map (box_tuple first counts) (range_with_len 0 k)) last) c.loop-number.invariant.each;
         no_fault = refl;
       };

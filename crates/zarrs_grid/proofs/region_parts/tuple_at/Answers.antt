@@ -18,4 +18,10 @@ moved_by-requires-clause-fits c =
 pub returns : goal.returns
 returns c =
     let found = found_tuple (c.in_ok-tuple.ensures {u = tt}).answer (ap (option_map (λ t. t.items)) c.in-Some.is) in
-    record { value = record { is = (c.in_ok-moved.ensures {u = tt}).moved ∙ ap (indices_behind c.args.starts.now) (c.as_slice.ensures.value ∙ found.is); no_fault = refl } }
+    record {
+      value = record {
+        is = (c.in_ok-moved.ensures {u = tt}).moved
+            ∙ ap (indices_behind c.args.starts.now) (c.as_slice.ensures.value ∙ found.is);
+        no_fault = refl;
+      };
+    }

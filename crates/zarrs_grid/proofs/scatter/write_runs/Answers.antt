@@ -25,8 +25,8 @@ loop-run-preserved g c =
     let count : done + run.1 - done ≡ run.1 = omega arith in
     let enough : run.1 ≤ length (drop done new) = omega (arith, left, c.loop-run.invariant.left, length-drop done new) in
     let wrote = c.copy_to.ensures.written
-        ∙ ap (λ n. update whole (range_with_len run.0 (length (take n (drop done new)))) (take n (drop done new))) count
-        ∙ ap (λ n. update whole (range_with_len run.0 n) (take run.1 (drop done new))) (length-take-le run.1 (drop done new) enough) in
+    ∙ ap (λ n. update whole (range_with_len run.0 (length (take n (drop done new)))) (take n (drop done new))) count
+    ∙ ap (λ n. update whole (range_with_len run.0 n) (take run.1 (drop done new))) (length-take-le run.1 (drop done new) enough) in
     record {
       left = omega (arith, left, c.loop-run.invariant.left);
       told = ap (λ xs. update xs (joined_runs (drop (i + 1) runs)) (drop (done + run.1) new)) wrote
