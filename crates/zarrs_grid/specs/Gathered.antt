@@ -11,15 +11,15 @@ use Rattle.zarrs_chunk.specs.declared.codec_error.CodecError.{CodecError}
 use Rattle.zarrs_chunk.specs.declared.codec_error.CodecError.TheVariants.{InvalidBytesLength, DataMismatch}
 
 -- a list has as many elements as a shape, or the first error: 64 bits count the shape's, and there are so many
-abbrev pub checked_count_of : ℕ → List ℕ → Result (Unit {0}) CodecError
-checked_count_of count sizes = do
+abbrev pub checked_len : ℕ → List ℕ → Result (Unit {0}) CodecError
+checked_len count sizes = do
   expected ← checked_u64 (product sizes)
   demand (count == expected) (InvalidBytesLength count expected)
 
 -- the places of a box in a list of so many elements of a shape, or the first error: the list has as many as the shape, and the box lies inside
 abbrev pub places_in_list : ℕ → List ℕ → Region → Result (List ℕ) CodecError
 places_in_list count sizes box = do
-  _ ← checked_count_of count sizes
+  _ ← checked_len count sizes
   places_of (subset box) sizes
 
 -- the items at these places, in their order; the default stands where there is none

@@ -14,5 +14,5 @@ pub record AreRegionParts (shape : List ℕ) (region : Region) (parts : List Chu
   pub each : All (λ part. IsChunkPart shape region part.chunk.items part) parts
 
 -- how many chunks the region touches, or the first error: it has a range for each axis of the chunks, and 64 bits count them
-abbrev pub checked_count : List ℕ → Region → Result ℕ CodecError
-checked_count shape region = checked_touched shape region >>= λ chunks. checked_u64 (product chunks.lengths)
+abbrev pub checked_chunk_count : List ℕ → Region → Result ℕ CodecError
+checked_chunk_count shape region = checked_touched shape region >>= λ chunks. checked_u64 (product chunks.lengths)

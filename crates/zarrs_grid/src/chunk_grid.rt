@@ -11,7 +11,7 @@ use zarrs_chunk::{ArraySubset, ChunkShape, CodecError};
 /// How many chunks of one size a range of an axis touches.
 fn count_touched(size: u64, start: u64, len: u64) -> u64
     requires positive { 0 < size }
-    requires end { start + len < 2 ^ 64 }
+    requires ends { start + len < 2 ^ 64 }
     ensures value { result ≡ touched_count size start len }
 {
     if len == 0 {

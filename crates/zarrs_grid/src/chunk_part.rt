@@ -40,7 +40,7 @@ fn start_in_range(size: u64, number: u64, start: u64) -> u64
 
 /// How long it is: up to the end of the range or of the chunk, whichever comes first.
 fn part_len(size: u64, number: u64, start: u64, len: u64) -> u64
-    requires end { start + len < 2 ^ 64 }
+    requires ends { start + len < 2 ^ 64 }
     requires begins { number * size < start + len }
     requires reaches { start < number * size + size }
     ensures value { result ≡ part_to size number start len - part_from size number start }
@@ -118,7 +118,7 @@ pub(crate) fn known_part(
 ) -> Result<ChunkPart, AllocError>
     requires axes { length region.now.starts ≡ length shape.now }
     requires known { Contains (touched_chunks shape.now region.now) chunk.items }
-    ensures part { IfOk result (IsChunkPart shape.now region.now chunk.items) }
+    ensures value { IfOk result (IsChunkPart shape.now region.now chunk.items) }
 {
     let sizes = shape.as_slice();
     let starts = region.start();
@@ -167,7 +167,7 @@ pub fn part_in_chunk(
     region: &ArraySubset,
     chunk: ArrayIndices,
 ) -> Result<ChunkPart, CodecError>
-    ensures part { GivesBy (λ it _. IsChunkPart shape.now region.now chunk.items it) result
+    ensures answer { GivesBy (λ it _. IsChunkPart shape.now region.now chunk.items it) result
         (checked_chunk shape.now region.now chunk.items) }
 {
     let chunks = chunks_in_array_subset(alloc, shape, region)?;

@@ -2,14 +2,14 @@
 ghost use Rattle.std.specs.Prelude.{◌≡◌, length, OnOk};
 ghost use Rattle.zarrs_chunk.specs.ChunkShape.{product};
 ghost use Rattle.zarrs_chunk.specs.Runs.{EndWithin};
-ghost use Rattle.zarrs_grid.specs.Gathered.{checked_count_of, GathersRuns, Gathers};
+ghost use Rattle.zarrs_grid.specs.Gathered.{checked_len, GathersRuns, Gathers};
 
 use std::alloc::{AllocError, Global};
 use zarrs_chunk::{ArraySubset, ChunkShape, CodecError, count_places, subset_runs};
 
 /// Whether a list has as many elements as the shape.
-pub(crate) fn check_count(count: usize, shape: &ChunkShape) -> Result<(), CodecError>
-    ensures answer { result ≡ checked_count_of count shape.now }
+pub(crate) fn check_len(count: usize, shape: &ChunkShape) -> Result<(), CodecError>
+    ensures answer { result ≡ checked_len count shape.now }
     ensures count { OnOk result (count ≡ product shape.now) }
 {
     let expected = shape.num_elements()?;
@@ -29,7 +29,7 @@ fn gather_runs<T: Copy>(
     runs: &[(u64, u64)],
 ) -> Result<Vec<T>, AllocError>
     requires inside { EndWithin (length whole.now) runs.now }
-    ensures items { GathersRuns whole.now runs.now result }
+    ensures value { GathersRuns whole.now runs.now result }
 {
     let mut found = Vec::with_capacity(alloc, count_places(runs) as usize)?;
     for run in runs {
@@ -55,9 +55,9 @@ pub fn gather_elements<T: Copy>(
     shape: &ChunkShape,
     subset: &ArraySubset,
 ) -> Result<Vec<T>, CodecError>
-    ensures elements { Gathers whole.now shape.now subset.now result }
+    ensures answer { Gathers whole.now shape.now subset.now result }
 {
-    check_count(whole.len(), shape)?;
+    check_len(whole.len(), shape)?;
     let runs = subset_runs(alloc, shape, subset)?;
     let elements = gather_runs(alloc, whole, runs.as_slice())?;
     Ok(elements)

@@ -3,7 +3,7 @@ ghost use Rattle.std.specs.Prelude.{◌≡◌, ◌<◌, ◌+◌, ◌^◌, ℕ, l
 ghost use Rattle.zarrs_chunk.specs.Answer.{GivesBy, no_refusal};
 ghost use Rattle.zarrs_chunk.specs.ChunkShape.{product};
 ghost use Rattle.zarrs_chunk.specs.Indices.{indices_behind, box_tuple};
-ghost use Rattle.zarrs_grid.specs.RegionParts.{AreRegionParts, checked_count};
+ghost use Rattle.zarrs_grid.specs.RegionParts.{AreRegionParts, checked_chunk_count};
 ghost use Rattle.zarrs_grid.specs.Touched.{FitsGrid, touched};
 
 use crate::chunk_grid::chunks_in_array_subset;
@@ -16,7 +16,7 @@ fn moved_by(alloc: Global, tuple: &[u64], starts: &[u64]) -> Result<ArrayIndices
     requires axes { length starts.now ≡ length tuple.now }
     requires fits { (axis : ℕ) → axis < length tuple.now
         → slice_index starts.now axis + slice_index tuple.now axis < 2 ^ 64 }
-    ensures moved { IfOk result (λ v. v.items ≡ indices_behind starts.now tuple.now) }
+    ensures value { IfOk result (λ v. v.items ≡ indices_behind starts.now tuple.now) }
 {
     let mut moved = Vec::with_capacity(alloc, tuple.len())?;
     for axis in 0..tuple.len() {
@@ -55,12 +55,12 @@ fn parts_of(
     count: u64,
 ) -> Result<Vec<ChunkPart>, CodecError>
     requires axes { length region.now.starts ≡ length shape.now }
-    requires chunks { record { starts = first.now; lengths = counts.now } ≡ touched shape.now region.now }
+    requires grid { record { starts = first.now; lengths = counts.now } ≡ touched shape.now region.now }
     requires lengths { length first.now ≡ length counts.now }
     requires fits { (axis : ℕ) → axis < length first.now
         → slice_index first.now axis + slice_index counts.now axis < 2 ^ 64 }
     requires count { count ≡ product counts.now }
-    ensures parts { GivesBy (λ parts _. AreRegionParts shape.now region.now parts.items)
+    ensures answer { GivesBy (λ parts _. AreRegionParts shape.now region.now parts.items)
         result no_refusal }
 {
     let mut parts = Vec::with_capacity(alloc, count as usize)?;
@@ -81,9 +81,9 @@ fn parts_among(
     count: u64,
 ) -> Result<Vec<ChunkPart>, CodecError>
     requires axes { length region.now.starts ≡ length shape.now }
-    requires chunks { chunks.now ≡ touched shape.now region.now }
+    requires grid { chunks.now ≡ touched shape.now region.now }
     requires count { count ≡ product chunks.now.lengths }
-    ensures parts { GivesBy (λ parts _. AreRegionParts shape.now region.now parts.items)
+    ensures answer { GivesBy (λ parts _. AreRegionParts shape.now region.now parts.items)
         result no_refusal }
 {
     let counts = Vec::from_slice(alloc, chunks.shape())?;
@@ -105,8 +105,8 @@ pub fn plan_region(
     shape: &ChunkShape,
     region: &ArraySubset,
 ) -> Result<Vec<ChunkPart>, CodecError>
-    ensures parts { GivesBy (λ parts _. AreRegionParts shape.now region.now parts.items)
-        result (checked_count shape.now region.now) }
+    ensures answer { GivesBy (λ parts _. AreRegionParts shape.now region.now parts.items)
+        result (checked_chunk_count shape.now region.now) }
     ensures axes { IfOk result (λ _. FitsGrid shape.now region.now) }
 {
     let chunks = chunks_in_array_subset(alloc, shape, region)?;

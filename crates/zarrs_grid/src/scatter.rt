@@ -6,7 +6,7 @@ ghost use Rattle.zarrs_chunk.specs.Answer.{Gives};
 ghost use Rattle.zarrs_chunk.specs.Runs.{EndWithin, joined_runs};
 ghost use Rattle.zarrs_grid.specs.Gathered.{with_box};
 
-use crate::gather::check_count;
+use crate::gather::check_len;
 use std::alloc::Global;
 use zarrs_chunk::{ArraySubset, ChunkShape, CodecError, count_places, subset_runs};
 
@@ -53,7 +53,7 @@ pub fn scatter_elements<T: Copy>(
         (with_box whole.old shape.now subset.now elements.now) }
     ensures kept { OnErr result (whole.new ≡ whole.old) }
 {
-    check_count(whole.len(), shape)?;
+    check_len(whole.len(), shape)?;
     let runs = subset_runs(alloc, shape, subset)?;
     if elements.len() as u64 != count_places(runs.as_slice()) {
         return Err(CodecError::DataMismatch);

@@ -61,7 +61,7 @@ returns c =
     let chunk_start = (c.in_ok-chunk_start.ensures {u = tt}).value ∙ (λ i. starts_in_chunk (sizes i) (c.as_slice-numbers.ensures.value i) (starts i)) in
     let region_start = (c.in_ok-region_start.ensures {u = tt}).value ∙ (λ i. starts_in_region (sizes i) (c.as_slice-numbers.ensures.value i) (starts i)) in
     record {
-      part = record {
+      value = record {
         chunk = refl;
         in_chunk = c.known_box-in_chunk.ensures.made ∙ (λ i. record { starts = chunk_start i; lengths = same i });
         in_region = c.known_box-in_region.ensures.made ∙ (λ i. record { starts = region_start i; lengths = lens i });

@@ -11,7 +11,7 @@ known_part-requires-clause-known c =
     let first = c.args.first.now in
     let counts = c.args.counts.now in
     let chunk = c.in_ok-chunk.chunk.items in
-    let is = c.requires.chunks in
+    let is = c.requires.grid in
     let below : c.loop-number.number < product counts = omega arith in
     subst (λ (ts : List (List ℕ)). Contains ts chunk) (λ i. box_tuples (is i).starts (is i).lengths)
     (listed_at first counts chunk c.loop-number.number c.requires.lengths below (c.in_ok-chunk.ensures {u = tt}).value.is)
@@ -22,7 +22,7 @@ loop-number-preserved c =
     let region = c.args.region.now in
     let parts = c.loop-number.parts.items in
     let pushed = (c.in_ok-push.ensures {u = tt}).items in
-    let is = (c.in_ok-part.ensures {u = tt}).part in
+    let is = (c.in_ok-part.ensures {u = tt}).value in
     record {
       chunks = ap (map chunk_in) pushed ∙ chunks_more c.args.first.now c.args.counts.now parts c.in_ok-part.part c.loop-number.number
           c.loop-number.invariant.chunks (is.chunk ∙ (c.in_ok-chunk.ensures {u = tt}).value.is);
@@ -35,9 +35,9 @@ returns c =
     let counts = c.args.counts.now in
     let last : c.loop-number.number ≡ c.args.count = omega arith in
     record {
-      parts = record {
+      answer = record {
         is =
-            all_parts c.args.shape.now c.args.region.now first counts c.loop-number.parts.items c.args.count c.requires.chunks c.requires.lengths c.requires.count
+            all_parts c.args.shape.now c.args.region.now first counts c.loop-number.parts.items c.args.count c.requires.grid c.requires.lengths c.requires.count
             (c.loop-number.invariant.chunks ∙ ap (λ k. map (box_tuple first counts) (range_with_len 0 k)) last) c.loop-number.invariant.each;
         no_fault = refl;
       };

@@ -20,7 +20,7 @@ returns c =
     let found = found_tuple (c.in_ok-tuple.ensures {u = tt}).answer (ap (option_map (λ t. t.items)) c.in-Some.is) in
     record {
       value = record {
-        is = (c.in_ok-moved.ensures {u = tt}).moved
+        is = (c.in_ok-moved.ensures {u = tt}).value
             ∙ ap (indices_behind c.args.starts.now) (c.as_slice.ensures.value ∙ found.is);
         no_fault = refl;
       };

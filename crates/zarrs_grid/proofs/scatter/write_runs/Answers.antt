@@ -24,9 +24,10 @@ loop-run-preserved g c =
     let left = left_of_runs 1 runs i c.loop-run-test.true in
     let count : done + run.1 - done ≡ run.1 = omega arith in
     let enough : run.1 ≤ length (drop done new) = omega (arith, left, c.loop-run.invariant.left, length-drop done new) in
-    let wrote = c.copy_to.ensures.written
-    ∙ ap (λ n. update whole (range_with_len run.0 (length (take n (drop done new)))) (take n (drop done new))) count
-    ∙ ap (λ n. update whole (range_with_len run.0 n) (take run.1 (drop done new))) (length-take-le run.1 (drop done new) enough) in
+    let given = ap (λ n. update whole (range_with_len run.0 (length (take n (drop done new)))) (take n (drop done new))) count in
+    let wrote =
+    ◌∙◌ {b = update whole (range_with_len run.0 (length (take run.1 (drop done new)))) (take run.1 (drop done new))} (c.copy_to.ensures.written ∙ given)
+    (ap (λ n. update whole (range_with_len run.0 n) (take run.1 (drop done new))) (length-take-le run.1 (drop done new) enough)) in
     record {
       left = omega (arith, left, c.loop-run.invariant.left);
       told = ap (λ xs. update xs (joined_runs (drop (i + 1) runs)) (drop (done + run.1) new)) wrote
