@@ -1,5 +1,5 @@
 //! Tests of what the array-to-bytes codecs are built on, over its public calls: shapes, types,
-//! metadata and containers (`base`), and the array-to-array codecs. Without tests the crate is
+//! metadata, containers and grids (`base`), and the array-to-array codecs. Without tests the crate is
 //! empty.
 //!
 //! What a contract says of a call, with its errors, is proved, and what the line tool shows stands in the

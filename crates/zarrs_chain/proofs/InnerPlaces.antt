@@ -23,7 +23,8 @@ use Rattle.zarrs_codec.proofs.Fences.{second_true}
 use Rattle.zarrs_array_to_array.proofs.PlaneRows.{places_are_bytes}
 use Rattle.zarrs_chunk.proofs.WholeAxes.{product_drop-le}
 use Rattle.zarrs_chunk.proofs.Products.{product_drop, product_positive, product_positive-drop}
-use Rattle.zarrs_chain_meaning.specs.sharding.InnerChunks.{is_divided, tuple_in_shard, grid, inner_chunk_count, place_in_shard, inner_chunk_places}
+use Rattle.zarrs_chain_meaning.specs.sharding.InnerChunks.{is_divided, grid, inner_chunk_count, place_in_shard, inner_chunk_places}
+use Rattle.zarrs_grid.specs.ChunkTuples.{tuple_in_array}
 use Rattle.zarrs_chain_meaning.specs.sharding.ShardSteps.{inner_start, inner_region}
 use Rattle.zarrs_chain_meaning.proofs.InnerChunks.{is_cut, places_long, grid_positive}
 use Rattle.zarrs_chain_meaning.proofs.ShardGrid.{places_found, start_at}
@@ -94,7 +95,7 @@ start_less (part ∷ shape) (size ∷ sizes) (number ∷ numbers) (suc axis) = l
 -- ---- tuples
 
 tuples_added : (shape sizes numbers tuple : List ℕ) → length sizes ≡ length shape → length numbers ≡ length shape → length tuple ≡ length shape
-    → row_major sizes (tuple_in_shard shape numbers tuple) ≡ row_major sizes (inner_start shape numbers) + row_major sizes tuple
+    → row_major sizes (tuple_in_array shape numbers tuple) ≡ row_major sizes (inner_start shape numbers) + row_major sizes tuple
 tuples_added [] [] [] [] a b c = omega arith
 tuples_added [] (size ∷ sizes) numbers tuple a b c = absurd (omega (arith, a))
 tuples_added [] [] (number ∷ numbers) tuple a b c = absurd (omega (arith, b))

@@ -12,7 +12,8 @@ use Rattle.zarrs_chain_meaning.proofs.NestedNormal.{KeepsAbsent, kept_selected}
 use Rattle.zarrs_chain_meaning.proofs.NestedStages.{all_selected, is_positive}
 use Rattle.zarrs_chain_meaning.specs.Meaning.{Keeping}
 use Rattle.zarrs_packbits.specs.Laws.{HasBytes}
-use Rattle.zarrs_chain_meaning.specs.sharding.InnerChunks.{is_divided, quotients, remainders, tuple_in_shard, grid, inner_chunk_count, inner_chunk_of, place_inside, place_in_shard, inner_chunk_places, inner_chunks_of, joined_inner_chunks, IsCut}
+use Rattle.zarrs_chain_meaning.specs.sharding.InnerChunks.{is_divided, grid, inner_chunk_count, inner_chunk_of, place_inside, place_in_shard, inner_chunk_places, inner_chunks_of, joined_inner_chunks, IsCut}
+use Rattle.zarrs_grid.specs.ChunkTuples.{quotients, remainders, tuple_in_array}
 use Rattle.zarrs_chunk.proofs.Inside.{row_major-below, lt_test, from_lt_test}
 use Rattle.zarrs_chunk.proofs.NumberedTuples.{tuple_of_number-inside, row_major-tuple_of_number, tuple_of_number-row_major, factor_positive}
 use Rattle.zarrs_chunk.specs.ChunkShape.{product}
@@ -69,7 +70,7 @@ remainders_inside (part ∷ shape) (size ∷ sizes) (index ∷ tuple) p d h =
     and_from _ _ (lt_test _ _ (mod_below index part (All-head is_positive part shape p)))
     (remainders_inside shape sizes tuple (All-tail is_positive part shape p) (second_true (nat_eq (size % part) 0) (is_divided shape sizes) d) (second_true (nat_lt index size) (is_tuple_inside sizes tuple) h))
 
-tuple_back : (shape sizes tuple : List ℕ) → is_divided shape sizes ≡ true → is_tuple_inside sizes tuple ≡ true → tuple_in_shard shape (quotients shape tuple) (remainders shape tuple) ≡ tuple
+tuple_back : (shape sizes tuple : List ℕ) → is_divided shape sizes ≡ true → is_tuple_inside sizes tuple ≡ true → tuple_in_array shape (quotients shape tuple) (remainders shape tuple) ≡ tuple
 tuple_back [] [] [] d h = refl
 tuple_back [] [] (index ∷ tuple) d h = absurd cc
 tuple_back [] (size ∷ sizes) tuple d h = absurd cc
@@ -82,9 +83,9 @@ tuple_back (part ∷ shape) (size ∷ sizes) (index ∷ tuple) d h =
 
 -- a tuple of an inner chunk
 record IsInside (shape sizes inner_chunks tuple : List ℕ) : Type 0 where
-  pub inside : is_tuple_inside sizes (tuple_in_shard shape inner_chunks tuple) ≡ true
-  pub inner_chunk : quotients shape (tuple_in_shard shape inner_chunks tuple) ≡ inner_chunks
-  pub rest : remainders shape (tuple_in_shard shape inner_chunks tuple) ≡ tuple
+  pub inside : is_tuple_inside sizes (tuple_in_array shape inner_chunks tuple) ≡ true
+  pub inner_chunk : quotients shape (tuple_in_array shape inner_chunks tuple) ≡ inner_chunks
+  pub rest : remainders shape (tuple_in_array shape inner_chunks tuple) ≡ tuple
 
 is_inside : (shape sizes inner_chunks tuple : List ℕ) → is_divided shape sizes ≡ true → is_tuple_inside (quotients shape sizes) inner_chunks ≡ true → is_tuple_inside shape tuple ≡ true → IsInside shape sizes inner_chunks tuple
 is_inside [] [] [] [] d b t = record { inside = refl; inner_chunk = refl; rest = refl }
@@ -118,7 +119,7 @@ is_cut shape sizes p d = record {
       let inside = tuple_of_number-inside sizes place l in
       let b = tuple_of_number-row_major (grid shape sizes) (quotients shape tuple) (quotients_inside shape sizes tuple p d inside) in
       let r = tuple_of_number-row_major shape (remainders shape tuple) (remainders_inside shape sizes tuple p d inside) in
-      (λ i. row_major sizes (tuple_in_shard shape (b i) (r i))) ∙ ap (row_major sizes) (tuple_back shape sizes tuple d inside) ∙ row_major-tuple_of_number sizes place l;
+      (λ i. row_major sizes (tuple_in_array shape (b i) (r i))) ∙ ap (row_major sizes) (tuple_back shape sizes tuple d inside) ∙ row_major-tuple_of_number sizes place l;
   place_below = λ inner_chunk inside b l. row_major-below sizes (found inner_chunk inside) (at inner_chunk inside b l).inside;
   chunk_again = λ inner_chunk inside b l.
       let e = tuple_of_number-row_major sizes (found inner_chunk inside) (at inner_chunk inside b l).inside in
@@ -129,7 +130,7 @@ is_cut shape sizes p d = record {
 }
   where
     found : ℕ → ℕ → List ℕ
-    found inner_chunk inside = tuple_in_shard shape (tuple_of_number (grid shape sizes) inner_chunk) (tuple_of_number shape inside)
+    found inner_chunk inside = tuple_in_array shape (tuple_of_number (grid shape sizes) inner_chunk) (tuple_of_number shape inside)
 
     at : (inner_chunk inside : ℕ) → inner_chunk < inner_chunk_count shape sizes → inside < product shape → IsInside shape sizes (tuple_of_number (grid shape sizes) inner_chunk) (tuple_of_number shape inside)
     at inner_chunk inside b l = is_inside shape sizes (tuple_of_number (grid shape sizes) inner_chunk) (tuple_of_number shape inside) d (tuple_of_number-inside (grid shape sizes) inner_chunk b) (tuple_of_number-inside shape inside l)

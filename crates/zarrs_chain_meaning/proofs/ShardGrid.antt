@@ -7,7 +7,8 @@ use Rattle.std.proofs.lemmas.List.Elements.{All-head, All-tail}
 use Rattle.std.proofs.lemmas.Simd.{map-map}
 use Rattle.zarrs_array_to_array.proofs.AnswerSteps.{some_is}
 use Rattle.zarrs_chain_meaning.proofs.InnerChunks.{part_within}
-use Rattle.zarrs_chain_meaning.specs.sharding.InnerChunks.{is_divided, quotients, tuple_in_shard, grid, inner_chunk_places}
+use Rattle.zarrs_chain_meaning.specs.sharding.InnerChunks.{is_divided, grid, inner_chunk_places}
+use Rattle.zarrs_grid.specs.ChunkTuples.{quotients, tuple_in_array}
 use Rattle.zarrs_chain_meaning.specs.sharding.ShardSteps.{divided, inner_start, inner_region}
 use Rattle.zarrs_chunk.proofs.Inside.{is_box_inside-lengths, le_test, lt_test, from_lt_test}
 use Rattle.zarrs_chunk.proofs.NumberedTuples.{box_tuples-numbered, tuple_of_number-row_major}
@@ -101,7 +102,7 @@ region_made shape sizes numbers d h small =
 
 -- ---- places
 
-tuple_behind : (shape numbers tuple : List ℕ) → tuple_in_shard shape numbers tuple ≡ indices_behind (inner_start shape numbers) tuple
+tuple_behind : (shape numbers tuple : List ℕ) → tuple_in_array shape numbers tuple ≡ indices_behind (inner_start shape numbers) tuple
 tuple_behind [] numbers tuple = refl
 tuple_behind (part ∷ shape) [] tuple = refl
 tuple_behind (part ∷ shape) (number ∷ numbers) [] = refl

@@ -29,3 +29,4 @@ pub use Rattle.zarrs_array_bytes.specs.Validity
 pub use Rattle.zarrs_codec.specs.BytesRepresentation
 pub use Rattle.zarrs_codec.specs.BytesToBytesCodec
 pub use Rattle.zarrs_array_to_array.specs.Mapping
+pub use Rattle.zarrs_grid.specs.ChunkTuples

@@ -7,7 +7,8 @@ use Rattle.std.proofs.lemmas.Nat.{div-add-mod', mod_below}
 use Rattle.std.proofs.lemmas.Simd.{map-map}
 use Rattle.zarrs_array_bytes.proofs.FlushLemmas.{same_elements}
 use Rattle.zarrs_chain_meaning.proofs.InnerChunks.{is_cut}
-use Rattle.zarrs_chain_meaning.specs.sharding.InnerChunks.{is_divided, quotients, remainders, grid, inner_chunk_count}
+use Rattle.zarrs_chain_meaning.specs.sharding.InnerChunks.{is_divided, grid, inner_chunk_count}
+use Rattle.zarrs_grid.specs.ChunkTuples.{quotients, remainders}
 use Rattle.zarrs_chunk.proofs.Inside.{from_le_test, from_lt_test, is_box_inside-lengths, le_test, lt_test, row_major-below}
 use Rattle.zarrs_chunk.proofs.NumberedTuples.{box_tuples-numbered, tuple_of_number-inside, tuple_of_number-row_major}
 use Rattle.zarrs_chunk.specs.ChunkShape.{product}

@@ -7,7 +7,8 @@ use Rattle.std.proofs.lemmas.List.Elements.{All-drop, All-head, All-tail}
 use Rattle.std.proofs.lemmas.Nat.{mod_below}
 use Rattle.zarrs_array_to_array.proofs.BoxNumbers.{factors_positive}
 use Rattle.zarrs_chain_meaning.proofs.InnerChunks.{is_cut}
-use Rattle.zarrs_chain_meaning.specs.sharding.InnerChunks.{is_divided, quotients, remainders, grid}
+use Rattle.zarrs_chain_meaning.specs.sharding.InnerChunks.{is_divided, grid}
+use Rattle.zarrs_grid.specs.ChunkTuples.{quotients, remainders}
 use Rattle.zarrs_chunk.proofs.Inside.{from_le_test, is_box_inside-lengths, lt_test, number_behind-le}
 use Rattle.zarrs_chunk.proofs.Products.{product_positive}
 use Rattle.zarrs_chunk.specs.ArraySubset.{ends_fit, subset_of_start_shape}

@@ -10,3 +10,4 @@ pub use Rattle.zarrs_chunk.specs.Answer
 pub use Rattle.zarrs_chunk.specs.Runs
 pub use Rattle.zarrs_chunk.specs.Selection
 pub use Rattle.zarrs_chain_meaning.specs.sharding.InnerChunks
+pub use Rattle.zarrs_grid.specs.ChunkTuples

@@ -1,6 +1,7 @@
 //! A window of a shard that lies in one inner chunk.
 ghost use Rattle.std.specs.Prelude.{◌≡◌, ◌<◌, ◌^◌, All, IfOk, IfSome, is_some, true};
-ghost use Rattle.zarrs_chain_meaning.specs.sharding.InnerChunks.{grid, is_divided, quotients, remainders};
+ghost use Rattle.zarrs_chain_meaning.specs.sharding.InnerChunks.{grid, is_divided};
+ghost use Rattle.zarrs_grid.specs.ChunkTuples.{quotients, remainders};
 ghost use Rattle.zarrs_chunk.specs.ChunkShape.{product};
 ghost use Rattle.zarrs_chunk.specs.Tuples.{is_box_inside, row_major};
 ghost use Rattle.zarrs_shard_runs.specs.InnerBox.{IsInnerBox, lies_in_one};

@@ -7,27 +7,13 @@ use Rattle.zarrs_chunk.specs.ChunkShape.{product}
 use Rattle.zarrs_chunk.specs.Indices.{tuple_of_number}
 use Rattle.zarrs_chunk.specs.Tuples.{row_major}
 use Rattle.zarrs_data_type.specs.Element.{absent, Chunk}
+use Rattle.zarrs_grid.specs.ChunkTuples.{quotients, remainders, tuple_in_array}
 
 -- each size of the chunk is a multiple of that of an inner chunk, of as many axes
 abbrev pub is_divided : List ℕ → List ℕ → Bool
 is_divided [] [] = true
 is_divided (part ∷ shape) (size ∷ sizes) = (size % part == 0) && is_divided shape sizes
 is_divided _ _ = false
-
--- axis by axis, how often the inner chunk's size goes into an index
-abbrev pub quotients : List ℕ → List ℕ → List ℕ
-quotients (part ∷ shape) (index ∷ tuple) = index / part ∷ quotients shape tuple
-quotients shape tuple = []
-
--- and what is left of the index
-abbrev pub remainders : List ℕ → List ℕ → List ℕ
-remainders (part ∷ shape) (index ∷ tuple) = index % part ∷ remainders shape tuple
-remainders shape tuple = []
-
--- the tuple in the chunk of a tuple of an inner chunk, which has itself a tuple among the inner chunks
-abbrev pub tuple_in_shard : List ℕ → List ℕ → List ℕ → List ℕ
-tuple_in_shard (part ∷ shape) (number ∷ numbers) (index ∷ tuple) = (number * part + index) ∷ tuple_in_shard shape numbers tuple
-tuple_in_shard shape numbers tuple = []
 
 -- how many inner chunks there are along each axis
 abbrev pub grid : List ℕ → List ℕ → List ℕ
@@ -48,7 +34,7 @@ place_inside shape sizes place = row_major shape (remainders shape (tuple_of_num
 -- the place in the chunk of a place of the inner chunk of a number
 abbrev pub place_in_shard : List ℕ → List ℕ → ℕ → ℕ → ℕ
 place_in_shard shape sizes number inside =
-    row_major sizes (tuple_in_shard shape (tuple_of_number (grid shape sizes) number) (tuple_of_number shape inside))
+    row_major sizes (tuple_in_array shape (tuple_of_number (grid shape sizes) number) (tuple_of_number shape inside))
 
 -- the places in the chunk of an inner chunk's elements
 abbrev pub inner_chunk_places : List ℕ → List ℕ → ℕ → List ℕ

@@ -5,7 +5,8 @@ use Rattle.zarrs_chunk.specs.Answer.{◌>>=◌, demand, GivesValue}
 use Rattle.zarrs_chunk.specs.Region.{Region}
 use Rattle.zarrs_chunk.specs.declared.codec_error.CodecError.{CodecError}
 use Rattle.zarrs_chunk.specs.declared.codec_error.CodecError.TheVariants.{IncompatibleDimensionality, IndivisibleShape, InvalidBytesLength, InvalidByteRange}
-use Rattle.zarrs_chain_meaning.specs.sharding.InnerChunks.{is_divided, quotients, grid}
+use Rattle.zarrs_chain_meaning.specs.sharding.InnerChunks.{is_divided, grid}
+use Rattle.zarrs_grid.specs.ChunkTuples.{quotients}
 use Rattle.zarrs_chain_meaning.specs.Meaning.{Decoder}
 use Rattle.zarrs_chain_meaning.specs.Parts.{for_each}
 use Rattle.zarrs_chain_meaning.specs.sharding.Sharding.{index_part_of, inner_chunk_at, is_stored, spanned_bytes, Span}

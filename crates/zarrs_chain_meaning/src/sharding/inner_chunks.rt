@@ -5,7 +5,8 @@ ghost use Rattle.zarrs_chunk.specs.ChunkShape.{product};
 ghost use Rattle.zarrs_chunk.specs.Runs.{places_in, EndWithin};
 ghost use Rattle.zarrs_chunk.specs.Tuples.{is_tuple_inside};
 ghost use Rattle.zarrs_array_bytes.specs.Validity.{sizes_fit};
-ghost use Rattle.zarrs_chain_meaning.specs.sharding.InnerChunks.{is_divided, quotients as quotients_of, grid as grid_of, inner_chunk_count, inner_chunk_places};
+ghost use Rattle.zarrs_chain_meaning.specs.sharding.InnerChunks.{is_divided, grid as grid_of, inner_chunk_count, inner_chunk_places};
+ghost use Rattle.zarrs_grid.specs.ChunkTuples.{quotients as quotients_of};
 ghost use Rattle.zarrs_chain_meaning.specs.sharding.ShardSteps.{IsDivided, divided_grid, inner_start as inner_start_of, inner_region, GivesIndexShape};
 
 use std::alloc::{AllocError, Global};

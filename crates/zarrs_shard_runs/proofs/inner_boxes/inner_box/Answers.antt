@@ -2,7 +2,8 @@ use Rattle.std.proofs.Common.{◌≡◌, ◌<◌, true, ap, subst, sym, ◌∙�
 use Rattle.std.specs.List.{All}
 use Rattle.std.specs.Prelude.{IfSome, is_some}
 use Rattle.zarrs_array_to_array.proofs.BoxNumbers.{factors_positive}
-use Rattle.zarrs_chain_meaning.specs.sharding.InnerChunks.{grid, quotients, remainders}
+use Rattle.zarrs_chain_meaning.specs.sharding.InnerChunks.{grid}
+use Rattle.zarrs_grid.specs.ChunkTuples.{quotients, remainders}
 use Rattle.zarrs_chunk.specs.ChunkShape.{product}
 use Rattle.zarrs_chunk.specs.Tuples.{is_box_inside, row_major}
 use Rattle.zarrs_shard_runs.specs.InnerBox.{lies_in_one}

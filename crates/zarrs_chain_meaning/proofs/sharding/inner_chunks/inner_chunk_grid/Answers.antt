@@ -2,7 +2,7 @@ use Rattle.std.proofs.Common.{◌≡◌, ℕ, Option, Some, List, ap, sym, ◌�
 use Rattle.std.specs.Prelude.{option_map}
 use Rattle.zarrs_chunk.specs.ChunkShape.{shape_of}
 use Rattle.zarrs_array_to_array.proofs.Transposition.{shape_of-positive}
-use Rattle.zarrs_chain_meaning.specs.sharding.InnerChunks.{quotients}
+use Rattle.zarrs_grid.specs.ChunkTuples.{quotients}
 use Rattle.zarrs_chain_meaning.specs.sharding.ShardSteps.{divided}
 use Rattle.zarrs_chain_meaning.proofs.InnerChunks.{is_cut, grid_positive}
 use Rattle.zarrs_chain_meaning.proofs.ShardGrid.{divided_is, not_none}

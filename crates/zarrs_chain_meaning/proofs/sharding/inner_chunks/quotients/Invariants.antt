@@ -1,5 +1,6 @@
 use Rattle.std.proofs.Common.{◌≡◌, ◌++◌, drop}
-use Rattle.zarrs_chain_meaning.specs.sharding.InnerChunks.{is_divided, quotients}
+use Rattle.zarrs_chain_meaning.specs.sharding.InnerChunks.{is_divided}
+use Rattle.zarrs_grid.specs.ChunkTuples.{quotients}
 use Rattle.zarrs_chain_meaning.proofs.sharding.inner_chunks.quotients.Given as goal
 
 abbrev pub invariant-loop-axis : goal.invariant-loop-axis

@@ -1,0 +1,11 @@
+pub mod ArrayWritten
+pub mod BoxPlaces
+pub mod Cut
+pub mod KnownBoxes
+pub mod NumberedChunks
+pub mod OneAxis
+pub mod PartPlaces
+pub mod PartsJoined
+pub mod RunReads
+pub mod RunWrites
+pub mod Tuples
