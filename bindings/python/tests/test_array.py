@@ -139,17 +139,18 @@ class Counted:
 
 
 @pytest.mark.parametrize(
-    "index, files",
+    "index, files, more",
     [
-        (np.s_[5:25, 7:9, 3], 6),
-        (np.s_[10:20], 3),
-        (np.s_[3, 4, 5], 1),
-        (np.s_[::29, 0, 0], 2),
-        (np.s_[3:3], 0),
-        (np.s_[25:, 19, ::-1], 1),
+        (np.s_[5:25, 7:9, 3], 6, 0),
+        # of the last of these chunks half is needed, and all is read at once
+        (np.s_[10:20], 3, 1280),
+        (np.s_[3, 4, 5], 1, 0),
+        (np.s_[::29, 0, 0], 2, 0),
+        (np.s_[3:3], 0, 0),
+        (np.s_[25:, 19, ::-1], 1, 0),
     ],
 )
-def test_only_what_is_needed_is_read(index, files, rng, tmp_path, monkeypatch):
+def test_only_what_is_needed_is_read(index, files, more, rng, tmp_path, monkeypatch):
     array = make_array(
         tmp_path / "a", (30, 20, 8), (10, 8, 8), "int32", [transpose([2, 0, 1]), LITTLE], 0
     )
@@ -157,7 +158,7 @@ def test_only_what_is_needed_is_read(index, files, rng, tmp_path, monkeypatch):
     array[...] = expected
     counted = Counted(monkeypatch)
     same(array[index], expected[index])
-    assert counted.bytes == expected[index].nbytes
+    assert counted.bytes == expected[index].nbytes + more
     assert counted.files == files
 
 

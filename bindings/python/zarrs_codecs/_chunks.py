@@ -1,6 +1,7 @@
 """The files of an array's chunks."""
 
 import contextlib
+import math
 import threading
 from collections.abc import Callable, Iterable, Iterator
 from concurrent.futures import ThreadPoolExecutor
@@ -24,6 +25,8 @@ from .refusals import InvalidBytesLength, Refused
 _MOST_TRIES = 4
 # A chunk of so many bytes is read at once, where all of it is needed or its reads aren't planned.
 _SMALL = 1 << 16
+# One of a file at hand is read at once where one in so many of its elements is needed, or more.
+_WHOLE_FROM = 4
 
 
 @contextlib.contextmanager
@@ -166,12 +169,16 @@ class Chunks:
             return self._chain._read_inner(self._opened(path, source), selection, out)
         size = source.length()
         self._check_size(size)
-        # of a long value a read that is planned or composed holds a part at a time
-        is_at_once = size <= _SMALL or not (self._is_planned or self._chain._is_composed)
+        # of a long value a read that is composed holds a part at a time
+        is_at_once = size <= _SMALL or not self._chain._is_composed
         if is_at_once and out is not None and out.shape == self._chain.shape:
             # all of the chunk: one call instead of two
             return self._chain.decode(source.whole(), out)
         if self._is_planned:
+            is_at_hand = source.part_bytes is not None and out is not None
+            if is_at_hand and _WHOLE_FROM * out.size >= math.prod(self._chain.shape):
+                # one read instead of many, and few bytes more
+                return self._chain._read_inner(source.whole(), selection, out)
             return self._chain._read_fetched(Fetched(source), selection, out)
         if size <= _SMALL and not self._chain._is_composed:
             # one read instead of several
