@@ -1,5 +1,5 @@
 //! Storage handles that can be read.
-ghost use Rattle.std.specs.Prelude.{◌≡◌, ℕ, Bool, Option, None, Ok, List, is_some};
+ghost use Rattle.std.specs.Prelude.{◌≡◌, ℕ, Bool, IfSome, Option, None, Some, Ok, List, is_some};
 ghost use Rattle.zarrs_codec.specs.ByteRanges.{ranges_are_sure, read_ranges};
 ghost use Rattle.zarrs_codec.specs.ByteSpan.{ByteSpan};
 ghost use Rattle.zarrs_codec.specs.Calls.{Calls, after_ranges, after_reads, ok_count};
@@ -97,6 +97,15 @@ pub trait BytesPartialDecoderTraits {
     /// the implementer's word.
     fn supports_partial_decode(&self) -> bool
         ensures value { result ≡ reads_ranges };
+
+    /// The value, where it lies in memory: a read then takes bytes from there, and may make no call for
+    /// them. `None` where it lies elsewhere, or where there is none; a handle that records its calls
+    /// returns `None` too.
+    fn value_in_memory(&self) -> Option<&[u8]>
+        ensures value { IfSome result (λ bytes. (state self.now).value ≡ Some bytes.now) }
+    {
+        None
+    }
 }
 
 impl<H: BytesPartialDecoderTraits> BytesPartialDecoderTraits for &mut H {
@@ -141,5 +150,9 @@ impl<H: BytesPartialDecoderTraits> BytesPartialDecoderTraits for &mut H {
 
     fn supports_partial_decode(&self) -> bool {
         (**self).supports_partial_decode()
+    }
+
+    fn value_in_memory(&self) -> Option<&[u8]> {
+        (**self).value_in_memory()
     }
 }

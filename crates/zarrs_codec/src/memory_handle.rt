@@ -170,6 +170,10 @@ impl BytesPartialDecoderTraits for MemoryHandle {
     fn supports_partial_decode(&self) -> bool {
         true
     }
+
+    fn value_in_memory(&self) -> Option<&[u8]> {
+        self.value()
+    }
 }
 
 /// Writes the pieces, for which the value grows to their furthest end first: nothing fails from then

@@ -1,5 +1,5 @@
 -- What is read of a span of a value is read of the value, at ranges that are moved.
-use Rattle.std.proofs.Common.{◌≡◌, ℕ, zero, suc, ◌+◌, ◌-◌, ◌≤◌, nat_le, ◌&&◌, Bool, true, false, Option, Some, None, List, [], ◌∷◌, ◌++◌, length, take, drop, Result, Ok, Err, arith, refl, ap, sym, ◌∙◌}
+use Rattle.std.proofs.Common.{◌≡◌, ℕ, zero, suc, ◌+◌, ◌-◌, ◌≤◌, nat_le, ◌&&◌, Bool, true, false, Option, Some, None, List, [], ◌∷◌, ◌++◌, length, take, drop, Ok, Err, arith, refl, ap, sym, ◌∙◌}
 use Rattle.std.specs.List.{list_all, range_with_len, between}
 use Rattle.std.specs.Option.{option_map}
 use Rattle.std.proofs.lemmas.Bool.Decides.{nat_tests}
@@ -7,15 +7,14 @@ use Rattle.std.proofs.lemmas.List.{append-nil, drop-take, drop-drop, length-drop
 use Rattle.std.proofs.Math.Nat.{add_assoc}
 use Rattle.zarrs_chunk.proofs.Inside.{from_le_test, le_test}
 use Rattle.std.proofs.lemmas.List.Folds.{list_all-append}
-use Rattle.zarrs_chunk.specs.declared.codec_error.CodecError.{CodecError}
 use Rattle.zarrs_chunk.specs.declared.codec_error.CodecError.TheVariants.{InvalidByteRange}
 use Rattle.zarrs_codec.specs.ByteRanges.{range_indices, bytes_in_ranges, read_ranges}
 use Rattle.zarrs_codec.specs.ByteSpan.{ByteSpan}
-use Rattle.zarrs_codec.specs.StorageState.{StorageState, after_reading, are_sure, value_indices}
+use Rattle.zarrs_codec.specs.StorageState.{StorageState, are_sure, value_indices}
 use Rattle.zarrs_codec.specs.Lent.{Lent, whole_reference}
 use Rattle.std.specs.Borrow.{GName}
 use Rattle.zarrs_codec.proofs.Fences.{second_true, first_true}
-use Rattle.zarrs_lent_handles.specs.SpanHandle.{spanned, is_span_of, moved_ranges, span_state, span_reference, without_failures}
+use Rattle.zarrs_lent_handles.specs.SpanHandle.{spanned, is_span_of, moved_ranges, span_state}
 
 abbrev ends_within : ℕ → ByteSpan → Bool
 ends_within len range = nat_le range.end len
@@ -157,28 +156,6 @@ first_name : List Lent → GName → GName
 first_name [] name = name
 first_name (one ∷ rest) name = one.name
 
-first_behind : List Lent → StorageState → StorageState
-first_behind [] state = state
-first_behind (one ∷ rest) state = by one.behind
-  where
-    by : Option StorageState → StorageState
-    by None = state
-    by (Some behind) = behind
-
--- The same reference, and the same state behind it but for failures.
-pub record IsSameBehind {H : Type 0} (state : H → StorageState) (lent : H → List Lent) (name other : GName) (before after : H) : Type 0 where
-  pub name_is : other ≡ name
-  pub state_is : without_failures (state after) ≡ without_failures (state before)
-  pub lent_is : lent after ≡ lent before
-
-pub same_behind : {H : Type 0} (state : H → StorageState) (lent : H → List Lent) (name other : GName) (before after : H) → span_reference other (state after) ∷ lent after ≡ span_reference name (state before) ∷ lent before → IsSameBehind state lent name other before after
-unfolding first_name first_behind
-same_behind state lent name other before after e = record {
-  name_is = ap (λ (ls : List Lent). first_name ls name) e;
-  state_is = ap (λ (ls : List Lent). first_behind ls (state before)) e;
-  lent_is = ap (λ (ls : List Lent). drop 1 ls) e;
-}
-
 -- The same reference, and the same ones behind it.
 pub record IsSameWhole {H : Type 0} (lent : H → List Lent) (name other : GName) (before after : H) : Type 0 where
   pub name_is : other ≡ name
@@ -189,15 +166,4 @@ unfolding first_name
 same_whole lent name other before after e = record {
   name_is = ap (λ (ls : List Lent). first_name ls name) e;
   lent_is = ap (λ (ls : List Lent). drop 1 ls) e;
-}
-
--- what a read through a span leaves is what it leaves of the handle behind it
-pub left_behind : {T : Type 0} (result : Result T CodecError) (before after : StorageState) (at len from more : ℕ) → without_failures after ≡ without_failures before → span_state from more after ≡ after_reading result (span_state at len before) → after ≡ after_reading result before
-left_behind result before after at len from more same left = λ i. record {
-  value = (same i).value;
-  sure = (same i).sure;
-  faults = (left i).faults;
-  failure = (left i).failure;
-  writes = (same i).writes;
-  accepted_writes = (same i).accepted_writes;
 }

@@ -167,6 +167,10 @@ impl<'a, H: BytesPartialDecoderTraits> BytesPartialDecoderTraits for AheadHandle
     fn supports_partial_decode(&self) -> bool {
         self.handle.supports_partial_decode()
     }
+
+    fn value_in_memory(&self) -> Option<&[u8]> {
+        self.handle.value_in_memory()
+    }
 }
 
 impl<'a, H: BytesPartialDecoderTraits> ReadAheadTraits for AheadHandle<'a, H> {

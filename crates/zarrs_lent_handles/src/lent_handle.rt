@@ -73,4 +73,8 @@ impl<'a> BytesPartialDecoderTraits for LentHandle<'a> {
     fn supports_partial_decode(&self) -> bool {
         true
     }
+
+    fn value_in_memory(&self) -> Option<&[u8]> {
+        self.value
+    }
 }
