@@ -101,3 +101,17 @@ chain_keeps (codec ∷ codecs) sizes m region are positive h kept inside =
     one_more codec codecs sizes m region (are 0 codec (omega arith)) positive h kept inside
     (λ next_sizes rest next. chain_keeps codecs next_sizes rest next (λ k d l. are (suc k) d (omega arith)))
     (next_window codec (window_of sizes region)) refl
+
+-- ---- the last window
+
+-- the window lies inside its own sizes, and has as many elements as the region
+pub record IsLastWindow (region : Region) (last : Window) : Type 0 where
+  pub inside : is_box_inside last.sizes last.region.starts last.region.lengths ≡ true
+  pub count : product last.region.lengths ≡ product region.lengths
+
+-- such is the window that codecs which keep regions take this one to
+pub last_inside : (codecs : List ArrayMapping) (sizes : List ℕ) (m : CoordinateMap) (region : Region) → All IsMapping codecs → All (λ size. 0 < size) sizes → chained codecs sizes ≡ Ok m → keeps_regions codecs ≡ true → is_box_inside sizes region.starts region.lengths ≡ true
+    → IsLastWindow region (last_window codecs (window_of sizes region))
+last_inside codecs sizes m region are positive h kept inside =
+    let keeps = chain_keeps codecs sizes m region are positive h kept inside in
+    record { inside = keeps.next_is.inside; count = ap product (sym keeps.lengths) ∙ keeps.part_is.count }

@@ -8,8 +8,9 @@ ghost use Rattle.zarrs_array_regions.specs.KeptRegions.{keeps_regions as keeps_r
 use zarrs_array_to_array::{ArrayToArrayCodec, keep_places};
 use zarrs_chunk::{ArraySubset, ChunkShape, Indexer};
 
-/// Whether the codecs take every region to a region: no transposition stands behind a reshape.
-fn keeps_regions(codecs: &[ArrayToArrayCodec]) -> bool
+/// Whether the codecs take every region to a region: no transposition stands behind a reshape. Without
+/// codecs each stays.
+pub fn keeps_regions(codecs: &[ArrayToArrayCodec]) -> bool
     ensures value { result ≡ keeps_regions_of (map mapping_of codecs.now) }
 {
     match codecs {
