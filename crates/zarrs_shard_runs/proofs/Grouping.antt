@@ -45,9 +45,9 @@ groups_are_cells shape sizes places [] = refl
 groups_are_cells shape sizes places (number ∷ numbers) = λ i. if_any number (places_are_cells shape sizes places number i) (groups_are_cells shape sizes places numbers i)
 
 -- what has the same places of each number has the same groups
-pub groups_agree : (cells others : List (ℕ × ℕ)) (low count : ℕ) → ((number : ℕ) → low ≤ number → cells_in number cells ≡ cells_in number others) → cell_groups cells (range_with_len low count) ≡ cell_groups others (range_with_len low count)
+pub groups_agree : (cells others : List (ℕ × ℕ)) (low count : ℕ) → ((number : ℕ) → low ≤ number → number < low + count → cells_in number cells ≡ cells_in number others) → cell_groups cells (range_with_len low count) ≡ cell_groups others (range_with_len low count)
 groups_agree cells others low zero h = refl
-groups_agree cells others low (suc count) h = λ i. if_any low (h low (omega arith) i) (groups_agree cells others (low + 1) count (λ number l. h number (omega (arith, l))) i)
+groups_agree cells others low (suc count) h = λ i. if_any low (h low (omega arith) (omega arith) i) (groups_agree cells others (low + 1) count (λ number l b. h number (omega (arith, l)) (omega (arith, b))) i)
 
 if_inside-append : (test : Bool) (place : ℕ) (places others : List ℕ) → if_inside test place (places ++ others) ≡ if_inside test place places ++ others
 if_inside-append true place places others = refl
@@ -58,10 +58,10 @@ cells_in-append number [] others = refl
 cells_in-append number (it ∷ cells) others =
     ap (if_inside (nat_eq it.0 number) it.1) (cells_in-append number cells others) ∙ if_inside-append (nat_eq it.0 number) it.1 (cells_in number cells) (cells_in number others)
 
-eq_same : (a b : ℕ) → a ≡ b → nat_eq a b ≡ true
+pub eq_same : (a b : ℕ) → a ≡ b → nat_eq a b ≡ true
 eq_same a b e = grind (arith, nat_tests)
 
-eq_other : (a b : ℕ) → (a ≡ b → ⊥) → nat_eq a b ≡ false
+pub eq_other : (a b : ℕ) → (a ≡ b → ⊥) → nat_eq a b ≡ false
 eq_other a b e = grind (arith, nat_tests)
 
 -- those of one inner chunk
@@ -77,7 +77,7 @@ cells_in-other number other (place ∷ places) e =
     ap (λ test. if_inside test place (cells_in number (cells_at other places))) (eq_other other number e) ∙ cells_in-other number other places e
 
 -- below those of rising numbers there is none
-none_below : (low number : ℕ) (groups : List (ℕ × List ℕ)) → AreRising low groups → number < low → cells_in number (cells_of_groups groups) ≡ []
+pub none_below : (low number : ℕ) (groups : List (ℕ × List ℕ)) → AreRising low groups → number < low → cells_in number (cells_of_groups groups) ≡ []
 none_below low number [] r l = refl
 none_below low number (it ∷ groups) r l =
     cells_in-append number (cells_at it.0 it.1) (cells_of_groups groups)
@@ -104,7 +104,7 @@ groups_again (suc count) low (it ∷ groups) r b =
     ∙ (λ i. cells_in-same low it.0 it.1 same i ++ none_below (it.0 + 1) low groups r.2 (omega (arith, same)) i)
     ∙ append-nil it.1 in
     let rest : cell_groups (cells_of_groups (it ∷ groups)) (range_with_len (low + 1) count) ≡ groups =
-    groups_agree (cells_of_groups (it ∷ groups)) (cells_of_groups groups) (low + 1) count (λ number l.
+    groups_agree (cells_of_groups (it ∷ groups)) (cells_of_groups groups) (low + 1) count (λ number l _.
     cells_in-append number (cells_at it.0 it.1) (cells_of_groups groups) ∙ ap (λ xs. xs ++ cells_in number (cells_of_groups groups)) (cells_in-other number it.0 it.1 (λ e. omega (arith, e, same, l))))
     ∙ groups_again count (low + 1) groups (subst (λ n. AreRising (n + 1) groups) same r.2) (λ k d l. let h = All-tail (λ (it : ℕ × List ℕ). it.0 < low + suc count) it groups b k d l in omega (arith, h)) in
     (λ i. if_any low (own i) (rest i)) ∙ any_some low it.1 groups r.1 ∙ ap (λ n. (n, it.1) ∷ groups) (sym same))

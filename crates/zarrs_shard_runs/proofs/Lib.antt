@@ -11,5 +11,8 @@ pub mod Grouping
 pub mod Orders
 pub mod OneGroup
 pub mod InnerCells
+pub mod BoxParts
+pub mod BoxCells
+pub mod BoxGroups
 pub mod InnerStarts
 pub mod TuplesOfPlaces

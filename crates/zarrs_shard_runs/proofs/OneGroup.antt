@@ -35,7 +35,7 @@ module _ (shape sizes places : List ℕ) (number : ℕ) (moved : List ℕ) (cell
   groups_are =
       let count = inner_chunk_count shape sizes in
       sym (groups_again count 0 found rises (All-cons (λ (it : ℕ × List ℕ). it.0 < 0 + count) (number, moved) [] (omega (arith, low)) (All-nil (λ (it : ℕ × List ℕ). it.0 < 0 + count))))
-      ∙ groups_agree (cells_of_groups found) (map (cell shape sizes) places) 0 count (λ number l. ap (cells_in number) cells_are)
+      ∙ groups_agree (cells_of_groups found) (map (cell shape sizes) places) 0 count (λ number _ _. ap (cells_in number) cells_are)
       ∙ sym (groups_are_cells shape sizes places (range_with_len 0 count))
 
   pub order_is : IsReadingOrder shape sizes places (range_with_len 0 (length places))

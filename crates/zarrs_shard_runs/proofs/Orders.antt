@@ -63,7 +63,7 @@ groups_are shape sizes places cuts sorted groups e are perm kept g =
     let low : All (λ it. it.number < count) cuts = λ k d l. (are.each k d l).number in
     let below = g.below count (All-permutation (λ (it : CutRun). it.number < count) cuts sorted perm low) in
     sym (groups_again count 0 groups g.rising (λ k d l. let b = below k d l in omega (arith, b)))
-    ∙ groups_agree (cells_of_groups groups) (map (cell shape sizes) places) 0 count (λ number l. ap (cells_in number) g.cells ∙ sym (kept number) ∙ ap (cells_in number) e)
+    ∙ groups_agree (cells_of_groups groups) (map (cell shape sizes) places) 0 count (λ number _ _. ap (cells_in number) g.cells ∙ sym (kept number) ∙ ap (cells_in number) e)
     ∙ sym (groups_are_cells shape sizes places (range_with_len 0 count))
 
 -- ---- the order

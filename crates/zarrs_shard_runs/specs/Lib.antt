@@ -6,6 +6,7 @@ pub mod GroupedRuns
 pub mod Groups
 pub mod RunSelection
 pub mod InnerBox
+pub mod BoxParts
 pub use Rattle.zarrs_chunk.specs.Answer
 pub use Rattle.zarrs_chunk.specs.Runs
 pub use Rattle.zarrs_chunk.specs.Selection
