@@ -1,5 +1,5 @@
 //! Tests of handles and of single codecs, over the public calls of `zarrs_codec`, `zarrs_bytes`,
-//! `zarrs_packbits` and `zarrs_crc32c`. Without tests the crate is empty.
+//! `zarrs_packbits`, `zarrs_crc32c` and `zarrs_pairs`. Without tests the crate is empty.
 //!
 //! What codecs write and read stands in the transcripts of `zarrs_transcripts`, and whole chunks by
 //! the traits in `zarrs_chain_tests`. Here is what no line of the tool shows: planned ranges, sizes held,
@@ -17,3 +17,5 @@ mod crc32c;
 mod forms;
 #[cfg(test)]
 mod packbits;
+#[cfg(test)]
+mod pairs;

@@ -1,0 +1,3 @@
+pub mod OtherCodecs
+pub mod SortedRows
+pub mod Tables
