@@ -40,7 +40,7 @@ use Rattle.std.proofs.Math.Numerals.{suc-eq-add-one}
 -- ---- inner chunks by their numbers
 
 -- these spans are those from a number on
-abbrev AreFrom : List Span → ℕ → List Span → Type 0
+abbrev pub AreFrom : List Span → ℕ → List Span → Type 0
 AreFrom spans number rest = (k : ℕ) → get_or spans (number + k) (0, 0) ≡ get_or rest k (0, 0)
 
 are_head : (spans rest : List Span) (number : ℕ) (span : Span) → AreFrom spans number (span ∷ rest) → get_or spans number (0, 0) ≡ span
@@ -49,14 +49,14 @@ are_head spans rest number span are = ap (λ (n : ℕ). get_or spans n (0, 0)) (
 are_tail : (spans rest : List Span) (number : ℕ) (span : Span) → AreFrom spans number (span ∷ rest) → AreFrom spans (suc number) rest
 are_tail spans rest number span are = λ k. ap (λ (n : ℕ). get_or spans n (0, 0)) (let e : suc number + k ≡ number + suc k = omega arith in e) ∙ are (suc k)
 
-are_all : (spans : List Span) → AreFrom spans 0 spans
+pub are_all : (spans : List Span) → AreFrom spans 0 spans
 are_all spans = λ k. ap (λ (n : ℕ). get_or spans n (0, 0)) (let e : 0 + k ≡ k = omega arith in e)
 
 -- ---- what is read
 
 module _ (read : PlaceReader) (shape sizes : List ℕ) (type : ElementType) (fill value places : List ℕ) (spans : List Span) (each : (stored : Option (List ℕ)) → ReadsEach (read shape type fill stored)) where
   -- the element at a place of the inner chunk of a number
-  abbrev at_number : ℕ → ℕ → Element
+  abbrev pub at_number : ℕ → ℕ → Element
   at_number number inside = pick_at read shape sizes type fill value each (get_or spans number (0, 0)) inside
 
   joined : (first second : Result (Unit {0}) CodecError) (one other : Chunk) → ((first >>= λ _. ok one) >>= λ a. (second >>= λ _. ok other) >>= λ b. ok (a ++ b)) ≡ ((first >>= λ _. second) >>= λ _. ok (one ++ other))
@@ -77,7 +77,8 @@ module _ (read : PlaceReader) (shape sizes : List ℕ) (type : ElementType) (fil
       ∙ joined (here.refusal (p ∷ ps)) behind (map here.element (p ∷ ps)) (group_elements at_number groups)
       ∙ ap (λ (s : Span). ((each_at read shape sizes type fill value each s).refusal (p ∷ ps) >>= λ _. behind) >>= λ _. ok (group_elements at_number ((number, p ∷ ps) ∷ groups))) is
 
-  groups_are : (number : ℕ) (rest : List Span) → AreFrom spans number rest
+  -- what is read of the groups from a number on: each place's own element, or the first error of an inner chunk
+  pub groups_are : (number : ℕ) (rest : List Span) → AreFrom spans number rest
       → groups_read read shape type fill value spans (groups_among shape sizes places (range_with_len number (length rest)))
       ≡ (refusals read shape sizes type fill value each places number rest >>= λ _. ok (group_elements at_number (groups_among shape sizes places (range_with_len number (length rest)))))
   groups_are number [] are = refl
@@ -92,7 +93,7 @@ picked_at pick [] number inside l = absurd (omega (arith, l))
 picked_at pick (span ∷ spans) zero inside l = refl
 picked_at pick (span ∷ spans) (suc number) inside l = picked_at pick spans number inside (omega (arith, l))
 
-picked_all : (pick : Span → ℕ → Element) (spans : List Span) (shape sizes places : List ℕ) → ((place : ℕ) → place < product sizes → inner_chunk_of shape sizes place < length spans) → All (λ place. place < product sizes) places
+pub picked_all : (pick : Span → ℕ → Element) (spans : List Span) (shape sizes places : List ℕ) → ((place : ℕ) → place < product sizes → inner_chunk_of shape sizes place < length spans) → All (λ place. place < product sizes) places
     → map (λ p. picked pick spans (inner_chunk_of shape sizes p) (place_inside shape sizes p)) places ≡ map (λ p. pick (get_or spans (inner_chunk_of shape sizes p) (0, 0)) (place_inside shape sizes p)) places
 picked_all pick spans shape sizes [] within below = refl
 picked_all pick spans shape sizes (place ∷ places) within below =

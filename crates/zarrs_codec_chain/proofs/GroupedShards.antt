@@ -69,11 +69,16 @@ module _ {B : Type 0} {f : BytesCodecs B} {codec : PlainCodec B} {inner index : 
   pub counted : length (spans_of numbers) ≡ inner_chunk_count shape sizes
   counted = spans_counted f (plain_chain index).array_to_array (plain_chain index).array_to_bytes (plain_chain index).bytes_to_bytes shape at_end sizes it.shard.value index_size (spans_of numbers) spans_at
 
+  -- what is read of the places, where the numbers say that the inner chunks stand
+  pub placed_spans : all_read it.shard places ≡ spans_read (chain_read f (plain_chain inner)) shape sizes type fill it.shard.value places (spans_of numbers)
+  placed_spans =
+      by_spans it.shard places
+      ∙ ap (λ (r : Result (List Span) CodecError). r >>= λ spans. spans_read (chain_read f (plain_chain inner)) shape sizes type fill it.shard.value places spans) it.at
+
   pub placed_read : (order : List ℕ) → IsReadingOrder shape sizes places order
       → all_read it.shard places ≡ (stored_groups_read (chain_read f (plain_chain inner)) shape type fill state.value (spans_of numbers) (groups_of shape sizes places) >>= λ joined. ok (select joined order))
   placed_read order o =
-      by_spans it.shard places
-      ∙ ap (λ (r : Result (List Span) CodecError). r >>= λ spans. spans_read (chain_read f (plain_chain inner)) shape sizes type fill it.shard.value places spans) it.at
+      placed_spans
       ∙ grouped_read (chain_read f (plain_chain inner)) shape sizes type fill it.shard.value places (spans_of numbers) order (chain_each f (plain_chain inner).array_to_array (plain_chain inner).array_to_bytes (plain_chain inner).bytes_to_bytes shape type fill) counted it.cut it.below o
       ∙ ap (λ (v : Option (List ℕ)). stored_groups_read (chain_read f (plain_chain inner)) shape type fill v (spans_of numbers) (groups_of shape sizes places) >>= λ joined. ok (select joined order)) (sym it.shard.value_is)
 

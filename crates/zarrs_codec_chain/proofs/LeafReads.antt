@@ -1,6 +1,5 @@
 -- What is read of a value in a span through a codec that isn't `sharding_indexed`.
-use Rattle.std.proofs.Common.{◌≡◌, ℕ, false, Option, Some, List, [], Result, Bor, refl, ap, subst}
-use Rattle.std.specs.Option.{option_map}
+use Rattle.std.proofs.Common.{◌≡◌, ℕ, false, Option, Some, List, [], Result, refl, subst}
 use Rattle.zarrs_array_bytes.specs.Elements.{select}
 use Rattle.zarrs_array_bytes.specs.Held.{Held}
 use Rattle.zarrs_array_bytes.specs.Validity.{Holds}
@@ -8,15 +7,11 @@ use Rattle.zarrs_chain_meaning.specs.Chain.{codec_reads}
 use Rattle.zarrs_chain_meaning.specs.CodecMeaning.{PlainCodec, PlainChain, codec_chunk}
 use Rattle.zarrs_chunk.specs.Answer.{AnswersBy, memory, memory_or_fault, seen}
 use Rattle.zarrs_codec.specs.BytesToBytesCodec.{BytesCodecs}
-use Rattle.zarrs_codec.specs.StorageState.{StorageState}
 use Rattle.zarrs_codec.specs.declared.bytes_representation.BytesRepresentation.TheVariants.{UnboundedSize}
 use Rattle.zarrs_codec_chain.proofs.SpanChains.{moved_alone}
 use Rattle.zarrs_codec_chain.proofs.WholeReads.{whole_answer}
 use Rattle.zarrs_codec_chain.specs.CodecPart.{codec_read}
-use Rattle.zarrs_codec_chain.specs.SpanReads.{held_state, seen_state}
-use Rattle.zarrs_codec_chain.specs.declared.sharding.value_span.ValueSpan.{ValueSpan}
 use Rattle.zarrs_data_type.specs.ElementType.{ElementType}
-use Rattle.zarrs_lent_handles.specs.SpanHandle.{span_state, spanned}
 
 -- a chain of this codec alone
 abbrev pub lone_chain : {B : Type 0} → PlainCodec B → PlainChain B
@@ -28,7 +23,3 @@ pub wholly_answered : {B : Type 0} (f : BytesCodecs B) (codec : PlainCodec B) (s
 wholly_answered f codec sizes type fill stored value places result whole is h =
     subst (AnswersBy memory_or_fault (Holds type) result) (moved_alone f (lone_chain codec) sizes type fill UnboundedSize stored places refl)
     (whole_answer f (lone_chain codec) sizes type fill UnboundedSize stored value places result whole is h)
-
--- the value of a span of bytes in memory
-pub held_value_is : (span : ValueSpan) (bytes : Bor (List ℕ)) (state : StorageState) → span.held ≡ Some bytes → (seen_state span state).value ≡ Some (spanned span.at span.len bytes.now)
-held_value_is span bytes state e = ap (λ (h : Option (Bor (List ℕ))). (span_state span.at span.len (held_state (option_map (λ b. b.now) h) state)).value) e

@@ -45,4 +45,7 @@ pub mod StoredIndex
 pub mod GroupSteps
 pub mod AloneGroup
 pub mod LoneBoxes
+pub mod PartWalks
+pub mod PartSteps
+pub mod PartedShards
 pub mod BoxReads

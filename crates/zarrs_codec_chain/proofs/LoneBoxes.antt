@@ -1,5 +1,5 @@
 -- A box of a shard that lies in one inner chunk: what is read of it there is what is read of it, and rests on the same.
-use Rattle.std.proofs.Common.{◌≡◌, ℕ, ◌*◌, ◌+◌, ◌<◌, ◌^◌, true, Bool, Option, List, [], ◌∷◌, length, get_or, map, Result, Ok, Err, arith, refl, ap, sym, subst, ◌∙◌}
+use Rattle.std.proofs.Common.{◌≡◌, ℕ, ◌*◌, ◌+◌, ◌<◌, ◌^◌, true, Bool, Option, List, [], ◌∷◌, length, get_or, Result, Ok, Err, arith, refl, ap, sym, subst, ◌∙◌}
 use Rattle.std.specs.List.{All, range_with_len}
 use Rattle.zarrs_array_bytes.specs.Elements.{select}
 use Rattle.zarrs_array_bytes.specs.Held.{Held}

@@ -7,7 +7,7 @@ use Rattle.zarrs_codec_chain.specs.SpanReads.{held_state, seen_state, span_parts
 use Rattle.zarrs_codec_chain.specs.declared.sharding.value_span.ValueSpan.{ValueSpan}
 use Rattle.zarrs_lent_handles.specs.SpanHandle.{span_state, spanned}
 
-some_is : (x y : ℕ) → Some x ≡ Some y → x ≡ y
+pub some_is : (x y : ℕ) → Some x ≡ Some y → x ≡ y
 some_is x y e = cc
 
 value_by : (stored : Option (List ℕ)) (len : ℕ) → value_size stored ≡ Some len → option_map (spanned 0 len) stored ≡ stored

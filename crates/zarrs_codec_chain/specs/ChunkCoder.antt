@@ -1,5 +1,5 @@
 -- What a coder of chunks is made of, and what its calls read.
-use Rattle.std.specs.Prelude.{◌≡◌, ◌&&◌, ℕ, Bool, Option, List, length, Ok, true, IfOk, IfErr, Err, Some, Result, false}
+use Rattle.std.specs.Prelude.{◌≡◌, ◌<◌, ◌&&◌, ℕ, Bool, Option, List, length, Ok, true, IfOk, IfErr, Err, Some, Result, false}
 use Rattle.zarrs_chunk.specs.ChunkShape.{product}
 use Rattle.zarrs_array_regions.specs.KeptRegions.{IsKept, keeps_regions}
 use Rattle.zarrs_chunk.specs.Indexer.{selection_of}
@@ -16,6 +16,8 @@ use Rattle.zarrs_codec_chain.specs.declared.chunk_coder.ChunkCoder.{ChunkCoder}
 use Rattle.zarrs_chunk.specs.Answer.{AnswersBy, GivesBy, memory, memory_or_fault, seen, is_fault}
 use Rattle.zarrs_chunk.specs.Runs.{EndWithin, joined_runs}
 use Rattle.zarrs_chunk.specs.Selection.{Selection, bounds_of}
+use Rattle.zarrs_chunk.specs.Tuples.{is_box_inside}
+use Rattle.zarrs_array_regions.specs.WindowLaws.{region_places}
 use Rattle.zarrs_chunk.specs.declared.codec_error.CodecError.{CodecError}
 use Rattle.zarrs_data_type.specs.Element.{Chunk}
 use Rattle.zarrs_data_type.specs.Form.{form_of}
@@ -91,13 +93,18 @@ abbrev pub source_runs : {B : Type 0} {b : _} → BytesCodecs B → ChunkCoder B
 source_runs f coder source runs =
     source_places f (plain_chain coder.chain.now) coder.encoded coder.data_type coder.fill_value coder.representation source (joined_runs runs)
 
+-- a container of the elements at places of the moved chunk is given, by what answers rest on, or the first error; lack of memory or a failure of the handle may come in its place
+abbrev pub ReadsSourcePlaces : {B : Type 0} {b : _} → BytesCodecs B → ChunkCoder B b → Source → List ℕ → Result Held CodecError → Type 0
+ReadsSourcePlaces f coder source places result =
+    AnswersBy memory_or_fault (Holds coder.data_type) result (source_places f (plain_chain coder.chain.now) coder.encoded coder.data_type coder.fill_value coder.representation source places)
+
 -- a container of them is given, or the first error
 abbrev pub GivesSource : {B : Type 0} {b : _} → BytesCodecs B → ChunkCoder B b → Source → List (ℕ × ℕ) → Result Held CodecError → Type 0
 GivesSource f coder source runs result = GivesBy (Holds coder.data_type) result (source_runs f coder source runs)
 
 -- the same through a handle, which may fail
 abbrev pub ReadsSource : {B : Type 0} {b : _} → BytesCodecs B → ChunkCoder B b → Source → List (ℕ × ℕ) → Result Held CodecError → Type 0
-ReadsSource f coder source runs result = AnswersBy memory_or_fault (Holds coder.data_type) result (source_runs f coder source runs)
+ReadsSource f coder source runs result = ReadsSourcePlaces f coder source (joined_runs runs) result
 
 -- by what the handle keeps
 abbrev pub ReadsStored : {B : Type 0} {b : _} → BytesCodecs B → ChunkCoder B b → StorageState → List (ℕ × ℕ) → Result Held CodecError → Type 0
@@ -108,11 +115,19 @@ abbrev pub GivesOpened : {B : Type 0} {b : _} → BytesCodecs B → ChunkCoder B
 GivesOpened f coder value runs result =
     GivesBy (Holds coder.data_type) result (seen (λ chunk. select chunk (joined_runs runs)) (opened_chunk f (plain_chain coder.chain.now) (form_of coder.encoded coder.data_type coder.fill_value) coder.representation value))
 
--- no failure of the handle comes where a read asks for a part of the value alone and the bytes are sure that it rests on, with a shard's index at hand or without
-abbrev pub SureSourceBy : {B T : Type 0} {b : _} → Bool → ChunkCoder B b → StorageState → List (ℕ × ℕ) → Result T CodecError → Type 0
-SureSourceBy {b = b} known coder before runs result =
+-- no failure of the handle comes where a read of places asks for a part of the value alone and the bytes are sure that it rests on, with a shard's index at hand or without
+abbrev pub SurePlacesBy : {B T : Type 0} {b : _} → Bool → ChunkCoder B b → StorageState → List ℕ → Result T CodecError → Type 0
+SurePlacesBy {b = b} known coder before places result =
     asks_in_part (plain_chain coder.chain.now).bytes_to_bytes (plain_chain coder.chain.now).array_to_bytes ≡ true
-    → IfOk (rests_where known b.functions (plain_chain coder.chain.now).array_to_bytes coder.encoded coder.data_type coder.fill_value before.value (joined_runs runs)) (λ numbers. are_sure before.sure numbers ≡ true → is_fault result ≡ false)
+    → IfOk (rests_where known b.functions (plain_chain coder.chain.now).array_to_bytes coder.encoded coder.data_type coder.fill_value before.value places) (λ numbers. are_sure before.sure numbers ≡ true → is_fault result ≡ false)
+
+-- the same, by what it keeps
+abbrev pub SurePlacesOf : {B T : Type 0} {b : _} → ChunkCoder B b → StorageState → List ℕ → Result T CodecError → Type 0
+SurePlacesOf coder before places result = SurePlacesBy (coder_knows_index coder) coder before places result
+
+-- the same, of runs of places
+abbrev pub SureSourceBy : {B T : Type 0} {b : _} → Bool → ChunkCoder B b → StorageState → List (ℕ × ℕ) → Result T CodecError → Type 0
+SureSourceBy known coder before runs result = SurePlacesBy known coder before (joined_runs runs) result
 
 -- the same, by what it keeps
 abbrev pub SureSource : {B T : Type 0} {b : _} → ChunkCoder B b → StorageState → List (ℕ × ℕ) → Result T CodecError → Type 0
@@ -167,3 +182,9 @@ coder_standing coder region = standing_places (plain_chain coder.chain.now).arra
 pub record IsWrittenRegion {B : Type 0} {b : _} (coder : ChunkCoder B b) (indexer : Indexer) (region : Region) : Type 0 where
   pub kept : IsKeptRegion coder indexer region
   pub places : (order : Option Endianness) → IsInPlace coder order → planned_order (coder_form coder) (selection_of indexer) ≡ Ok (coder_standing coder region)
+
+-- A region goes to this box of the chunk that the array-to-bytes codec gets, inside it, and as large.
+pub record StandsAsBox {B : Type 0} {b : _} (coder : ChunkCoder B b) (region box : Region) : Type 0 where
+  pub places : coder_standing coder region ≡ region_places coder.encoded box
+  pub inside : is_box_inside coder.encoded box.starts box.lengths ≡ true
+  pub filled : 0 < product box.lengths

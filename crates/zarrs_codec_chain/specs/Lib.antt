@@ -26,6 +26,7 @@ pub mod ShardRead
 pub mod BoxRows
 pub mod FewerExcused
 pub mod SpanReads
+pub mod BoxReads
 pub mod JointReads
 pub mod KeptIndex
 pub use Rattle.zarrs_chunk.specs.Answer

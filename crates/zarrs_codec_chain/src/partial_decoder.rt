@@ -6,4 +6,5 @@ pub(crate) mod codec_read;
 pub(crate) mod encoded_runs;
 pub(crate) mod fill_runs;
 pub(crate) mod make_cache;
+mod region_reader;
 mod source_reads;

@@ -5,6 +5,7 @@ mod inner_reads;
 mod joint_reads;
 pub(crate) mod kept_index;
 mod leaf_reads;
+mod part_reads;
 pub(crate) mod shard_index;
 pub(crate) mod shard_runs;
 mod span_bytes;

@@ -42,14 +42,19 @@ fn count(
     counted(done, held, &decoder.into_handle())
 }
 
-fn recording(alloc: Global) -> Result<RecordingHandle, CodecError> {
-    Ok(RecordingHandle::new(alloc, Some(FIRST_OF_TWO.to_vec(alloc)?)))
+fn recording(alloc: Global, value: &[u8]) -> Result<RecordingHandle, CodecError> {
+    Ok(RecordingHandle::new(alloc, Some(value.to_vec(alloc)?)))
 }
 
-/// How many reading calls a decoder makes that reads the part so many times, and how many bytes are
-/// kept then.
-fn calls_and_held(alloc: Global, case: &Case, times: u32) -> Result<(u64, usize), CodecError> {
-    match decoder(alloc, &case.chunk, recording(alloc)?) {
+/// How many reading calls a decoder makes that reads the part of a value so many times, and how many
+/// bytes are kept then.
+fn calls_and_held(
+    alloc: Global,
+    case: &Case,
+    value: &[u8],
+    times: u32,
+) -> Result<(u64, usize), CodecError> {
+    match decoder(alloc, &case.chunk, recording(alloc, value)?) {
         Ok(decoder) => count(alloc, decoder, case, times),
         Err(refused) => Err(refused.error),
     }
@@ -87,16 +92,35 @@ const READS: &'static [Reads] = &[
     },
 ];
 
-fn reads_the_index_once(rt: &impl Abort, alloc: Global, case: &Case) -> Result<(), CodecError> {
-    for row in READS.iter() {
-        let came = calls_and_held(alloc, case, row.times)?;
-        is(
-            rt,
-            "an element",
-            "calls, held",
-            &came,
-            &(row.calls, row.held),
-        );
+/// Both inner chunks are stored, and their bytes are those of one call.
+const BOTH_READS: &'static [Reads] = &[
+    Reads {
+        times: 1,
+        calls: 3,
+        held: 72,
+    },
+    Reads {
+        times: 2,
+        calls: 4,
+        held: 72,
+    },
+];
+
+/// The inner chunks 1, 2, 3, 4 and 5, 6, 7, 8, and where they stand.
+const BOTH_OF_TWO: &'static [u8] =
+    b"\x01\x02\x03\x04\x05\x06\x07\x08\0\0\0\0\0\0\0\0\x04\0\0\0\0\0\0\0\x04\0\0\0\0\0\0\0\x04\0\0\0\0\0\0\0";
+
+fn calls_are(
+    rt: &impl Abort,
+    alloc: Global,
+    name: &str,
+    case: &Case,
+    value: &[u8],
+    rows: &[Reads],
+) -> Result<(), CodecError> {
+    for row in rows {
+        let came = calls_and_held(alloc, case, value, row.times)?;
+        is(rt, name, "calls, held", &came, &(row.calls, row.held));
     }
     Ok(())
 }
@@ -105,5 +129,12 @@ fn reads_the_index_once(rt: &impl Abort, alloc: Global, case: &Case) -> Result<(
 fn a_decoder_reads_the_index_once(rt: HostRuntime) -> Result<(), CodecError> {
     let part = r#"{"at":{"ranges":[[1,2],[0,1]]},"data":["03"]}"#;
     let case = case_of(rt.alloc(), SHARD, part)?;
-    reads_the_index_once(&rt, rt.alloc(), &case)
+    calls_are(&rt, rt.alloc(), "an element", &case, FIRST_OF_TWO, READS)
+}
+
+#[test]
+fn a_box_of_two_inner_chunks_is_read_by_one_call(rt: HostRuntime) -> Result<(), CodecError> {
+    let part = r#"{"at":{"ranges":[[0,2],[1,3]]},"data":["02","05","04","07"]}"#;
+    let case = case_of(rt.alloc(), SHARD, part)?;
+    calls_are(&rt, rt.alloc(), "a box", &case, BOTH_OF_TWO, BOTH_READS)
 }

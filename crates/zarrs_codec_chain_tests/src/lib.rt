@@ -24,6 +24,8 @@ mod edits;
 #[cfg(test)]
 mod fenced;
 #[cfg(test)]
+mod handles;
+#[cfg(test)]
 mod kept_indexes;
 #[cfg(test)]
 mod reads;

@@ -3,9 +3,7 @@ ghost use Rattle.std.specs.Prelude.{◌≡◌, ◌<◌, ◌+◌, ◌*◌, ◌^�
 ghost use Rattle.zarrs_chunk.specs.Answer.{Gives, GivesItems, is_fault};
 ghost use Rattle.zarrs_chunk.specs.ChunkShape.{product};
 ghost use Rattle.zarrs_chunk.specs.Indexer.{selection_of};
-ghost use Rattle.zarrs_chunk.specs.Selection.{subset as subset_of};
 ghost use Rattle.zarrs_chunk.specs.Runs.{joined_runs, AreApart, places_in};
-ghost use Rattle.zarrs_chunk.specs.Tuples.{is_box_inside};
 ghost use Rattle.zarrs_array_bytes.specs.Tight.{IsTight};
 ghost use Rattle.zarrs_codec.specs.HandleCalls.{NeverFailsIf, Tells};
 ghost use Rattle.zarrs_codec.specs.StorageState.{after_reading};
@@ -17,13 +15,13 @@ ghost use Rattle.zarrs_chain.specs.ChainView.{plain_chain, plain_codec, plain_sh
 
 use crate::chunk_coder::ChunkCoder;
 use crate::partial_decoder::cache::Cache;
-use crate::partial_decoder::codec_read::{codec_in_place, read_box};
+use crate::partial_decoder::codec_read::codec_in_place;
 use crate::partial_decoder::encoded_runs::encoded_runs;
 use crate::sharding::kept_index::stored_index;
 use crate::sharding::shard_index::ShardIndex;
 use std::alloc::Global;
 use zarrs_array_bytes::ArrayBytes;
-use zarrs_array_regions::{decoded_window, filled_box, kept_region, region_runs};
+use zarrs_array_regions::{filled_box, keeps_regions, kept_region};
 use zarrs_array_to_array::encoded_places;
 use zarrs_bytes::BytesCodec;
 use zarrs_chain::stages::Form;
@@ -32,7 +30,7 @@ use zarrs_chunk::{ArraySubset, CodecError, Indexer};
 use zarrs_codec::{BytesPartialDecoderTraits, BytesToBytesCodecTraits, CodecTraits};
 
 impl<'a, B: BytesToBytesCodecTraits> ChunkCoder<'a, B> {
-    ghost use Rattle.zarrs_codec_chain.specs.ChunkCoder.{IsFilledFrom, IsIndexFrom, coder_form, coder_is_cached, coder_knows_index, coder_wants_index, IsKeptRegion, AreInside, CoderAsksOnce, LeavesAlone, ReadsSelected, RefusedAtIndexer, SureSelected, IsInPlace, coder_keeps_regions, reader_places, reader_source};
+    ghost use Rattle.zarrs_codec_chain.specs.ChunkCoder.{IsFilledFrom, IsIndexFrom, coder_form, coder_is_cached, coder_knows_index, coder_wants_index, IsKeptRegion, AreInside, CoderAsksOnce, LeavesAlone, ReadsSelected, RefusedAtIndexer, SureSelected, IsInPlace, reader_places, reader_source};
 
     /// Whether all codecs of the chain decode a part.
     pub(crate) fn decodes_parts(&self) -> bool
@@ -86,43 +84,15 @@ impl<'a, B: BytesToBytesCodecTraits> ChunkCoder<'a, B> {
         kept_region(self.chain.array_to_array_codecs(), &self.shape, indexer)
     }
 
-    /// The elements of a region that goes through the array-to-array codecs as one, in row-major
-    /// order: those of its window in the moved chunk are read, by the window's own runs, and
-    /// decoded. Errors, the first that holds, `OutOfMemory` aside: `Storage`; those of the
-    /// bytes-to-bytes codecs that a cache leaves, and those that `partial_decode` of
-    /// `ArrayPartialDecoder` names of the array-to-bytes codec.
-    fn read_region<H: BytesPartialDecoderTraits>(
-        &self,
-        alloc: Global,
-        handle: &mut H,
-        region: &ArraySubset,
-    ) -> Result<ArrayBytes<'static>, CodecError>
-        requires inside { is_box_inside self.now.shape region.now.starts region.now.lengths ≡ true }
-        requires filled { 0 < product region.now.lengths }
-        requires region_kept { coder_keeps_regions self.now ≡ true }
-        requires index { IsIndexFrom B.functions self.now (H.state handle.old).value }
-        ensures answer { ReadsSelected self.now (H.state handle.old) (subset_of region.now) result }
-        ensures tight { IfOk result (IsTight self.now.data_type) }
-        ensures sure { SureSelected self.now (H.state handle.old) (subset_of region.now) result }
-        ensures alone { LeavesAlone self.now handle.old handle.new }
-        ensures counted { CoderAsksOnce H.calls self.now handle.old handle.new result }
-        ensures left { H.state handle.new ≡ after_reading result (H.state handle.old) }
-        ensures same_reference { H.lent handle.new ≡ H.lent handle.old }
-        ensures no_fault_if_cached { NeverFailsIf (is_cache self.now.cache) result }
+    /// The box that the indexer selects, where it has elements and goes through the array-to-array
+    /// codecs, if there are any, as a box.
+    fn selected_box<'i>(&self, indexer: &'i Indexer) -> Option<&'i ArraySubset>
+        ensures region_kept { IfSome result (λ box. IsKeptRegion self.now indexer.now box.now) }
     {
-        self.is_sound();
-        let codecs = self.chain.array_to_array_codecs();
-        let runs = region_runs(alloc, codecs, &self.shape, region)?;
-        let held = self.read_runs(alloc, handle, &runs)?;
-        decoded_window(
-            alloc,
-            codecs,
-            &self.shape,
-            region,
-            held,
-            &self.data_type,
-            &self.fill_value,
-        )
+        if !keeps_regions(self.chain.array_to_array_codecs()) {
+            return None;
+        }
+        filled_box(&self.shape, indexer)
     }
 
     /// The codec `bytes`, where the indexer is a list of tuples whose bytes are asked for by
@@ -164,54 +134,6 @@ impl<'a, B: BytesToBytesCodecTraits> ChunkCoder<'a, B> {
         codec.read_places(alloc, handle, &self.data_type, &self.fill_value, places)
     }
 
-    /// The index that is kept of a shard that is stored, and the box that the indexer selects of it,
-    /// where that has elements and no array-to-array codec moves them.
-    fn shard_box<'c>(&'c self, indexer: &'c Indexer) -> Option<(&'c ShardIndex, &'c ArraySubset)>
-        ensures kept { IfSome result (λ it. self.now.cache ≡ Cache.Index (Some it.0.now)) }
-        ensures filled { IfSome result (λ it. IsKeptRegion self.now indexer.now it.1.now) }
-        ensures stays { IfSome result (λ _. (plain_chain self.now.chain.now).array_to_array ≡ []) }
-    {
-        match (&self.cache, self.chain.array_to_array_codecs()) {
-            (Cache::Index(Some(index)), []) => {
-                let region = filled_box(&self.shape, indexer)?;
-                Some((index, region))
-            }
-            _ => None,
-        }
-    }
-
-    /// The elements of a box of a shard, in row-major order, by the index that is kept. Errors, the
-    /// first that holds, `OutOfMemory` aside: `Storage`; those that `partial_decode` of
-    /// `ArrayPartialDecoder` names of `sharding_indexed`, but for those of the index.
-    fn read_box<H: BytesPartialDecoderTraits>(
-        &self,
-        alloc: Global,
-        handle: &mut H,
-        index: &ShardIndex,
-        region: &ArraySubset,
-    ) -> Result<ArrayBytes<'static>, CodecError>
-        requires kept { self.now.cache ≡ Cache.Index (Some index.now) }
-        requires index { IsIndexFrom B.functions self.now (H.state handle.old).value }
-        requires stays { (plain_chain self.now.chain.now).array_to_array ≡ [] }
-        requires inside { is_box_inside self.now.shape region.now.starts region.now.lengths ≡ true }
-        requires filled { 0 < product region.now.lengths }
-        ensures answer { ReadsSelected self.now (H.state handle.old) (subset_of region.now) result }
-        ensures tight { IfOk result (IsTight self.now.data_type) }
-        ensures sure { SureSelected self.now (H.state handle.old) (subset_of region.now) result }
-        ensures counted { CoderAsksOnce H.calls self.now handle.old handle.new result }
-        ensures left { H.state handle.new ≡ after_reading result (H.state handle.old) }
-        ensures same_reference { H.lent handle.new ≡ H.lent handle.old }
-    {
-        self.is_sound();
-        let form = Form {
-            shape: &self.encoded,
-            data_type: &self.data_type,
-            fill_value: &self.fill_value,
-        };
-        let codec = self.chain.array_to_bytes_codec();
-        read_box::<H, B>(alloc, codec, handle, index, form, region)
-    }
-
     /// The elements that the indexer selects, in its order. Errors, the first that holds,
     /// `OutOfMemory` aside: those of `Indexer::check`; `Storage`; those of the bytes-to-bytes
     /// codecs that a cache leaves, and those that `partial_decode` of `ArrayPartialDecoder` names
@@ -235,14 +157,11 @@ impl<'a, B: BytesToBytesCodecTraits> ChunkCoder<'a, B> {
         ensures same_reference { H.lent handle.new ≡ H.lent handle.old }
         ensures no_fault_if_cached { NeverFailsIf (is_cache self.now.cache) result }
     {
-        if let Some(region) = self.kept_region(indexer) {
+        if let Some(region) = self.selected_box(indexer) {
             return self.read_region(alloc, handle, region);
         }
         if let Some(codec) = self.lister(indexer) {
             return self.read_listed(alloc, codec, handle, indexer);
-        }
-        if let Some((index, region)) = self.shard_box(indexer) {
-            return self.read_box(alloc, handle, index, region);
         }
         let runs = self.runs(alloc, indexer)?;
         self.read_runs(alloc, handle, &runs)

@@ -103,7 +103,7 @@ fn moved_in_span<H: ReadAheadTraits, B: BytesToBytesCodecTraits>(
 /// The elements of a region that goes through the array-to-array codecs as one, in row-major order. Its
 /// runs are let go of before what is read of them is decoded.
 #[cycle(read)]
-fn region_in_span<H: ReadAheadTraits, B: BytesToBytesCodecTraits>(
+pub(crate) fn region_in_span<H: ReadAheadTraits, B: BytesToBytesCodecTraits>(
     alloc: Global,
     chain: &CodecChain<B>,
     handle: &mut H,

@@ -296,8 +296,8 @@ fn are_few(ranges: &[ByteRange]) -> bool
     ranges.len() <= 1024 || room_for(u64::MAX, ranges) / 16 >= ranges.len()
 }
 
-/// Reads ahead what reads of groups ask for, where it is known of all of them. Errors: `OutOfMemory`;
-/// `Storage`, but never where all bytes are sure that these reads rest on.
+/// Reads ahead what reads of groups ask for, where it is known of all of them, and the value isn't in
+/// memory. Errors: `OutOfMemory`; `Storage`, but never where all bytes are sure that these reads rest on.
 pub(crate) fn read_groups_ahead<H: ReadAheadTraits, B: BytesToBytesCodecTraits>(
     alloc: Global,
     chain: &CodecChain<B>,
@@ -321,6 +321,9 @@ pub(crate) fn read_groups_ahead<H: ReadAheadTraits, B: BytesToBytesCodecTraits>(
     ensures same_reference { H.lent handle.new ≡ H.lent handle.old }
 {
     if span.held.is_some() || groups.len() < 2 {
+        return Ok(());
+    }
+    if handle.value_in_memory().is_some() {
         return Ok(());
     }
     match group_ranges(alloc, chain, span, numbers, groups, form, encoded, measured)? {

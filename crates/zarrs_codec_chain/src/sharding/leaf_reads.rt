@@ -32,7 +32,7 @@ pub(crate) fn part_of(bytes: &[u8], at: u64, len: u64) -> &[u8]
     &bytes[at as usize..(at + len) as usize]
 }
 
-/// By what the places rest on alone.
+/// By what the places rest on alone: bytes in memory are taken from there.
 fn part_in_span<H: BytesPartialDecoderTraits, B: BytesToBytesCodecTraits>(
     alloc: Global,
     codec: &ArrayToBytesCodec<B>,
@@ -57,16 +57,16 @@ fn part_in_span<H: BytesPartialDecoderTraits, B: BytesToBytesCodecTraits>(
     ensures left { H.state handle.new ≡ after_reading result (H.state handle.old) }
     ensures same_reference { H.lent handle.new ≡ H.lent handle.old }
 {
-    match span.held {
-        Some(bytes) => {
-            let mut lent = LentHandle::new(Some(part_of(bytes, span.at, span.len)));
-            plain_runs::<LentHandle<'_>, B>(alloc, codec, &mut lent, form, runs)
-        }
-        None => {
-            let mut below = SpanHandle::new(handle, span.at, span.len);
-            plain_runs::<SpanHandle<'_, H>, B>(alloc, codec, &mut below, form, runs)
-        }
+    if let Some(bytes) = span.held {
+        let mut lent = LentHandle::new(Some(part_of(bytes, span.at, span.len)));
+        return plain_runs::<LentHandle<'_>, B>(alloc, codec, &mut lent, form, runs);
     }
+    if let Some(bytes) = handle.value_in_memory() {
+        let mut lent = LentHandle::new(Some(part_of(bytes, span.at, span.len)));
+        return plain_runs::<LentHandle<'_>, B>(alloc, codec, &mut lent, form, runs);
+    }
+    let mut below = SpanHandle::new(handle, span.at, span.len);
+    plain_runs::<SpanHandle<'_, H>, B>(alloc, codec, &mut below, form, runs)
 }
 
 /// The elements at the places of these runs of the chunk that a value stands for.

@@ -13,11 +13,6 @@ returns-in-Some-clause-indexer_first g c =
     let form = coder_form c.args.self.now in
     kept_bounds form.chain.array_to_array form.sizes (selection_of c.args.indexer.now) c.in-Some.region.now ((c.in-Some.ensures {u = tt}).region_kept) _
 
-pub returns-in-Some-shard_box-clause-indexer_first : goal.returns-in-Some-shard_box-clause-indexer_first
-returns-in-Some-shard_box-clause-indexer_first g c =
-    let form = coder_form c.args.self.now in
-    kept_bounds form.chain.array_to_array form.sizes (selection_of c.args.indexer.now) c.in-Some-shard_box.region.now ((c.in-Some-shard_box.ensures {u = tt}).filled) _
-
 pub returns-in_err-runs-clause-indexer_first : goal.returns-in_err-runs-clause-indexer_first
 returns-in_err-runs-clause-indexer_first g c =
     let form = coder_form c.args.self.now in
