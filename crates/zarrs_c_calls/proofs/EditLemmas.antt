@@ -17,7 +17,7 @@ use Rattle.zarrs_array_to_array.proofs.MadeSound.{same_value}
 use Rattle.zarrs_json.specs.Header.{Header, header_form}
 use Rattle.zarrs_json.specs.HeaderRead.{header_seen}
 use Rattle.zarrs_json.specs.declared.header.ChunkHeader.{ChunkHeader}
-use Rattle.zarrs_codec_chain.proofs.MadeCoders.{no_fault}
+use Rattle.zarrs_codecs.proofs.MadeCoders.{no_fault}
 use Rattle.zarrs_c_calls.specs.BufferHandle.{buffer_state}
 use Rattle.zarrs_c_calls.specs.Buffers.{Buffers, buffers}
 use Rattle.zarrs_c_calls.specs.Calls.{header_given}

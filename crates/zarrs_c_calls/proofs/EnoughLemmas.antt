@@ -24,16 +24,16 @@ use Rattle.zarrs_chain_meaning.specs.Laws.{IsChainOfMappings}
 use Rattle.zarrs_chain_meaning.specs.CodecMeaning.{PlainCodec, chain_representation}
 use Rattle.zarrs_chain_meaning.specs.Meaning.{Meaning}
 use Rattle.zarrs_bytes.proofs.Coding.{bind_ok, ok}
-use Rattle.zarrs_codec_chain.specs.ChunkRead.{IsReadPlan, encoded_places, form_in_place, planned_places, planned_region, reads_places, standing_places}
+use Rattle.zarrs_codecs.specs.ChunkRead.{IsReadPlan, encoded_places, form_in_place, planned_places, planned_region, reads_places, standing_places}
 use Rattle.zarrs_chain_meaning.specs.ChunkForm.{ChunkForm}
 use Rattle.zarrs_data_type.specs.Form.{form_of}
-use Rattle.zarrs_codec_chain.specs.CodecPart.{IsCodecPlan, codec_rests_on, Part}
-use Rattle.zarrs_codec_chain.proofs.LawfulPart.{part_laws}
-use Rattle.zarrs_codec_chain.proofs.PlaceWrites.{bytes_alone}
-use Rattle.zarrs_codec_chain.proofs.PlannedPlaces.{planned_are_meant, standing_is}
+use Rattle.zarrs_codecs.specs.CodecPart.{IsCodecPlan, codec_rests_on, Part}
+use Rattle.zarrs_codecs.proofs.LawfulPart.{part_laws}
+use Rattle.zarrs_codecs.proofs.PlaceWrites.{bytes_alone}
+use Rattle.zarrs_codecs.proofs.PlannedPlaces.{planned_are_meant, standing_is}
 use Rattle.zarrs_json.specs.Header.{Header, header_form}
 use Rattle.zarrs_lent_handles.specs.Pieces.{is_at_hand}
-use Rattle.zarrs_codec_chain.specs.PlannedReads.{ArePlanned}
+use Rattle.zarrs_codecs.specs.PlannedReads.{ArePlanned}
 use Rattle.zarrs_c_calls.specs.Codes.{codec_call_answer}
 use Rattle.zarrs_c_calls.specs.Enough.{PlanIsEnough}
 use Rattle.zarrs_c_calls.specs.Plans.{Planned, places_planned}

@@ -9,11 +9,11 @@ use Rattle.zarrs_array_bytes.specs.Tight.{IsTight}
 use Rattle.zarrs_array_bytes.specs.Validity.{Holds}
 use Rattle.zarrs_json.specs.KnownBytesCodec.{known_codecs}
 use Rattle.zarrs_json.specs.Header.{Header, header_form}
-use Rattle.zarrs_codec_chain.proofs.MadeCoders.{excused_less}
+use Rattle.zarrs_codecs.proofs.MadeCoders.{excused_less}
 use Rattle.zarrs_lent_handles.specs.Elsewhere.{own_bytes}
 use Rattle.zarrs_lent_handles.proofs.ElsewhereLemmas.{each_has_pieces}
 use Rattle.zarrs_lent_handles.specs.Pieces.{PlainPiece, HasPieces, are_apart, are_at_hand}
-use Rattle.zarrs_codec_chain.specs.PlannedReads.{ArePlanned}
+use Rattle.zarrs_codecs.specs.PlannedReads.{ArePlanned}
 use Rattle.zarrs_c_calls.specs.Buffers.{Buffers, Room, crossed}
 use Rattle.zarrs_c_calls.specs.Calls.{header_given}
 use Rattle.zarrs_c_calls.specs.Codes.{IsRefusal, cause_code, codec_call_answer}

@@ -14,18 +14,18 @@ use Rattle.zarrs_codec.specs.StorageState.{StorageState}
 use Rattle.zarrs_codec.specs.declared.bytes_representation.BytesRepresentation.{BytesRepresentation}
 use Rattle.zarrs_chain_meaning.specs.Chain.{taken_form}
 use Rattle.zarrs_bytes.proofs.Coding.{ok}
-use Rattle.zarrs_codec_chain.specs.ChunkRead.{asks_in_part, stored_read}
-use Rattle.zarrs_codec_chain.specs.ChunkSource.{Source, bytes_above, source_made, source_made_at}
-use Rattle.zarrs_codec_chain.proofs.CachePlaces.{no_place, no_stage}
+use Rattle.zarrs_codecs.specs.ChunkRead.{asks_in_part, stored_read}
+use Rattle.zarrs_codecs.specs.ChunkSource.{Source, bytes_above, source_made, source_made_at}
+use Rattle.zarrs_codecs.proofs.CachePlaces.{no_place, no_stage}
 use Rattle.zarrs_lent_handles.specs.PiecesHandle.{made_around}
 use Rattle.zarrs_lent_handles.specs.Pieces.{PlainPiece, HasPieces, are_apart, are_at_hand, byte_around, is_at_hand, value_around}
 use Rattle.zarrs_lent_handles.proofs.ElsewhereLemmas.{with_piece}
-use Rattle.zarrs_codec_chain.specs.PlannedReads.{ArePlanned}
-use Rattle.zarrs_codec_chain.proofs.PlannedAlike.{planned_is_asked, sized_alike}
-use Rattle.zarrs_codec_chain.proofs.SizedAlike.{passes_at}
+use Rattle.zarrs_codecs.specs.PlannedReads.{ArePlanned}
+use Rattle.zarrs_codecs.proofs.PlannedAlike.{planned_is_asked, sized_alike}
+use Rattle.zarrs_codecs.proofs.SizedAlike.{passes_at}
 use Rattle.zarrs_c_calls.specs.Reads.{form_read}
 use Rattle.zarrs_json.specs.Header.{HeaderForm}
-use Rattle.zarrs_codec_chain.proofs.MadeCoders.{passes, stops}
+use Rattle.zarrs_codecs.proofs.MadeCoders.{passes, stops}
 
 -- ---- the bytes at hand
 

@@ -18,9 +18,9 @@ use Rattle.zarrs_json.specs.KnownBytesCodec.{known_codecs}
 use Rattle.zarrs_codec.specs.StorageState.{StorageState, are_sure}
 use Rattle.zarrs_lent_handles.proofs.PieceLemmas.{passes, value_length}
 use Rattle.zarrs_lent_handles.specs.Pieces.{PlainPiece, are_apart, are_at_hand, byte_around, is_at_hand, value_around}
-use Rattle.zarrs_codec_chain.specs.ChunkRead.{ReadsStoredChunk, are_asked_sure, asks_in_part, read_rests_on}
-use Rattle.zarrs_codec_chain.specs.PlannedReads.{ArePlanned}
-use Rattle.zarrs_codec_chain.proofs.PlannedAlike.{planned_is_asked}
+use Rattle.zarrs_codecs.specs.ChunkRead.{ReadsStoredChunk, are_asked_sure, asks_in_part, read_rests_on}
+use Rattle.zarrs_codecs.specs.PlannedReads.{ArePlanned}
+use Rattle.zarrs_codecs.proofs.PlannedAlike.{planned_is_asked}
 use Rattle.zarrs_c_calls.specs.Fetched.{AsksSurely}
 use Rattle.zarrs_c_calls.specs.LackingByte.{LacksByte, apart_read, whole_value}
 use Rattle.zarrs_c_calls.specs.Reads.{form_read}

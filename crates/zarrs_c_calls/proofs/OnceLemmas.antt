@@ -6,7 +6,7 @@ use Rattle.zarrs_chunk.specs.declared.codec_error.CodecError.{CodecError}
 use Rattle.zarrs_codec.specs.ArrayWriter.{IsRefusedWrite}
 use Rattle.zarrs_codec.specs.Lent.{Lent, whole_reference}
 use Rattle.zarrs_codec.specs.StorageState.{StorageState, after_writing, apart_from_value, count_if}
-use Rattle.zarrs_codec_chain.proofs.MadeCoders.{excused_less, no_fault}
+use Rattle.zarrs_codecs.proofs.MadeCoders.{excused_less, no_fault}
 use Rattle.zarrs_c_calls.proofs.EditLemmas.{first_name}
 use Rattle.zarrs_c_calls.specs.OneWriteHandle.{accepted, fresh_state, newly_written, once_state, once_value, once_written}
 use Rattle.zarrs_c_calls.specs.Written.{is_written, replaced, value_written}

@@ -7,7 +7,7 @@ use Rattle.zarrs_chunk.specs.declared.codec_error.CodecError.{CodecError}
 use Rattle.zarrs_codec.specs.ByteSpan.{ByteSpan}
 use Rattle.zarrs_json.specs.KnownBytesCodec.{known_codecs}
 use Rattle.zarrs_chain_meaning.specs.CodecMeaning.{chain_representation}
-use Rattle.zarrs_codec_chain.specs.ChunkRead.{IsReadPlan, planned_places}
+use Rattle.zarrs_codecs.specs.ChunkRead.{IsReadPlan, planned_places}
 use Rattle.zarrs_json.specs.Header.{Header, header_form, HeaderForm}
 use Rattle.zarrs_lent_handles.specs.Joined.{Joins}
 use Rattle.zarrs_c_calls.specs.Calls.{header_given}
@@ -18,7 +18,7 @@ use Rattle.zarrs_c_calls.specs.Selections.{selection_given}
 use Rattle.zarrs_c_calls.specs.Told.{ToldBytes}
 use Rattle.zarrs_c_calls.specs.declared.cause.Cause.{Cause}
 use Rattle.zarrs_c_calls.proofs.CodeLemmas.{refused}
-use Rattle.zarrs_codec_chain.proofs.MadeCoders.{fits}
+use Rattle.zarrs_codecs.proofs.MadeCoders.{fits}
 
 -- ---- by a coder that is made for it
 

@@ -31,12 +31,12 @@ use Rattle.zarrs_lent_handles.specs.declared.pieces_handle.PiecesHandle.{PiecesH
 use Rattle.zarrs_lent_handles.proofs.LackingLemmas.{all_alike, all_lacking, each_passes}
 use Rattle.zarrs_lent_handles.proofs.PieceLemmas.{passes, value_length}
 use Rattle.zarrs_chain_meaning.specs.Chain.{taken_form}
-use Rattle.zarrs_codec_chain.specs.ChunkRead.{IsReadPlan, ReadsStoredChunk, are_asked_sure, asks_in_part, encoded_places, planned_places, planned_region, reads_places, stored_read, standing_places}
-use Rattle.zarrs_codec_chain.specs.ChunkSource.{Source, source_made}
-use Rattle.zarrs_codec_chain.specs.CodecPart.{codec_rests_on}
-use Rattle.zarrs_codec_chain.specs.PlannedReads.{ArePlanned, planned_bytes}
-use Rattle.zarrs_codec_chain.proofs.MadeCoders.{excused_less, passes as goes_on}
-use Rattle.zarrs_codec_chain.proofs.PlannedAlike.{planned_is_asked}
+use Rattle.zarrs_codecs.specs.ChunkRead.{IsReadPlan, ReadsStoredChunk, are_asked_sure, asks_in_part, encoded_places, planned_places, planned_region, reads_places, stored_read, standing_places}
+use Rattle.zarrs_codecs.specs.ChunkSource.{Source, source_made}
+use Rattle.zarrs_codecs.specs.CodecPart.{codec_rests_on}
+use Rattle.zarrs_codecs.specs.PlannedReads.{ArePlanned, planned_bytes}
+use Rattle.zarrs_codecs.proofs.MadeCoders.{excused_less, passes as goes_on}
+use Rattle.zarrs_codecs.proofs.PlannedAlike.{planned_is_asked}
 use Rattle.zarrs_c_calls.specs.LackingByte.{LacksByte, apart_read, whole_value}
 use Rattle.zarrs_c_calls.specs.LackingRanges.{AnswersKept, AnswersMade, AnswersOver, AnswersPartLacking, AreKept, AreLackingTo, AreOfLackedOrKept, IsLackingOf, IsSoundForm}
 use Rattle.zarrs_c_calls.specs.Plans.{range_numbers}

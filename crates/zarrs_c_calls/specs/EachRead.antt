@@ -7,9 +7,9 @@ use Rattle.zarrs_array_bytes.specs.Held.{Held}
 use Rattle.zarrs_json.specs.KnownBytesCodec.{known_codecs, known_reads}
 use Rattle.zarrs_json.specs.declared.known_bytes_codec.KnownBytesCodec.{KnownBytesCodec}
 use Rattle.zarrs_chain_meaning.specs.ChunkForm.{ChunkForm}
-use Rattle.zarrs_codec_chain.specs.ChunkSource.{source_made}
-use Rattle.zarrs_codec_chain.specs.PartialDecoder.{handle_of}
-use Rattle.zarrs_codec_chain.specs.declared.partial_decoder.array_partial_decoder.ArrayPartialDecoder.{ArrayPartialDecoder}
+use Rattle.zarrs_codecs.specs.ChunkSource.{source_made}
+use Rattle.zarrs_codecs.specs.PartialDecoder.{handle_of}
+use Rattle.zarrs_codecs.specs.declared.partial_decoder.array_partial_decoder.ArrayPartialDecoder.{ArrayPartialDecoder}
 use Rattle.zarrs_lent_handles.specs.LentHandle.{lent_value}
 use Rattle.zarrs_lent_handles.specs.declared.lent_handle.LentHandle.{LentHandle}
 use Rattle.zarrs_json.specs.Header.{Header}

@@ -3,8 +3,8 @@ use Rattle.std.specs.Prelude.{◌≡◌, ℕ, suc, true, List, length, Some, IfN
 use Rattle.zarrs_chunk.specs.Answer.{Answers, Excused, seen}
 use Rattle.zarrs_json.specs.KnownBytesCodec.{known_codecs}
 use Rattle.zarrs_chain_meaning.specs.CodecMeaning.{chain_representation}
-use Rattle.zarrs_codec_chain.specs.PartialEncoder.{encoder_handle}
-use Rattle.zarrs_codec_chain.specs.declared.partial_encoder.array_partial_encoder.ArrayPartialEncoder.{ArrayPartialEncoder}
+use Rattle.zarrs_codecs.specs.PartialEncoder.{encoder_handle}
+use Rattle.zarrs_codecs.specs.declared.partial_encoder.array_partial_encoder.ArrayPartialEncoder.{ArrayPartialEncoder}
 use Rattle.zarrs_json.specs.HeaderRead.{header_seen}
 use Rattle.zarrs_json.specs.declared.header.ChunkHeader.{ChunkHeader}
 use Rattle.zarrs_c_calls.specs.BufferHandle.{buffer_bytes}

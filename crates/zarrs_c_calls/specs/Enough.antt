@@ -6,7 +6,7 @@ use Rattle.zarrs_json.specs.KnownBytesCodec.{known_codecs}
 use Rattle.zarrs_json.specs.Header.{Header, header_form}
 use Rattle.zarrs_lent_handles.specs.Joined.{have_number}
 use Rattle.zarrs_lent_handles.specs.Pieces.{PlainPiece, are_at_hand, is_at_hand}
-use Rattle.zarrs_codec_chain.specs.PlannedReads.{ArePlanned}
+use Rattle.zarrs_codecs.specs.PlannedReads.{ArePlanned}
 use Rattle.zarrs_c_calls.specs.Calls.{header_given}
 use Rattle.zarrs_c_calls.specs.Plans.{Planned, AreForPlan, planned}
 use Rattle.zarrs_c_calls.specs.Selections.{selection_given}

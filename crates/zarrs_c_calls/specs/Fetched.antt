@@ -17,8 +17,8 @@ use Rattle.zarrs_json.specs.declared.header.ChunkHeader.{ChunkHeader}
 use Rattle.zarrs_lent_handles.specs.Elsewhere.{own_bytes}
 use Rattle.zarrs_lent_handles.specs.Pieces.{PlainPiece, HasPieces, are_apart, are_at_hand, pieces_seen}
 use Rattle.zarrs_lent_handles.specs.declared.piece.Piece.{Piece}
-use Rattle.zarrs_codec_chain.specs.ChunkRead.{are_asked_sure, asks_in_part, read_rests_on}
-use Rattle.zarrs_codec_chain.specs.PlannedReads.{ArePlanned}
+use Rattle.zarrs_codecs.specs.ChunkRead.{are_asked_sure, asks_in_part, read_rests_on}
+use Rattle.zarrs_codecs.specs.PlannedReads.{ArePlanned}
 use Rattle.zarrs_c_calls.specs.Buffers.{Room, crossed}
 use Rattle.zarrs_c_calls.specs.Calls.{header_given}
 use Rattle.zarrs_c_calls.specs.Codes.{IsRefusal, cause_memory, codec_call_answer}

@@ -9,7 +9,7 @@ use Rattle.zarrs_data_type.specs.Element.{Chunk}
 use Rattle.zarrs_json.specs.Header.{HeaderForm}
 use Rattle.zarrs_json.specs.KnownBytesCodec.{known_codecs}
 use Rattle.zarrs_lent_handles.specs.Pieces.{PlainPiece, are_apart, are_at_hand, is_at_hand, value_around}
-use Rattle.zarrs_codec_chain.specs.ChunkRead.{are_asked_sure, asks_in_part, read_rests_on}
+use Rattle.zarrs_codecs.specs.ChunkRead.{are_asked_sure, asks_in_part, read_rests_on}
 use Rattle.zarrs_c_calls.specs.Reads.{form_read}
 
 -- the selected elements of the value of so many bytes that has these pieces, which stand apart, and these bytes elsewhere

@@ -14,8 +14,8 @@ use Rattle.zarrs_lent_handles.specs.Lacking.{are_all_lacking, are_of_failure, is
 use Rattle.zarrs_lent_handles.specs.Pieces.{PlainPiece, zeros}
 use Rattle.zarrs_lent_handles.specs.PiecesHandle.{HandleLacks, are_unsure, made_state, pieces_state}
 use Rattle.zarrs_lent_handles.specs.declared.pieces_handle.PiecesHandle.{PiecesHandle}
-use Rattle.zarrs_codec_chain.specs.ChunkSource.{source_made}
-use Rattle.zarrs_codec_chain.specs.PlannedReads.{ArePlanned}
+use Rattle.zarrs_codecs.specs.ChunkSource.{source_made}
+use Rattle.zarrs_codecs.specs.PlannedReads.{ArePlanned}
 use Rattle.zarrs_c_calls.specs.Calls.{header_given}
 use Rattle.zarrs_c_calls.specs.Codes.{IsRefusal, cause_memory}
 use Rattle.zarrs_c_calls.specs.Fetched.{pieces_given, pieces_read}

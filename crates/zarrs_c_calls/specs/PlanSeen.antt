@@ -8,7 +8,7 @@ use Rattle.zarrs_chunk.specs.declared.codec_error.CodecError.{CodecError}
 use Rattle.zarrs_codec.specs.ByteSpan.{ByteSpan}
 use Rattle.zarrs_json.specs.KnownBytesCodec.{known_codecs}
 use Rattle.zarrs_json.specs.Header.{HeaderForm}
-use Rattle.zarrs_codec_chain.specs.ChunkRead.{IsReadPlan}
+use Rattle.zarrs_codecs.specs.ChunkRead.{IsReadPlan}
 use Rattle.zarrs_c_calls.specs.Plans.{Planned, AreForPlan, places_planned, range_numbers}
 
 -- a plan of a read of a selection, or the first error

@@ -8,7 +8,7 @@ use Rattle.zarrs_codec.specs.ByteSpan.{ByteSpan}
 use Rattle.zarrs_json.specs.KnownBytesCodec.{known_codecs}
 use Rattle.zarrs_json.specs.declared.known_bytes_codec.KnownBytesCodec.{KnownBytesCodec}
 use Rattle.zarrs_chain_meaning.specs.CodecMeaning.{chain_representation}
-use Rattle.zarrs_codec_chain.specs.ChunkRead.{IsReadPlan, planned_places}
+use Rattle.zarrs_codecs.specs.ChunkRead.{IsReadPlan, planned_places}
 use Rattle.zarrs_chain_meaning.specs.ChunkForm.{ChunkForm}
 use Rattle.zarrs_json.specs.Header.{Header, header_form}
 use Rattle.zarrs_lent_handles.specs.Joined.{Joins}

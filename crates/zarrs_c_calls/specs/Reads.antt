@@ -11,7 +11,7 @@ use Rattle.zarrs_data_type.specs.Element.{Chunk}
 use Rattle.zarrs_array_bytes.specs.Held.{Held}
 use Rattle.zarrs_array_bytes.specs.Validity.{Holds}
 use Rattle.zarrs_json.specs.KnownBytesCodec.{known_codecs, known_reads}
-use Rattle.zarrs_codec_chain.specs.MadeCoder.{made_read}
+use Rattle.zarrs_codecs.specs.MadeCoder.{made_read}
 use Rattle.zarrs_json.specs.Header.{HeaderForm, Header, header_form}
 use Rattle.zarrs_json.specs.HeaderRead.{header_seen}
 use Rattle.zarrs_json.specs.declared.header.ChunkHeader.{ChunkHeader}

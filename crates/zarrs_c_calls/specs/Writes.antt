@@ -8,7 +8,7 @@ use Rattle.zarrs_chunk.specs.declared.codec_error.CodecError.{CodecError}
 use Rattle.zarrs_array_bytes.specs.Held.{Held}
 use Rattle.zarrs_json.specs.KnownBytesCodec.{known_codecs}
 use Rattle.zarrs_json.specs.declared.header.ChunkHeader.{ChunkHeader}
-use Rattle.zarrs_codec_chain.specs.MadeCoder.{made_written}
+use Rattle.zarrs_codecs.specs.MadeCoder.{made_written}
 use Rattle.zarrs_json.specs.Header.{HeaderForm, Header, header_form}
 use Rattle.zarrs_c_calls.specs.Buffers.{Buffers, buffers}
 use Rattle.zarrs_c_calls.specs.Calls.{header_given}

@@ -3,7 +3,7 @@ ghost use Rattle.std.specs.Prelude.{◌≡◌, ◌≤◌, OnErr, Some, true, dro
 ghost use Rattle.zarrs_chunk.specs.Answer.{memory, Answers, AnswersValue};
 ghost use Rattle.zarrs_chunk.specs.Indexer.{selection_of};
 ghost use Rattle.zarrs_json.specs.HeaderRead.{header_seen};
-ghost use Rattle.zarrs_codec_chain.specs.PartialEncoder.{encoder_form};
+ghost use Rattle.zarrs_codecs.specs.PartialEncoder.{encoder_form};
 ghost use Rattle.zarrs_c_calls.specs.BufferHandle.{buffer_bytes, buffer_is_stored, buffer_name};
 ghost use Rattle.zarrs_c_calls.specs.Codes.{cause_memory};
 ghost use Rattle.zarrs_c_calls.specs.Edits.{all_are_taken, edits_in_place, edits_opened, has_all_bytes as has_all};
@@ -23,7 +23,7 @@ use std::alloc::Global;
 use zarrs_array_bytes::ArrayBytes;
 use zarrs_chunk::{CodecError, Indexer};
 use zarrs_codec::{BytesRepresentation, CodecTraits};
-use zarrs_codec_chain::{ArrayPartialEncoder, CodecChainPartialTraits};
+use zarrs_codecs::{ArrayPartialEncoder, CodecChainPartialTraits};
 use zarrs_json::{ChunkHeader, KnownBytesCodec, Refusal};
 
 /// A list of edits as they cross: what each takes of the numbers and of the bytes of all of them, joined.

@@ -23,7 +23,7 @@ use std::marker::Brand;
 use zarrs_array_bytes::ArrayBytes;
 use zarrs_chunk::{CodecError, Indexer};
 use zarrs_codec::BytesPartialDecoderTraits;
-use zarrs_codec_chain::CodecChainPartialTraits;
+use zarrs_codecs::CodecChainPartialTraits;
 use zarrs_json::ChunkHeader;
 use zarrs_lent_handles::{Elsewhere, LentHandle, Piece, PiecesHandle};
 

@@ -3,7 +3,7 @@ ghost use Rattle.std.specs.Prelude.{◌≡◌, ◌≤◌, IfOk, drop, length};
 ghost use Rattle.zarrs_chunk.specs.Answer.{memory, AnswersBy};
 ghost use Rattle.zarrs_array_bytes.specs.Tight.{IsTight};
 ghost use Rattle.zarrs_json.specs.HeaderRead.{header_seen};
-ghost use Rattle.zarrs_codec_chain.specs.PartialDecoder.{decoder_form};
+ghost use Rattle.zarrs_codecs.specs.PartialDecoder.{decoder_form};
 ghost use Rattle.zarrs_lent_handles.specs.LentHandle.{lent_value};
 ghost use Rattle.zarrs_c_calls.specs.Codes.{cause_memory};
 ghost use Rattle.zarrs_c_calls.specs.EachRead.{decoder_value, front_given, FirstIsGiven, GivesEach, IsSourced};
@@ -19,7 +19,7 @@ use crate::sizes::SelectionSize;
 use std::alloc::Global;
 use zarrs_array_bytes::ArrayBytes;
 use zarrs_chunk::{CodecError, Indexer};
-use zarrs_codec_chain::{ArrayPartialDecoder, CodecChainPartialTraits};
+use zarrs_codecs::{ArrayPartialDecoder, CodecChainPartialTraits};
 use zarrs_json::{ChunkHeader, KnownBytesCodec, Refusal};
 use zarrs_lent_handles::LentHandle;
 

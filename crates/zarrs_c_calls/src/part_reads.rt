@@ -14,7 +14,7 @@ use crate::selection::selection_given;
 use std::alloc::Global;
 use zarrs_array_bytes::ArrayBytes;
 use zarrs_chunk::{CodecError, Indexer};
-use zarrs_codec_chain::CodecChainPartialTraits;
+use zarrs_codecs::CodecChainPartialTraits;
 use zarrs_json::ChunkHeader;
 use zarrs_lent_handles::LentHandle;
 

@@ -18,7 +18,7 @@ use std::marker::Brand;
 use zarrs_array_bytes::ArrayBytes;
 use zarrs_chunk::{CodecError, Indexer};
 use zarrs_codec::BytesPartialEncoderTraits;
-use zarrs_codec_chain::CodecChainPartialTraits;
+use zarrs_codecs::CodecChainPartialTraits;
 use zarrs_json::ChunkHeader;
 
 /// Writes new elements over what a handle has, by an encoder that is made for this call, and gives the

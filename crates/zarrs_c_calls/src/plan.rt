@@ -16,7 +16,7 @@ use crate::selection::selection_given;
 use std::alloc::{AllocError, Global};
 use zarrs_chunk::{CodecError, Indexer};
 use zarrs_codec::{ByteRange, MemoryHandle};
-use zarrs_codec_chain::CodecChainPartialTraits;
+use zarrs_codecs::CodecChainPartialTraits;
 use zarrs_json::ChunkHeader;
 use zarrs_lent_handles::join_ranges;
 

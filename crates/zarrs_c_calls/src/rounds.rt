@@ -2,7 +2,7 @@
 ghost use Rattle.std.specs.Prelude.{◌≡◌, IfErr, IfOk};
 ghost use Rattle.zarrs_chunk.specs.declared.codec_error.CodecError.TheVariants.{OutOfMemory};
 ghost use Rattle.zarrs_chunk.specs.Indexer.{selection_of};
-ghost use Rattle.zarrs_codec_chain.specs.PartialDecoder.{decoder_form, handle_of};
+ghost use Rattle.zarrs_codecs.specs.PartialDecoder.{decoder_form, handle_of};
 ghost use Rattle.zarrs_lent_handles.specs.Lacking.{ranges_kept};
 ghost use Rattle.zarrs_c_calls.specs.Fetched.{pieces_in};
 ghost use Rattle.zarrs_c_calls.specs.LackingRanges.{AnswersKept, AnswersLacking, AnswersMade, AnswersOver, AnswersPartLacking, AreOfLackedOrKept, IsSoundForm};
@@ -17,7 +17,7 @@ use crate::selection::selection_given;
 use std::alloc::Global;
 use zarrs_chunk::{CodecError, Indexer};
 use zarrs_codec::{ByteRange, Refused};
-use zarrs_codec_chain::{ArrayPartialDecoder, CodecChainPartialTraits};
+use zarrs_codecs::{ArrayPartialDecoder, CodecChainPartialTraits};
 use zarrs_json::{ChunkHeader, KnownBytesCodec};
 use zarrs_lent_handles::{LentHandle, Piece, PiecesHandle};
 

@@ -9,7 +9,7 @@ use std::borrow::CowSlice;
 use std::io;
 use std::process::ExitCode;
 use thiserror::Error;
-use zarrs_codec_chain::{
+use zarrs_codecs::{
     ArrayBytes, ArraySubset, ChainJsonError, ChunkShape, CodecChain, CodecChainPartialTraits,
     CodecError, Crc32cCodec, Crc32cMaker, DataType, FillValue, Indexer, MemoryHandle,
 };

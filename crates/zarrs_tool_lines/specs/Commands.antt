@@ -10,7 +10,7 @@ use Rattle.zarrs_json.specs.KnownBytesCodec.{known_codecs, known_reads}
 use Rattle.zarrs_json.specs.declared.known_bytes_codec.KnownBytesCodec.{KnownBytesCodec}
 use Rattle.zarrs_chain_meaning.specs.Chain.{held_value}
 use Rattle.zarrs_chain.specs.Reencode.{reencoded_value}
-use Rattle.zarrs_codec_chain.specs.MadeCoder.{made_read, made_written}
+use Rattle.zarrs_codecs.specs.MadeCoder.{made_read, made_written}
 use Rattle.zarrs_chain_meaning.specs.CodecMeaning.{PlainChain, chain_chunk}
 use Rattle.zarrs_json.specs.declared.refusal.Refusal.{Refusal}
 use Rattle.zarrs_json.specs.declared.refusal.Refusal.TheVariants.{Syntax}

@@ -18,7 +18,7 @@ use zarrs_chain::CodecChain;
 use zarrs_chain::reencode::reencode;
 use zarrs_chunk::{CodecError, Indexer};
 use zarrs_codec::MemoryHandle;
-use zarrs_codec_chain::CodecChainPartialTraits;
+use zarrs_codecs::CodecChainPartialTraits;
 use zarrs_json::{
     ChunkHeader, Edit, KnownBytesCodec, KnownMaker, Refusal, hex_bytes, indexer, ok_elements,
     ok_hex, read_codecs, read_edit, read_elements, read_header, tree,

@@ -3,21 +3,21 @@ use Rattle.std.proofs.Common.{◌≡◌, ℕ, ◌+◌, ◌^◌, Bool, true, fals
 use Rattle.std.specs.Prelude.{IsOkAnd}
 use Rattle.std.proofs.lemmas.List.{length-append}
 use Rattle.std.proofs.lemmas.List.FromFn.{length-map-range_with_len}
-use Rattle.zarrs_codec_chain.specs.Answer.{AnswersBy, checked_u64, memory, memory_or_fault, seen}
-use Rattle.zarrs_codec_chain.specs.ChunkShape.{product}
-use Rattle.zarrs_codec_chain.specs.Region.{Region}
-use Rattle.zarrs_codec_chain.specs.Selection.{Selection, subset}
-use Rattle.zarrs_codec_chain.specs.CodecError.{CodecError}
-use Rattle.zarrs_codec_chain.specs.CodecError.TheVariants.{Overflow}
-use Rattle.zarrs_codec_chain.specs.Element.{Chunk}
-use Rattle.zarrs_codec_chain.specs.ElementType.{ElementType}
-use Rattle.zarrs_codec_chain.specs.Elements.{element_at, elements}
-use Rattle.zarrs_codec_chain.specs.Held.{Held}
-use Rattle.zarrs_codec_chain.specs.Joined.{appended_elements}
-use Rattle.zarrs_codec_chain.specs.Validity.{Holds, validity}
-use Rattle.zarrs_codec_chain.specs.ArrayReader.{ArrayReader, IsCounted}
-use Rattle.zarrs_codec_chain.specs.FewerExcused.{FewerAreExcused}
-use Rattle.zarrs_codec_chain.specs.Tuples.{box_tuples}
+use Rattle.zarrs_codecs.specs.Answer.{AnswersBy, checked_u64, memory, memory_or_fault, seen}
+use Rattle.zarrs_codecs.specs.ChunkShape.{product}
+use Rattle.zarrs_codecs.specs.Region.{Region}
+use Rattle.zarrs_codecs.specs.Selection.{Selection, subset}
+use Rattle.zarrs_codecs.specs.CodecError.{CodecError}
+use Rattle.zarrs_codecs.specs.CodecError.TheVariants.{Overflow}
+use Rattle.zarrs_codecs.specs.Element.{Chunk}
+use Rattle.zarrs_codecs.specs.ElementType.{ElementType}
+use Rattle.zarrs_codecs.specs.Elements.{element_at, elements}
+use Rattle.zarrs_codecs.specs.Held.{Held}
+use Rattle.zarrs_codecs.specs.Joined.{appended_elements}
+use Rattle.zarrs_codecs.specs.Validity.{Holds, validity}
+use Rattle.zarrs_codecs.specs.ArrayReader.{ArrayReader, IsCounted}
+use Rattle.zarrs_codecs.specs.FewerExcused.{FewerAreExcused}
+use Rattle.zarrs_codecs.specs.Tuples.{box_tuples}
 
 counted_so : (test : Bool) (count n : ℕ) → ◌≡◌ {A = Result ℕ CodecError} (Ok count) (if test then Ok n else Err Overflow) → count ≡ n
 counted_so true count n h = cc

@@ -4,22 +4,22 @@ use Rattle.std.specs.Prelude.{slice_index, replicate}
 use Rattle.std.proofs.lemmas.Bool.{and_from}
 use Rattle.std.proofs.lemmas.Bool.Decides.{nat_tests}
 use Rattle.std.proofs.lemmas.List.{take_all}
-use Rattle.zarrs_codec_chain.specs.Answer.{◌>>=◌, AnswersBy, Excused, checked_u64, demand, memory, memory_or_fault}
-use Rattle.zarrs_codec_chain.specs.ArraySubset.{ends_fit}
-use Rattle.zarrs_codec_chain.specs.ChunkShape.{product}
-use Rattle.zarrs_codec_chain.specs.Region.{Region}
-use Rattle.zarrs_codec_chain.specs.Selection.{subset, len_of}
-use Rattle.zarrs_codec_chain.specs.Tuples.{box_tuples}
-use Rattle.zarrs_codec_chain.specs.CodecError.{CodecError}
-use Rattle.zarrs_codec_chain.specs.CodecError.TheVariants.{InvalidFillValue}
-use Rattle.zarrs_codec_chain.specs.Element.{Chunk, fill_element}
-use Rattle.zarrs_codec_chain.specs.ElementType.{ElementType, fixed, text, bytes, optional, element_size}
-use Rattle.zarrs_codec_chain.specs.FillValue.{fill_fits}
-use Rattle.zarrs_codec_chain.specs.Form.{Form}
-use Rattle.zarrs_codec_chain.specs.Chunks.{fill_chunk}
-use Rattle.zarrs_codec_chain.specs.Validity.{Holds, sizes_fit}
+use Rattle.zarrs_codecs.specs.Answer.{◌>>=◌, AnswersBy, Excused, checked_u64, demand, memory, memory_or_fault}
+use Rattle.zarrs_codecs.specs.ArraySubset.{ends_fit}
+use Rattle.zarrs_codecs.specs.ChunkShape.{product}
+use Rattle.zarrs_codecs.specs.Region.{Region}
+use Rattle.zarrs_codecs.specs.Selection.{subset, len_of}
+use Rattle.zarrs_codecs.specs.Tuples.{box_tuples}
+use Rattle.zarrs_codecs.specs.CodecError.{CodecError}
+use Rattle.zarrs_codecs.specs.CodecError.TheVariants.{InvalidFillValue}
+use Rattle.zarrs_codecs.specs.Element.{Chunk, fill_element}
+use Rattle.zarrs_codecs.specs.ElementType.{ElementType, fixed, text, bytes, optional, element_size}
+use Rattle.zarrs_codecs.specs.FillValue.{fill_fits}
+use Rattle.zarrs_codecs.specs.Form.{Form}
+use Rattle.zarrs_codecs.specs.Chunks.{fill_chunk}
+use Rattle.zarrs_codecs.specs.Validity.{Holds, sizes_fit}
 use Rattle.zarrs_uses.specs.ChunkedArray.{array_element, array_region}
-use Rattle.zarrs_codec_chain.specs.FewerExcused.{FewerAreExcused}
+use Rattle.zarrs_codecs.specs.FewerExcused.{FewerAreExcused}
 
 -- ---- the axes behind the first
 

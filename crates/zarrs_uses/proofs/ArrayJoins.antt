@@ -7,20 +7,20 @@ use Rattle.std.specs.List.{range_with_len}
 use Rattle.std.proofs.lemmas.List.{length-map}
 use Rattle.std.proofs.lemmas.List.FromFn.{length-map-range_with_len}
 use Rattle.std.proofs.Math.Nat.{div-lt_iff_lt-mul, mul-le-mul_right}
-use Rattle.zarrs_codec_chain.specs.Answer.{◌>>=◌, Excused, demand, memory_or_fault, seen}
-use Rattle.zarrs_codec_chain.specs.ChunkShape.{product}
-use Rattle.zarrs_codec_chain.specs.Region.{Region}
-use Rattle.zarrs_codec_chain.specs.Selection.{places_of, subset}
-use Rattle.zarrs_codec_chain.specs.Tuples.{row_major, box_tuples, is_box_inside}
-use Rattle.zarrs_codec_chain.specs.CodecError.{CodecError}
-use Rattle.zarrs_codec_chain.specs.CodecError.TheVariants.{IncompatibleDimensionality, OutOfBounds, Overflow}
-use Rattle.zarrs_codec_chain.specs.Element.{Chunk, Element}
-use Rattle.zarrs_codec_chain.specs.ElementType.{ElementType, bytes}
-use Rattle.zarrs_codec_chain.specs.Elements.{elements, select}
-use Rattle.zarrs_codec_chain.specs.Held.{Held}
-use Rattle.zarrs_codec_chain.specs.Validity.{Holds}
-use Rattle.zarrs_codec_chain.specs.ArrayReader.{ArrayReader}
-use Rattle.zarrs_codec_chain.specs.BoxRows.{BoxesAreCut, RowsAreAlike}
+use Rattle.zarrs_codecs.specs.Answer.{◌>>=◌, Excused, demand, memory_or_fault, seen}
+use Rattle.zarrs_codecs.specs.ChunkShape.{product}
+use Rattle.zarrs_codecs.specs.Region.{Region}
+use Rattle.zarrs_codecs.specs.Selection.{places_of, subset}
+use Rattle.zarrs_codecs.specs.Tuples.{row_major, box_tuples, is_box_inside}
+use Rattle.zarrs_codecs.specs.CodecError.{CodecError}
+use Rattle.zarrs_codecs.specs.CodecError.TheVariants.{IncompatibleDimensionality, OutOfBounds, Overflow}
+use Rattle.zarrs_codecs.specs.Element.{Chunk, Element}
+use Rattle.zarrs_codecs.specs.ElementType.{ElementType, bytes}
+use Rattle.zarrs_codecs.specs.Elements.{elements, select}
+use Rattle.zarrs_codecs.specs.Held.{Held}
+use Rattle.zarrs_codecs.specs.Validity.{Holds}
+use Rattle.zarrs_codecs.specs.ArrayReader.{ArrayReader}
+use Rattle.zarrs_codecs.specs.BoxRows.{BoxesAreCut, RowsAreAlike}
 use Rattle.zarrs_uses.specs.ChunkedArray.{ReadChunks, array_element}
 use Rattle.zarrs_uses.proofs.ArrayRows.{at_rows, rows-append, rows_in_chunk}
 

@@ -4,10 +4,10 @@ use Rattle.std.proofs.lemmas.List.{map-append}
 use Rattle.std.proofs.lemmas.Nat.{div-mul-add, mod-mul-add}
 use Rattle.std.proofs.Math.Nat.{div-add-mod, mul_comm}
 use Rattle.std.proofs.lemmas.Simd.{map-map}
-use Rattle.zarrs_codec_chain.specs.BoxRows.{BoxesAreCut, RowsAreAlike}
-use Rattle.zarrs_codec_chain.specs.Element.{Element, absent, Chunk}
-use Rattle.zarrs_codec_chain.specs.Elements.{select}
-use Rattle.zarrs_codec_chain.specs.Tuples.{row_major, box_tuples}
+use Rattle.zarrs_codecs.specs.BoxRows.{BoxesAreCut, RowsAreAlike}
+use Rattle.zarrs_codecs.specs.Element.{Element, absent, Chunk}
+use Rattle.zarrs_codecs.specs.Elements.{select}
+use Rattle.zarrs_codecs.specs.Tuples.{row_major, box_tuples}
 use Rattle.zarrs_uses.specs.ChunkedArray.{array_element}
 
 -- the elements at the tuples of so many rows of a box, from one row on

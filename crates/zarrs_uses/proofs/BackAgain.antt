@@ -3,21 +3,21 @@ use Rattle.std.proofs.Common.{◌≡◌, ℕ, List, Option, Result, Ok, Err, IfO
 use Rattle.std.specs.Prelude.{IsOkAnd}
 use Rattle.std.specs.declared.borrow.CowSlice.{CowSlice}
 use Rattle.std.proofs.lemmas.List.{map-id}
-use Rattle.zarrs_codec_chain.specs.BytesToBytesCodec.{BytesCodecs}
-use Rattle.zarrs_codec_chain.specs.Chain.{held_value}
-use Rattle.zarrs_codec_chain.specs.ChainGrammar.{chain_grammar}
-use Rattle.zarrs_codec_chain.specs.ChunkShape.{product}
-use Rattle.zarrs_codec_chain.specs.CodecError.{CodecError}
-use Rattle.zarrs_codec_chain.specs.CodecMeaning.{bytes_codec, PlainChain, meaning, chain_meaning, normal_form}
-use Rattle.zarrs_codec_chain.specs.Element.{Chunk}
-use Rattle.zarrs_codec_chain.specs.ElementType.{ElementType}
-use Rattle.zarrs_codec_chain.specs.Elements.{elements}
-use Rattle.zarrs_codec_chain.specs.EncodedAgain.{EncodedStands}
-use Rattle.zarrs_codec_chain.specs.Endianness.{Endianness}
-use Rattle.zarrs_codec_chain.specs.Form.{Form}
-use Rattle.zarrs_codec_chain.specs.Grammar.{Decodes, Encodes}
-use Rattle.zarrs_codec_chain.specs.Held.{Held, items_of}
-use Rattle.zarrs_codec_chain.specs.Validity.{Holds}
+use Rattle.zarrs_codecs.specs.BytesToBytesCodec.{BytesCodecs}
+use Rattle.zarrs_codecs.specs.Chain.{held_value}
+use Rattle.zarrs_codecs.specs.ChainGrammar.{chain_grammar}
+use Rattle.zarrs_codecs.specs.ChunkShape.{product}
+use Rattle.zarrs_codecs.specs.CodecError.{CodecError}
+use Rattle.zarrs_codecs.specs.CodecMeaning.{bytes_codec, PlainChain, meaning, chain_meaning, normal_form}
+use Rattle.zarrs_codecs.specs.Element.{Chunk}
+use Rattle.zarrs_codecs.specs.ElementType.{ElementType}
+use Rattle.zarrs_codecs.specs.Elements.{elements}
+use Rattle.zarrs_codecs.specs.EncodedAgain.{EncodedStands}
+use Rattle.zarrs_codecs.specs.Endianness.{Endianness}
+use Rattle.zarrs_codecs.specs.Form.{Form}
+use Rattle.zarrs_codecs.specs.Grammar.{Decodes, Encodes}
+use Rattle.zarrs_codecs.specs.Held.{Held, items_of}
+use Rattle.zarrs_codecs.specs.Validity.{Holds}
 use Rattle.zarrs_uses.specs.ComesBack.{ComesBack}
 
 -- an answer isn't an error

@@ -1,16 +1,16 @@
 -- Values that go from one chain to another.
 use Rattle.std.proofs.Common.{◌≡◌, ℕ, true, List, Ok, Vec, Global, subst}
-use Rattle.zarrs_codec_chain.specs.BytesToBytesCodec.{BytesCodecs}
-use Rattle.zarrs_codec_chain.specs.ChainGrammar.{chain_grammar}
-use Rattle.zarrs_codec_chain.specs.CodecMeaning.{PlainChain, normal_form, ChainStands}
-use Rattle.zarrs_codec_chain.specs.Element.{Chunk}
-use Rattle.zarrs_codec_chain.specs.EncodedAgain.{ReencodedStands}
-use Rattle.zarrs_codec_chain.specs.Form.{Form}
-use Rattle.zarrs_codec_chain.specs.Grammar.{Decodes}
-use Rattle.zarrs_codec_chain.specs.Held.{Held}
-use Rattle.zarrs_codec_chain.specs.SameBytes.{is_same_held}
-use Rattle.zarrs_codec_chain.specs.Tight.{IsTight}
-use Rattle.zarrs_codec_chain.specs.Validity.{Holds}
+use Rattle.zarrs_codecs.specs.BytesToBytesCodec.{BytesCodecs}
+use Rattle.zarrs_codecs.specs.ChainGrammar.{chain_grammar}
+use Rattle.zarrs_codecs.specs.CodecMeaning.{PlainChain, normal_form, ChainStands}
+use Rattle.zarrs_codecs.specs.Element.{Chunk}
+use Rattle.zarrs_codecs.specs.EncodedAgain.{ReencodedStands}
+use Rattle.zarrs_codecs.specs.Form.{Form}
+use Rattle.zarrs_codecs.specs.Grammar.{Decodes}
+use Rattle.zarrs_codecs.specs.Held.{Held}
+use Rattle.zarrs_codecs.specs.SameBytes.{is_same_held}
+use Rattle.zarrs_codecs.specs.Tight.{IsTight}
+use Rattle.zarrs_codecs.specs.Validity.{Holds}
 
 -- both values are decoded as the same chunk
 pub decoded_same : {B C : Type 0} (f : BytesCodecs B) (from : PlainChain B) (g : BytesCodecs C) (to : PlainChain C) (form : Form) (value : List ℕ) (new : Vec ℕ Global) (before after : Held) (chunk : Chunk)

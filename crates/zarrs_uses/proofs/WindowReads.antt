@@ -2,29 +2,29 @@
 use Rattle.std.proofs.Common.{◌≡◌, ℕ, true, Option, Some, List, length, Result, Ok, Err, ap, sym, ◌∙◌, refl, subst}
 use Rattle.std.specs.Prelude.{◌<◌, IsOk}
 use Rattle.std.specs.List.{All}
-use Rattle.zarrs_codec_chain.specs.Answer.{◌>>=◌, AnswersBy, Excused, memory, memory_or_fault, seen}
-use Rattle.zarrs_codec_chain.specs.ChunkShape.{product}
-use Rattle.zarrs_codec_chain.specs.Region.{Region}
-use Rattle.zarrs_codec_chain.specs.Selection.{Selection, places_of}
-use Rattle.zarrs_codec_chain.specs.CodecError.{CodecError}
-use Rattle.zarrs_codec_chain.specs.Element.{Chunk}
-use Rattle.zarrs_codec_chain.specs.ElementType.{ElementType}
-use Rattle.zarrs_codec_chain.specs.Chunks.{selected_chunk}
-use Rattle.zarrs_codec_chain.specs.Elements.{elements, select}
-use Rattle.zarrs_codec_chain.specs.Held.{Held}
-use Rattle.zarrs_codec_chain.specs.SameBytes.{is_same_held}
-use Rattle.zarrs_codec_chain.specs.Tight.{IsTight}
-use Rattle.zarrs_codec_chain.specs.Validity.{Holds, validity}
-use Rattle.zarrs_codec_chain.specs.BytesToBytesCodec.{BytesCodecs}
-use Rattle.zarrs_codec_chain.specs.PartialDecoderCapability.{PartialDecoderCapability}
-use Rattle.zarrs_codec_chain.specs.ChunkForm.{ChunkForm}
-use Rattle.zarrs_codec_chain.specs.CodecMeaning.{ChainStands}
-use Rattle.zarrs_codec_chain.specs.Laws.{IsChainOfMappings}
-use Rattle.zarrs_codec_chain.specs.ChunkRead.{stored_read}
-use Rattle.zarrs_codec_chain.specs.ChunkSource.{Source, source_made}
-use Rattle.zarrs_codec_chain.specs.MadeCoder.{made_read}
-use Rattle.zarrs_codec_chain.specs.ReadLaws.{StandingIsOpened}
-use Rattle.zarrs_codec_chain.proofs.MadeCoders.{passes, stops}
+use Rattle.zarrs_codecs.specs.Answer.{◌>>=◌, AnswersBy, Excused, memory, memory_or_fault, seen}
+use Rattle.zarrs_codecs.specs.ChunkShape.{product}
+use Rattle.zarrs_codecs.specs.Region.{Region}
+use Rattle.zarrs_codecs.specs.Selection.{Selection, places_of}
+use Rattle.zarrs_codecs.specs.CodecError.{CodecError}
+use Rattle.zarrs_codecs.specs.Element.{Chunk}
+use Rattle.zarrs_codecs.specs.ElementType.{ElementType}
+use Rattle.zarrs_codecs.specs.Chunks.{selected_chunk}
+use Rattle.zarrs_codecs.specs.Elements.{elements, select}
+use Rattle.zarrs_codecs.specs.Held.{Held}
+use Rattle.zarrs_codecs.specs.SameBytes.{is_same_held}
+use Rattle.zarrs_codecs.specs.Tight.{IsTight}
+use Rattle.zarrs_codecs.specs.Validity.{Holds, validity}
+use Rattle.zarrs_codecs.specs.BytesToBytesCodec.{BytesCodecs}
+use Rattle.zarrs_codecs.specs.PartialDecoderCapability.{PartialDecoderCapability}
+use Rattle.zarrs_codecs.specs.ChunkForm.{ChunkForm}
+use Rattle.zarrs_codecs.specs.CodecMeaning.{ChainStands}
+use Rattle.zarrs_codecs.specs.Laws.{IsChainOfMappings}
+use Rattle.zarrs_codecs.specs.ChunkRead.{stored_read}
+use Rattle.zarrs_codecs.specs.ChunkSource.{Source, source_made}
+use Rattle.zarrs_codecs.specs.MadeCoder.{made_read}
+use Rattle.zarrs_codecs.specs.ReadLaws.{StandingIsOpened}
+use Rattle.zarrs_codecs.proofs.MadeCoders.{passes, stops}
 use Rattle.zarrs_uses.specs.Windows.{ReadsWindow}
 
 -- ---- where no decoder is made

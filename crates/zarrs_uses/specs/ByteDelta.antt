@@ -1,6 +1,6 @@
 -- What the codec `example.byte_delta` computes: each byte less the one before it.
 use Rattle.std.specs.Prelude.{ℕ, ◌+◌, ◌-◌, ◌%◌, List, [], ◌∷◌, Ok}
-use Rattle.zarrs_codec_chain.specs.BytesToBytesCodec.{BytesCodecs}
+use Rattle.zarrs_codecs.specs.BytesToBytesCodec.{BytesCodecs}
 use Rattle.zarrs_uses.specs.declared.own_codec.ByteDeltaCodec.{ByteDeltaCodec}
 
 -- Each byte less the one before it, modulo 256. Before the first stands `previous`.

@@ -1,10 +1,10 @@
 -- The codec `example.byte_delta` keeps the laws of bytes-to-bytes codecs.
 use Rattle.std.proofs.Common.{◌≡◌, ℕ, ◌+◌, ◌-◌, ◌%◌, ◌<◌, suc, zero, List, [], ◌∷◌, length, Result, Ok, Err, arith, refl, ap}
 use Rattle.std.proofs.lemmas.List.Elements.{All-head, All-tail}
-use Rattle.zarrs_codec_chain.specs.CodecError.{CodecError}
-use Rattle.zarrs_codec_chain.specs.BytesToBytesCodec.{KeepsTo, AreBytes, IsLawful}
-use Rattle.zarrs_codec_chain.specs.BytesRepresentation.{BytesRepresentation}
-use Rattle.zarrs_codec_chain.specs.BytesRepresentation.TheVariants.{FixedSize, BoundedSize, UnboundedSize}
+use Rattle.zarrs_codecs.specs.CodecError.{CodecError}
+use Rattle.zarrs_codecs.specs.BytesToBytesCodec.{KeepsTo, AreBytes, IsLawful}
+use Rattle.zarrs_codecs.specs.BytesRepresentation.{BytesRepresentation}
+use Rattle.zarrs_codecs.specs.BytesRepresentation.TheVariants.{FixedSize, BoundedSize, UnboundedSize}
 use Rattle.zarrs_uses.specs.ByteDelta.{deltas, sums, byte_delta_codecs}
 
 -- ---- decoding undoes encoding

@@ -1,13 +1,13 @@
 -- What a cache of decoded chunks promises.
 use Rattle.std.specs.Prelude.{◌≡◌, ℕ, List, Vec, Result}
 use Rattle.std.proofs.Common.{Global}
-use Rattle.zarrs_codec_chain.specs.Answer.{AnswersBy, memory}
-use Rattle.zarrs_codec_chain.specs.CodecError.{CodecError}
-use Rattle.zarrs_codec_chain.specs.Held.{Held}
-use Rattle.zarrs_codec_chain.specs.Validity.{Holds}
-use Rattle.zarrs_codec_chain.specs.BytesToBytesCodec.{BytesCodecs}
-use Rattle.zarrs_codec_chain.specs.ChunkForm.{ChunkForm}
-use Rattle.zarrs_codec_chain.specs.ChunkRead.{chunk_of}
+use Rattle.zarrs_codecs.specs.Answer.{AnswersBy, memory}
+use Rattle.zarrs_codecs.specs.CodecError.{CodecError}
+use Rattle.zarrs_codecs.specs.Held.{Held}
+use Rattle.zarrs_codecs.specs.Validity.{Holds}
+use Rattle.zarrs_codecs.specs.BytesToBytesCodec.{BytesCodecs}
+use Rattle.zarrs_codecs.specs.ChunkForm.{ChunkForm}
+use Rattle.zarrs_codecs.specs.ChunkRead.{chunk_of}
 use Rattle.zarrs_uses.specs.Decoded.{IsDecoded, decoded_under}
 use Rattle.zarrs_uses.specs.declared.cache.ChunkCache.{ChunkCache}
 

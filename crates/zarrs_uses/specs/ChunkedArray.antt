@@ -1,20 +1,20 @@
 -- An array that chunks of one shape make, one behind another along the first axis.
 use Rattle.std.specs.Prelude.{◌≡◌, ℕ, ◌-◌, ◌*◌, ◌/◌, ◌%◌, ◌^◌, ◌<◌, ◌≤◌, true, List, [], ◌∷◌, ◌++◌, length, map, get_or, Result, Ok}
-use Rattle.zarrs_codec_chain.specs.Answer.{◌>>=◌, AnswersBy, checked_u64, demand, memory_or_fault, seen}
-use Rattle.zarrs_codec_chain.specs.ChunkShape.{product}
-use Rattle.zarrs_codec_chain.specs.Region.{Region}
-use Rattle.zarrs_codec_chain.specs.Selection.{Selection, subset, len_of, places_of}
-use Rattle.zarrs_codec_chain.specs.Tuples.{row_major, box_tuples, is_box_inside}
-use Rattle.zarrs_codec_chain.specs.CodecError.{CodecError}
-use Rattle.zarrs_codec_chain.specs.CodecError.TheVariants.{InvalidFillValue}
-use Rattle.zarrs_codec_chain.specs.Element.{Element, absent, Chunk}
-use Rattle.zarrs_codec_chain.specs.ElementType.{ElementType}
-use Rattle.zarrs_codec_chain.specs.FillValue.{fill_fits}
-use Rattle.zarrs_codec_chain.specs.Form.{Form}
-use Rattle.zarrs_codec_chain.specs.Elements.{elements, select}
-use Rattle.zarrs_codec_chain.specs.Held.{Held}
-use Rattle.zarrs_codec_chain.specs.Validity.{Holds}
-use Rattle.zarrs_codec_chain.specs.ArrayReader.{ArrayReader}
+use Rattle.zarrs_codecs.specs.Answer.{◌>>=◌, AnswersBy, checked_u64, demand, memory_or_fault, seen}
+use Rattle.zarrs_codecs.specs.ChunkShape.{product}
+use Rattle.zarrs_codecs.specs.Region.{Region}
+use Rattle.zarrs_codecs.specs.Selection.{Selection, subset, len_of, places_of}
+use Rattle.zarrs_codecs.specs.Tuples.{row_major, box_tuples, is_box_inside}
+use Rattle.zarrs_codecs.specs.CodecError.{CodecError}
+use Rattle.zarrs_codecs.specs.CodecError.TheVariants.{InvalidFillValue}
+use Rattle.zarrs_codecs.specs.Element.{Element, absent, Chunk}
+use Rattle.zarrs_codecs.specs.ElementType.{ElementType}
+use Rattle.zarrs_codecs.specs.FillValue.{fill_fits}
+use Rattle.zarrs_codecs.specs.Form.{Form}
+use Rattle.zarrs_codecs.specs.Elements.{elements, select}
+use Rattle.zarrs_codecs.specs.Held.{Held}
+use Rattle.zarrs_codecs.specs.Validity.{Holds}
+use Rattle.zarrs_codecs.specs.ArrayReader.{ArrayReader}
 
 -- The element of the array at an index tuple: that of the chunk in which the tuple's row lies, at the row that it is there.
 abbrev pub array_element : List ℕ → List Chunk → List ℕ → Element

@@ -2,15 +2,15 @@
 use Rattle.std.specs.Prelude.{ℕ, List, [], Vec, get_or, map, IsOkAnd, Result, Ok, Err}
 use Rattle.std.proofs.Common.{Global}
 use Rattle.std.proofs.Props.{props}
-use Rattle.zarrs_codec_chain.specs.CodecError.{CodecError}
-use Rattle.zarrs_codec_chain.specs.Element.{Chunk}
-use Rattle.zarrs_codec_chain.specs.ElementType.{ElementType}
-use Rattle.zarrs_codec_chain.specs.Held.{Held}
-use Rattle.zarrs_codec_chain.specs.Validity.{Holds}
-use Rattle.zarrs_codec_chain.specs.BytesToBytesCodec.{BytesCodecs}
-use Rattle.zarrs_codec_chain.specs.CodecMeaning.{chain_chunk}
-use Rattle.zarrs_codec_chain.specs.ChunkForm.{ChunkForm}
-use Rattle.zarrs_codec_chain.specs.ElementCode.{Chunk-set}
+use Rattle.zarrs_codecs.specs.CodecError.{CodecError}
+use Rattle.zarrs_codecs.specs.Element.{Chunk}
+use Rattle.zarrs_codecs.specs.ElementType.{ElementType}
+use Rattle.zarrs_codecs.specs.Held.{Held}
+use Rattle.zarrs_codecs.specs.Validity.{Holds}
+use Rattle.zarrs_codecs.specs.BytesToBytesCodec.{BytesCodecs}
+use Rattle.zarrs_codecs.specs.CodecMeaning.{chain_chunk}
+use Rattle.zarrs_codecs.specs.ChunkForm.{ChunkForm}
+use Rattle.zarrs_codecs.specs.ElementCode.{Chunk-set}
 
 -- the value with this key; no bytes where there is none
 abbrev pub value_under : List (Vec ℕ Global) → ℕ → List ℕ

@@ -1,20 +1,20 @@
 //! A region of an array whose chunks lie one behind another along the first axis.
 ghost use Rattle.std.specs.Prelude.{◌≡◌, ◌+◌, ◌-◌, ◌*◌, ◌<◌, ◌≤◌, ◌^◌, ◌++◌, ◌∷◌, Ok, IfOk, All, map, get_or, length, true};
-ghost use Rattle.zarrs_codec_chain.specs.Answer.{AnswersBy, GivesItems, GivesValue, memory_or_fault, seen};
-ghost use Rattle.zarrs_codec_chain.specs.ArraySubset.{ends_fit};
-ghost use Rattle.zarrs_codec_chain.specs.ChunkShape.{product};
-ghost use Rattle.zarrs_codec_chain.specs.Selection.{subset as subset_of};
-ghost use Rattle.zarrs_codec_chain.specs.Form.{form_of};
-ghost use Rattle.zarrs_codec_chain.specs.Elements.{elements};
-ghost use Rattle.zarrs_codec_chain.specs.Validity.{Holds, validity};
-ghost use Rattle.zarrs_codec_chain.specs.ArrayReader.{ArrayReader};
+ghost use Rattle.zarrs_codecs.specs.Answer.{AnswersBy, GivesItems, GivesValue, memory_or_fault, seen};
+ghost use Rattle.zarrs_codecs.specs.ArraySubset.{ends_fit};
+ghost use Rattle.zarrs_codecs.specs.ChunkShape.{product};
+ghost use Rattle.zarrs_codecs.specs.Selection.{subset as subset_of};
+ghost use Rattle.zarrs_codecs.specs.Form.{form_of};
+ghost use Rattle.zarrs_codecs.specs.Elements.{elements};
+ghost use Rattle.zarrs_codecs.specs.Validity.{Holds, validity};
+ghost use Rattle.zarrs_codecs.specs.ArrayReader.{ArrayReader};
 ghost use Rattle.zarrs_uses.specs.ChunkedArray.{AppendsFrom, AppendsPart, ReadsRegion, ReadsRows};
 
 use std::alloc::Global;
-use zarrs_codec_chain::laws::{
+use zarrs_codecs::laws::{
     boxes_are_cut, fewer_are_excused, numbers_name_elements, rows_are_alike, tuples_go_by_axis,
 };
-use zarrs_codec_chain::{
+use zarrs_codecs::{
     ArrayBytes, ArrayPartialDecoderTraits, ArraySubset, ChunkShape, CodecError, DataType,
     FillValue, Indexer, append_elements,
 };

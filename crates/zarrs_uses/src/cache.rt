@@ -1,14 +1,14 @@
 //! A cache of decoded chunks.
 ghost use Rattle.std.specs.Prelude.{◌≡◌, ◌<◌, IfSome, Ok, length};
 ghost use Rattle.std.specs.List.{All};
-ghost use Rattle.zarrs_codec_chain.specs.Answer.{AnswersValue, memory};
-ghost use Rattle.zarrs_codec_chain.specs.ChunkRead.{chunk_of};
+ghost use Rattle.zarrs_codecs.specs.Answer.{AnswersValue, memory};
+ghost use Rattle.zarrs_codecs.specs.ChunkRead.{chunk_of};
 ghost use Rattle.zarrs_uses.specs.Decoded.{IsDecoded, IsDecoded-prop};
 ghost use Rattle.std.proofs.Props.{props};
 
 use std::alloc::Global;
 use std::borrow::CowSlice;
-use zarrs_codec_chain::{
+use zarrs_codecs::{
     ArrayBytes, BytesToBytesCodecTraits, ChunkShape, CodecChain, CodecError, DataType, FillValue,
 };
 

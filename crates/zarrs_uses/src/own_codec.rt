@@ -1,17 +1,17 @@
 //! A bytes-to-bytes codec of the caller's own, in a chain with `bytes`.
 ghost use Rattle.std.specs.Prelude.{◌≡◌, ◌∷◌, [], Ok, IfOk, false};
-ghost use Rattle.zarrs_codec_chain.specs.Answer.{GivesItems};
-ghost use Rattle.zarrs_codec_chain.specs.Element.{Chunk};
-ghost use Rattle.zarrs_codec_chain.specs.Form.{form_of};
-ghost use Rattle.zarrs_codec_chain.specs.Validity.{Holds};
-ghost use Rattle.zarrs_codec_chain.specs.CodecMeaning.{bytes_codec};
-ghost use Rattle.zarrs_codec_chain.specs.ChainView.{plain_chain};
+ghost use Rattle.zarrs_codecs.specs.Answer.{GivesItems};
+ghost use Rattle.zarrs_codecs.specs.Element.{Chunk};
+ghost use Rattle.zarrs_codecs.specs.Form.{form_of};
+ghost use Rattle.zarrs_codecs.specs.Validity.{Holds};
+ghost use Rattle.zarrs_codecs.specs.CodecMeaning.{bytes_codec};
+ghost use Rattle.zarrs_codecs.specs.ChainView.{plain_chain};
 ghost use Rattle.zarrs_uses.specs.ComesBack.{ComesBack};
 ghost use Rattle.zarrs_uses.specs.ByteDelta.{deltas, sums};
 
 use std::alloc::Global;
 use std::borrow::CowSlice;
-use zarrs_codec_chain::{
+use zarrs_codecs::{
     ArrayBytes, ArrayBytesRaw, ArrayToBytesCodec, BytesCodec, BytesRepresentation,
     BytesToBytesCodecTraits, ChunkShape, CodecChain, CodecError, DataType, Endianness, FillValue,
     MetadataV3, PartialDecoderCapability, PartialEncoderCapability, PluginCreateError,

@@ -1,15 +1,15 @@
 //! A chunk that is taken from one chain to another.
 ghost use Rattle.std.specs.Prelude.{◌≡◌, IfOk, true};
-ghost use Rattle.zarrs_codec_chain.specs.ChainGrammar.{chain_grammar};
-ghost use Rattle.zarrs_codec_chain.specs.ChainView.{plain_chain};
-ghost use Rattle.zarrs_codec_chain.specs.CodecMeaning.{normal_form};
-ghost use Rattle.zarrs_codec_chain.specs.Element.{Chunk};
-ghost use Rattle.zarrs_codec_chain.specs.Form.{form_of};
+ghost use Rattle.zarrs_codecs.specs.ChainGrammar.{chain_grammar};
+ghost use Rattle.zarrs_codecs.specs.ChainView.{plain_chain};
+ghost use Rattle.zarrs_codecs.specs.CodecMeaning.{normal_form};
+ghost use Rattle.zarrs_codecs.specs.Element.{Chunk};
+ghost use Rattle.zarrs_codecs.specs.Form.{form_of};
 
 use std::alloc::Global;
 use std::borrow::CowSlice;
-use zarrs_codec_chain::laws::tight_containers_are_same;
-use zarrs_codec_chain::{
+use zarrs_codecs::laws::tight_containers_are_same;
+use zarrs_codecs::{
     BytesToBytesCodecTraits, ChunkShape, CodecChain, CodecError, DataType, FillValue, reencode,
 };
 
@@ -17,7 +17,7 @@ use zarrs_codec_chain::{
 /// says whether both chunks are the same bytes: they are wherever `to` leaves nothing out of the chunk.
 ///
 /// It rests on `decoded_again` of `reencode`, on `decodes` and `tight` of `CodecChain::decode`, and on
-/// `zarrs_codec_chain::laws::tight_containers_are_same`.
+/// `zarrs_codecs::laws::tight_containers_are_same`.
 pub fn is_kept<B: BytesToBytesCodecTraits, C: BytesToBytesCodecTraits>(
     alloc: Global,
     from: &CodecChain<B>,

@@ -1,18 +1,18 @@
 //! A window of a stored chunk is that part of the decoded chunk.
 ghost use Rattle.std.specs.Prelude.{◌≡◌, IfOk, true};
-ghost use Rattle.zarrs_codec_chain.specs.Tight.{IsTight};
-ghost use Rattle.zarrs_codec_chain.specs.Validity.{Holds};
-ghost use Rattle.zarrs_codec_chain.specs.Answer.{AnswersBy, memory_or_fault};
-ghost use Rattle.zarrs_codec_chain.specs.Indexer.{selection_of};
-ghost use Rattle.zarrs_codec_chain.specs.Selection.{subset};
-ghost use Rattle.zarrs_codec_chain.specs.ChunkRead.{chunk_of};
-ghost use Rattle.zarrs_codec_chain.specs.MadeCoder.{made_read};
+ghost use Rattle.zarrs_codecs.specs.Tight.{IsTight};
+ghost use Rattle.zarrs_codecs.specs.Validity.{Holds};
+ghost use Rattle.zarrs_codecs.specs.Answer.{AnswersBy, memory_or_fault};
+ghost use Rattle.zarrs_codecs.specs.Indexer.{selection_of};
+ghost use Rattle.zarrs_codecs.specs.Selection.{subset};
+ghost use Rattle.zarrs_codecs.specs.ChunkRead.{chunk_of};
+ghost use Rattle.zarrs_codecs.specs.MadeCoder.{made_read};
 ghost use Rattle.zarrs_uses.specs.Windows.{ReadsWindow};
 
 use std::alloc::Global;
 use std::borrow::CowSlice;
-use zarrs_codec_chain::laws::{chain_is_sound, standing_is_opened, tight_containers_are_same};
-use zarrs_codec_chain::{
+use zarrs_codecs::laws::{chain_is_sound, standing_is_opened, tight_containers_are_same};
+use zarrs_codecs::{
     ArrayBytes, ArraySubset, BytesPartialDecoderTraits, BytesToBytesCodecTraits, ChunkShape,
     CodecChain, CodecChainPartialTraits, CodecError, DataType, FillValue, Indexer, LentHandle,
 };
@@ -52,7 +52,7 @@ fn read_selected<H: BytesPartialDecoderTraits, B: BytesToBytesCodecTraits>(
 ///
 /// It rests on `answer`, `form` and `over_state` of `CodecChain::partial_decoder`, on `reads` of
 /// `ArrayPartialDecoder::partial_decode`, its parts `selected` and `exact`, and on
-/// `zarrs_codec_chain::laws::standing_is_opened`.
+/// `zarrs_codecs::laws::standing_is_opened`.
 pub fn read_window<H: BytesPartialDecoderTraits, B: BytesToBytesCodecTraits>(
     alloc: Global,
     chain: &CodecChain<B>,
@@ -79,7 +79,7 @@ pub fn read_window<H: BytesPartialDecoderTraits, B: BytesToBytesCodecTraits>(
 /// are the same bytes: they always are.
 ///
 /// It rests on `read_window`, on `decodes` of `CodecChain::decode`, on `exact` of
-/// `ArrayBytes::extract_array_subset`, and on `zarrs_codec_chain::laws::tight_containers_are_same`.
+/// `ArrayBytes::extract_array_subset`, and on `zarrs_codecs::laws::tight_containers_are_same`.
 pub fn windows_agree<B: BytesToBytesCodecTraits>(
     alloc: Global,
     chain: &CodecChain<B>,

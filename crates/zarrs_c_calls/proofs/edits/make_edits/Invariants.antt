@@ -1,6 +1,6 @@
 use Rattle.std.proofs.Common.{◌≡◌, true, length, drop}
 use Rattle.zarrs_json.specs.HeaderRead.{header_seen}
-use Rattle.zarrs_codec_chain.specs.PartialEncoder.{encoder_form}
+use Rattle.zarrs_codecs.specs.PartialEncoder.{encoder_form}
 use Rattle.zarrs_c_calls.specs.BufferHandle.{buffer_bytes, buffer_is_stored, buffer_name}
 use Rattle.zarrs_c_calls.specs.EditRuns.{buffer_of}
 use Rattle.zarrs_c_calls.specs.Edits.{all_are_taken}

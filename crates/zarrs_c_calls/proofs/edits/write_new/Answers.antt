@@ -1,9 +1,9 @@
 use Rattle.std.proofs.Common.{◌≡◌, ℕ, Bool, List, Option, Some, OnErr, true, refl, ap, subst}
 use Rattle.zarrs_chunk.specs.Answer.{Answers, memory, seen}
 use Rattle.zarrs_chunk.specs.Indexer.{selection_of}
-use Rattle.zarrs_codec_chain.specs.PartialEncoder.{encoder_form}
+use Rattle.zarrs_codecs.specs.PartialEncoder.{encoder_form}
 use Rattle.zarrs_json.specs.KnownBytesCodec.{known_codecs}
-use Rattle.zarrs_codec_chain.proofs.MadeCoders.{written_made}
+use Rattle.zarrs_codecs.proofs.MadeCoders.{written_made}
 use Rattle.zarrs_c_calls.specs.BufferHandle.{buffer_bytes, buffer_is_stored, buffer_name, buffer_state}
 use Rattle.zarrs_c_calls.specs.EditRuns.{buffer_of}
 use Rattle.zarrs_c_calls.specs.Reads.{form_seen, stored_value}

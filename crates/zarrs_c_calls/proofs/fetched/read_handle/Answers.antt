@@ -2,7 +2,7 @@ use Rattle.std.proofs.Common.{◌≡◌, IfOk, ap, subst}
 use Rattle.zarrs_chunk.specs.Indexer.{selection_of}
 use Rattle.zarrs_array_bytes.specs.Tight.{IsTight}
 use Rattle.zarrs_json.specs.HeaderRead.{header_seen}
-use Rattle.zarrs_codec_chain.specs.PartialDecoder.{decoder_form, handle_of, decoder_source}
+use Rattle.zarrs_codecs.specs.PartialDecoder.{decoder_form, handle_of, decoder_source}
 use Rattle.zarrs_json.specs.Header.{header_form, HeaderForm}
 use Rattle.zarrs_c_calls.proofs.FetchedLemmas.{part_answered, part_stopped}
 use Rattle.zarrs_c_calls.proofs.LackingLemmas.{surely_read}

@@ -1,6 +1,6 @@
 use Rattle.std.proofs.Common.{◌≡◌}
 use Rattle.zarrs_json.specs.HeaderRead.{header_seen}
-use Rattle.zarrs_codec_chain.specs.PartialDecoder.{decoder_form}
+use Rattle.zarrs_codecs.specs.PartialDecoder.{decoder_form}
 use Rattle.zarrs_c_calls.specs.EachRead.{decoder_value}
 use Rattle.zarrs_c_calls.specs.Reads.{form_seen}
 use Rattle.zarrs_c_calls.proofs.ManyLemmas.{ReadsOn}

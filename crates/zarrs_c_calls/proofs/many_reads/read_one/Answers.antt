@@ -3,9 +3,9 @@ use Rattle.zarrs_chunk.specs.Answer.{is_fault}
 use Rattle.zarrs_chunk.specs.Indexer.{selection_of}
 use Rattle.zarrs_array_bytes.specs.Tight.{IsTight}
 use Rattle.zarrs_json.specs.KnownBytesCodec.{known_codecs, known_reads}
-use Rattle.zarrs_codec_chain.specs.ChunkSource.{source_made}
-use Rattle.zarrs_codec_chain.specs.PartialDecoder.{decoder_form}
-use Rattle.zarrs_codec_chain.proofs.MadeCoders.{no_fault, read_made}
+use Rattle.zarrs_codecs.specs.ChunkSource.{source_made}
+use Rattle.zarrs_codecs.specs.PartialDecoder.{decoder_form}
+use Rattle.zarrs_codecs.proofs.MadeCoders.{no_fault, read_made}
 use Rattle.zarrs_json.specs.Header.{HeaderForm}
 use Rattle.zarrs_c_calls.specs.EachRead.{decoder_value}
 use Rattle.zarrs_c_calls.specs.Reads.{form_seen}

@@ -2,7 +2,7 @@ use Rattle.std.proofs.Common.{ap}
 use Rattle.zarrs_chunk.specs.Answer.{fault, memory}
 use Rattle.zarrs_json.specs.HeaderRead.{header_seen}
 use Rattle.zarrs_json.specs.KnownBytesCodec.{known_codecs, known_reads}
-use Rattle.zarrs_codec_chain.proofs.MadeCoders.{no_fault, read_unmade}
+use Rattle.zarrs_codecs.proofs.MadeCoders.{no_fault, read_unmade}
 use Rattle.zarrs_lent_handles.specs.LentHandle.{lent_value}
 use Rattle.zarrs_c_calls.specs.Reads.{form_seen}
 use Rattle.zarrs_c_calls.proofs.ManyLemmas.{first_refused}

@@ -3,9 +3,9 @@ use Rattle.zarrs_chunk.specs.Answer.{is_fault, fault}
 use Rattle.zarrs_chunk.specs.Indexer.{selection_of}
 use Rattle.zarrs_array_bytes.specs.Tight.{IsTight}
 use Rattle.zarrs_json.specs.HeaderRead.{header_seen}
-use Rattle.zarrs_codec_chain.specs.PartialDecoder.{decoder_form, handle_of, decoder_source}
+use Rattle.zarrs_codecs.specs.PartialDecoder.{decoder_form, handle_of, decoder_source}
 use Rattle.zarrs_json.specs.KnownBytesCodec.{known_codecs, known_reads}
-use Rattle.zarrs_codec_chain.proofs.MadeCoders.{no_fault, read_made, read_unmade}
+use Rattle.zarrs_codecs.proofs.MadeCoders.{no_fault, read_made, read_unmade}
 use Rattle.zarrs_json.specs.Header.{HeaderForm, header_form}
 use Rattle.zarrs_lent_handles.specs.LentHandle.{lent_value}
 use Rattle.zarrs_c_calls.proofs.part_reads.read_part.Goals as goal

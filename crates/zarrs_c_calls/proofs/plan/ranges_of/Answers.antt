@@ -1,6 +1,6 @@
 use Rattle.zarrs_chunk.specs.Indexer.{selection_of}
 use Rattle.zarrs_json.specs.HeaderRead.{header_seen}
-use Rattle.zarrs_codec_chain.specs.PartialEncoder.{encoder_form}
+use Rattle.zarrs_codecs.specs.PartialEncoder.{encoder_form}
 use Rattle.zarrs_json.specs.Header.{header_form}
 use Rattle.zarrs_c_calls.proofs.PlanLemmas.{plan_made, plan_refused}
 use Rattle.zarrs_c_calls.proofs.plan.ranges_of.Goals as goal

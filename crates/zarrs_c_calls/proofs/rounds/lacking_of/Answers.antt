@@ -1,6 +1,6 @@
 use Rattle.std.proofs.Common.{Err, refl}
 use Rattle.zarrs_chunk.specs.Indexer.{selection_of}
-use Rattle.zarrs_codec_chain.specs.PartialDecoder.{decoder_form, decoder_source, handle_of, made}
+use Rattle.zarrs_codecs.specs.PartialDecoder.{decoder_form, decoder_source, handle_of, made}
 use Rattle.zarrs_lent_handles.specs.Pieces.{zeros}
 use Rattle.zarrs_lent_handles.specs.PiecesHandle.{pieces_state}
 use Rattle.zarrs_c_calls.specs.Reads.{form_seen}

@@ -2,9 +2,9 @@ use Rattle.std.proofs.Common.{◌≡◌, false, Err, ap, ◌∙◌, rules}
 use Rattle.std.proofs.lemmas.Result.{err_from_is_err_and}
 use Rattle.zarrs_chunk.specs.Answer.{fault, memory}
 use Rattle.zarrs_chunk.specs.Indexer.{selection_of}
-use Rattle.zarrs_codec_chain.specs.PartialDecoder.{decoder_form, handle_of}
-use Rattle.zarrs_codec_chain.specs.ChunkSource.{source_made}
-use Rattle.zarrs_codec_chain.proofs.MadeCoders.{excused_less}
+use Rattle.zarrs_codecs.specs.PartialDecoder.{decoder_form, handle_of}
+use Rattle.zarrs_codecs.specs.ChunkSource.{source_made}
+use Rattle.zarrs_codecs.proofs.MadeCoders.{excused_less}
 use Rattle.zarrs_json.specs.KnownBytesCodec.{known_codecs, known_reads}
 use Rattle.zarrs_lent_handles.specs.Pieces.{zeros}
 use Rattle.zarrs_lent_handles.specs.PiecesHandle.{pieces_state}

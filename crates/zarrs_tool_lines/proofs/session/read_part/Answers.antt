@@ -3,9 +3,9 @@ use Rattle.zarrs_chunk.specs.Answer.{is_fault, fault}
 use Rattle.zarrs_chunk.specs.Indexer.{selection_of}
 use Rattle.zarrs_codec.specs.MemoryHandle.{handle_value}
 use Rattle.zarrs_chain.specs.ChainView.{plain_chain}
-use Rattle.zarrs_codec_chain.specs.PartialDecoder.{decoder_form, handle_of, decoder_source}
+use Rattle.zarrs_codecs.specs.PartialDecoder.{decoder_form, handle_of, decoder_source}
 use Rattle.zarrs_json.specs.KnownBytesCodec.{known_codecs, known_reads}
-use Rattle.zarrs_codec_chain.proofs.MadeCoders.{no_fault, read_made, read_unmade}
+use Rattle.zarrs_codecs.proofs.MadeCoders.{no_fault, read_made, read_unmade}
 use Rattle.zarrs_tool_lines.proofs.session.read_part.Goals as goal
 
 pub returns-in-Err-clause-answer : goal.returns-in-Err-clause-answer

@@ -4,10 +4,10 @@ use Rattle.zarrs_chunk.specs.Answer.{Answers, memory, seen}
 use Rattle.zarrs_chunk.specs.declared.codec_error.CodecError.{CodecError}
 use Rattle.zarrs_codec.specs.MemoryHandle.{handle_value}
 use Rattle.zarrs_chain.specs.ChainView.{plain_chain}
-use Rattle.zarrs_codec_chain.specs.PartialEncoder.{encoder_form, encoder_handle}
+use Rattle.zarrs_codecs.specs.PartialEncoder.{encoder_form, encoder_handle}
 use Rattle.zarrs_json.specs.Edit.{edit_seen}
 use Rattle.zarrs_json.specs.KnownBytesCodec.{known_codecs}
-use Rattle.zarrs_codec_chain.proofs.MadeCoders.{write_quiet, written_made, written_unmade}
+use Rattle.zarrs_codecs.proofs.MadeCoders.{write_quiet, written_made, written_unmade}
 use Rattle.zarrs_json.specs.Header.{HeaderForm}
 use Rattle.zarrs_json.specs.HeaderRead.{header_seen}
 use Rattle.zarrs_tool_lines.specs.Commands.{State, line_value_left}

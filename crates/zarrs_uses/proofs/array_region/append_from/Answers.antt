@@ -1,7 +1,7 @@
 use Rattle.std.proofs.Common.{◌≡◌, arith, subst}
 use Rattle.std.proofs.lemmas.List.{get_or-map, length-map}
 use Rattle.std.proofs.Math.Seq.{map-set_same}
-use Rattle.zarrs_codec_chain.specs.ArrayReader.{ArrayReader}
+use Rattle.zarrs_codecs.specs.ArrayReader.{ArrayReader}
 use Rattle.zarrs_uses.proofs.array_region.append_from.Goals as goal
 
 pub append_part-requires-clause-reads : goal.append_part-requires-clause-reads

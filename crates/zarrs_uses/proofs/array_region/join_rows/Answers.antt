@@ -1,11 +1,11 @@
 use Rattle.std.proofs.Common.{◌≡◌, ℕ, suc, ◌+◌, ◌/◌, ◌%◌, ◌<◌, ◌-◌, ◌∷◌, ◌++◌, length, map, arith, ap, sym, subst, ◌∙◌, Ok}
 use Rattle.std.proofs.lemmas.List.{length-map}
 use Rattle.std.proofs.lemmas.Result.{err_from_is_err_and}
-use Rattle.zarrs_codec_chain.specs.ChunkShape.{product}
-use Rattle.zarrs_codec_chain.specs.Region.{Region}
-use Rattle.zarrs_codec_chain.specs.Tuples.{box_tuples}
-use Rattle.zarrs_codec_chain.specs.Elements.{elements}
-use Rattle.zarrs_codec_chain.specs.Validity.{validity}
+use Rattle.zarrs_codecs.specs.ChunkShape.{product}
+use Rattle.zarrs_codecs.specs.Region.{Region}
+use Rattle.zarrs_codecs.specs.Tuples.{box_tuples}
+use Rattle.zarrs_codecs.specs.Elements.{elements}
+use Rattle.zarrs_codecs.specs.Validity.{validity}
 use Rattle.zarrs_uses.specs.ChunkedArray.{array_element}
 use Rattle.zarrs_uses.proofs.ArrayRows.{at_rows}
 use Rattle.zarrs_uses.proofs.ArrayJoins.{box_count, count_there, few_there, more_read, no_reader, part_refused, row_in_chunks, same_part, step_answer}

@@ -1,8 +1,8 @@
 use Rattle.std.proofs.Common.{◌≡◌, ◌-◌, ◌*◌, ◌<◌, ◌≤◌, ◌^◌, ◌∷◌, map, length, Ok, true, List, ℕ}
-use Rattle.zarrs_codec_chain.specs.ChunkShape.{product}
-use Rattle.zarrs_codec_chain.specs.Tuples.{is_box_inside}
-use Rattle.zarrs_codec_chain.specs.Element.{Chunk}
-use Rattle.zarrs_codec_chain.specs.Validity.{Holds, validity}
+use Rattle.zarrs_codecs.specs.ChunkShape.{product}
+use Rattle.zarrs_codecs.specs.Tuples.{is_box_inside}
+use Rattle.zarrs_codecs.specs.Element.{Chunk}
+use Rattle.zarrs_codecs.specs.Validity.{Holds, validity}
 use Rattle.zarrs_uses.specs.ChunkedArray.{ReadChunks, array_element}
 use Rattle.zarrs_uses.proofs.ArrayRows.{at_rows}
 use Rattle.zarrs_uses.proofs.array_region.join_rows.Given as goal

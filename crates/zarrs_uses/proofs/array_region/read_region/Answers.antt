@@ -1,6 +1,6 @@
 use Rattle.std.proofs.Common.{sym}
 use Rattle.std.proofs.lemmas.Result.{err_from_is_err_and}
-use Rattle.zarrs_codec_chain.specs.Form.{form_of}
+use Rattle.zarrs_codecs.specs.Form.{form_of}
 use Rattle.zarrs_uses.proofs.ArrayBounds.{fill_refused, rest_fits}
 use Rattle.zarrs_uses.proofs.array_region.read_region.Goals as goal
 

@@ -1,5 +1,5 @@
-use Rattle.zarrs_codec_chain.specs.ChainView.{plain_chain}
-use Rattle.zarrs_codec_chain.specs.Form.{form_of}
+use Rattle.zarrs_codecs.specs.ChainView.{plain_chain}
+use Rattle.zarrs_codecs.specs.Form.{form_of}
 use Rattle.zarrs_uses.proofs.BackAgain.{comes_back}
 use Rattle.zarrs_uses.proofs.own_codec.encode_and_decode.Goals as goal
 

@@ -1,7 +1,7 @@
 use Rattle.std.proofs.Common.{ap}
-use Rattle.zarrs_codec_chain.specs.ChainView.{plain_chain}
-use Rattle.zarrs_codec_chain.specs.Form.{form_of}
-use Rattle.zarrs_codec_chain.specs.CodecMeaning.{PlainChain}
+use Rattle.zarrs_codecs.specs.ChainView.{plain_chain}
+use Rattle.zarrs_codecs.specs.Form.{form_of}
+use Rattle.zarrs_codecs.specs.CodecMeaning.{PlainChain}
 use Rattle.zarrs_uses.specs.ByteDelta.{byte_delta_codecs}
 use Rattle.zarrs_uses.specs.declared.own_codec.ByteDeltaCodec.{ByteDeltaCodec}
 use Rattle.zarrs_uses.proofs.BackAgain.{chunk_back}

@@ -1,6 +1,6 @@
 use Rattle.std.proofs.Common.{◌∙◌}
-use Rattle.zarrs_codec_chain.specs.ChainView.{plain_chain}
-use Rattle.zarrs_codec_chain.specs.Form.{form_of}
+use Rattle.zarrs_codecs.specs.ChainView.{plain_chain}
+use Rattle.zarrs_codecs.specs.Form.{form_of}
 use Rattle.zarrs_uses.proofs.Conversions.{decoded_same}
 use Rattle.zarrs_uses.proofs.reencoding.is_kept.Goals as goal
 

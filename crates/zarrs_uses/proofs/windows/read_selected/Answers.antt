@@ -1,10 +1,10 @@
 use Rattle.std.proofs.Common.{◌<◌, IfOk, ap, subst}
 use Rattle.std.specs.List.{All}
-use Rattle.zarrs_codec_chain.specs.Indexer.{selection_of}
-use Rattle.zarrs_codec_chain.specs.Tight.{IsTight}
-use Rattle.zarrs_codec_chain.specs.ChunkForm.{ChunkForm}
-use Rattle.zarrs_codec_chain.specs.ChunkRead.{chunk_of}
-use Rattle.zarrs_codec_chain.specs.PartialDecoder.{decoder_form, decoder_source, handle_of}
+use Rattle.zarrs_codecs.specs.Indexer.{selection_of}
+use Rattle.zarrs_codecs.specs.Tight.{IsTight}
+use Rattle.zarrs_codecs.specs.ChunkForm.{ChunkForm}
+use Rattle.zarrs_codecs.specs.ChunkRead.{chunk_of}
+use Rattle.zarrs_codecs.specs.PartialDecoder.{decoder_form, decoder_source, handle_of}
 use Rattle.zarrs_uses.proofs.WindowReads.{made_so, read_so, unmade, unopened}
 use Rattle.zarrs_uses.proofs.windows.read_selected.Goals as goal
 

@@ -1,7 +1,7 @@
 use Rattle.std.proofs.Common.{◌∙◌, Some, Ok, refl}
-use Rattle.zarrs_codec_chain.specs.Selection.{Selection}
-use Rattle.zarrs_codec_chain.specs.ChunkRead.{chunk_of}
-use Rattle.zarrs_codec_chain.specs.LentHandle.{lent_value}
+use Rattle.zarrs_codecs.specs.Selection.{Selection}
+use Rattle.zarrs_codecs.specs.ChunkRead.{chunk_of}
+use Rattle.zarrs_codecs.specs.LentHandle.{lent_value}
 use Rattle.zarrs_uses.proofs.WindowReads.{read_so, windows_same, same_box}
 use Rattle.zarrs_uses.proofs.windows.windows_agree.Goals as goal
 

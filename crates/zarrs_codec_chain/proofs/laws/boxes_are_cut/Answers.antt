@@ -1,5 +1,0 @@
-use Rattle.zarrs_codec_chain.proofs.BoxRows.{cut_rows}
-use Rattle.zarrs_codec_chain.proofs.laws.boxes_are_cut.Goals as goal
-
-pub returns : goal.returns
-returns c = record { law = cut_rows }

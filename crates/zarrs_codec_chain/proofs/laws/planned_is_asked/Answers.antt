@@ -1,5 +1,0 @@
-use Rattle.zarrs_codec_chain.proofs.PlannedAlike.{planned_is_asked}
-use Rattle.zarrs_codec_chain.proofs.laws.planned_is_asked.Goals as goal
-
-pub returns : goal.returns
-returns g c = record { law = λ f. planned_is_asked f }

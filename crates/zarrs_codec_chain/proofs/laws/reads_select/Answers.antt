@@ -1,5 +1,0 @@
-use Rattle.zarrs_codec_chain.proofs.ReadLaws.{chunks_select}
-use Rattle.zarrs_codec_chain.proofs.laws.reads_select.Goals as goal
-
-pub returns : goal.returns
-returns g c = record { law = λ f. chunks_select f }

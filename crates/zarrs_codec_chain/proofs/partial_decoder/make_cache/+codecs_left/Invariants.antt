@@ -1,5 +1,0 @@
-use Rattle.std.proofs.Common.{length}
-use Rattle.zarrs_codec_chain.proofs.partial_decoder.make_cache.+codecs_left.Given as goal
-
-abbrev pub decreases-codecs_left : goal.decreases-codecs_left
-decreases-codecs_left g l = length l.codecs.now

@@ -1,7 +1,0 @@
-use Rattle.zarrs_codec_chain.proofs.GroupWalks.{span_at}
-use Rattle.zarrs_codec_chain.proofs.sharding.box_reads.place_of.Goals as goal
-
-pub returns : goal.returns
-returns c =
-    let at = span_at c.args.numbers.now c.args.number c.requires.there in
-    record { value = rw at cc }
