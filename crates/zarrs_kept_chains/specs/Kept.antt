@@ -1,0 +1,7 @@
+-- What is kept.
+use Rattle.zarrs_json.specs.declared.header.ChunkHeader.{ChunkHeader}
+use Rattle.zarrs_kept_chains.specs.declared.kept.Kept.{Kept}
+
+-- the header that is kept
+abbrev pub header_of : Kept → ChunkHeader
+header_of kept = kept.header.value
