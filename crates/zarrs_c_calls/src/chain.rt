@@ -4,8 +4,7 @@ ghost use Rattle.zarrs_chunk.specs.Answer.{Answers};
 ghost use Rattle.zarrs_c_calls.specs.Calls.{header_given};
 ghost use Rattle.zarrs_c_calls.specs.Codes.{cause_memory};
 ghost use Rattle.zarrs_c_calls.specs.Kept.{kept_given, TellsKept};
-ghost use Rattle.zarrs_json.specs.HeaderRead.{header_seen};
-ghost use Rattle.zarrs_kept_chains.specs.Kept.{header_of};
+ghost use Rattle.zarrs_kept_chains.specs.Kept.{header_shown};
 ghost use Rattle.zarrs_kept_chains.specs.KeptChain.{kept_header};
 
 use crate::calls::form_given;
@@ -15,7 +14,7 @@ use zarrs_kept_chains::{Kept, KeptChain};
 
 /// The header that a text is, where it can be kept.
 fn header_kept(alloc: Global, text: &[u8]) -> Result<Box<Kept>, Cause>
-    ensures answer { Answers cause_memory (λ kept. header_seen (header_of kept.value)) result (header_given text.now) }
+    ensures answer { Answers cause_memory (λ kept. header_shown kept.value) result (header_given text.now) }
 {
     Ok(Kept::new(alloc, form_given(alloc, text)?)?)
 }
