@@ -1,4 +1,5 @@
-use Rattle.std.proofs.Common.{refl}
+use Rattle.std.proofs.Common.{ℕ, ◌<◌, List, refl, subst}
+use Rattle.std.specs.List.{All}
 use Rattle.std.proofs.lemmas.Result.{err_from_is_err_and}
 use Rattle.zarrs_chunk.specs.Indexer.{selection_of}
 use Rattle.zarrs_json.specs.Header.{header_form}
@@ -13,7 +14,7 @@ pub returns : goal.returns
 returns c =
     let f = c.args.fetched.now in
     let header = header_seen c.args.form.now in
-    let sound : IsSoundForm (header_form header) = record { mappings = c.chain_is_sound.ensures.mappings.mappings; positive = c.as_slice.ensures.positive } in
+    let sound : IsSoundForm (header_form header) = record { mappings = c.chain_is_sound.ensures.mappings.mappings; positive = subst (λ (sizes : List ℕ). All (λ size. 0 < size) sizes) c.as_slice.ensures.value c.as_slice.ensures.positive } in
     record {
       answer = all_due (known_header c.args.form.now) f.len f.ranges.now f.bytes.now c.args.tuples c.args.numbers.now header (selection_of c.in_ok-indexer.indexer) (pieces_seen c.in_ok-pieces.pieces.items) refl c.in_ok-indexer.ensures.answer c.in_ok-pieces.ensures.answer
           c.in_ok-lacking_apart.field-0.items (c.in_ok-lacking_apart.ensures.answer sound);
@@ -23,7 +24,7 @@ pub returns-in_err-lacking_apart : goal.returns-in_err-lacking_apart
 returns-in_err-lacking_apart c =
     let f = c.args.fetched.now in
     let header = header_seen c.args.form.now in
-    let sound : IsSoundForm (header_form header) = record { mappings = c.chain_is_sound.ensures.mappings.mappings; positive = c.as_slice.ensures.positive } in
+    let sound : IsSoundForm (header_form header) = record { mappings = c.chain_is_sound.ensures.mappings.mappings; positive = subst (λ (sizes : List ℕ). All (λ size. 0 < size) sizes) c.as_slice.ensures.value c.as_slice.ensures.positive } in
     let p = err_from_is_err_and c.from_residual-in_err-lacking_apart.result c.from_residual-in_err-lacking_apart.ensures.1 in
     let error = c.in_err-lacking_apart.field-0.0 in
     record {
