@@ -100,8 +100,8 @@ class Chain:
 
     A value goes in as any buffer and comes out as an array of `uint8`. A selection is a basic index of
     numpy, or a list or an array of elements' indices, a row for each. Each refusal is an exception of the
-    library's name, below `Refused`; `OutOfMemory` may come in place of any answer. A chain has no state,
-    so threads may use one together. numpy's arrays have 32 axes at most, from its version 2 on 64: of a chunk with more,
+    library's name, below `Refused`; `OutOfMemory` may come in place of any answer. A chain has no state
+    but what the library keeps of its header, so threads may use one together. numpy's arrays have 32 axes at most, from its version 2 on 64: of a chunk with more,
     elements are read and written by lists of indices, and else numpy's `ValueError` comes.
 
     >>> chain = Chain([{"name": "bytes", "configuration": {"endian": "big"}}], (2,), "int16", -1)
