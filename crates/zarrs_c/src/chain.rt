@@ -1,7 +1,7 @@
 //! The calls `zarrs_chain_new`, `zarrs_chain_share` and `zarrs_chain_free`.
 ghost use Rattle.std.specs.Prelude.{◌≡◌, None};
 ghost use Rattle.zarrs_c_calls.specs.Calls.{header_given};
-ghost use Rattle.zarrs_c_calls.specs.Kept.{kept_given, TellsKept};
+ghost use Rattle.zarrs_c_calls.specs.Kept.{kept_given, KeepsHeader};
 ghost use Rattle.zarrs_kept_chains.specs.KeptChain.{kept_header};
 
 use std::alloc::Global;
@@ -12,7 +12,7 @@ use zarrs_kept_chains::KeptChain;
 /// stays then.
 #[unsafe(no_mangle)]
 pub extern "C" fn zarrs_chain_new(alloc: Global, text: &[u8], chain: &mut KeptChain) -> u32
-    ensures told { TellsKept (header_given text.now) result
+    ensures told { KeepsHeader (header_given text.now) result
         (kept_header chain.old) (kept_header chain.new) }
 {
     zarrs_c_calls::zarrs_chain_new(alloc, text, chain)
@@ -28,7 +28,7 @@ pub extern "C" fn zarrs_chain_share(
     other: &mut KeptChain,
 ) -> u32
     ensures chain_kept { kept_header chain.new ≡ kept_header chain.old }
-    ensures told { TellsKept (kept_given chain.old) result
+    ensures told { KeepsHeader (kept_given chain.old) result
         (kept_header other.old) (kept_header other.new) }
 {
     zarrs_c_calls::zarrs_chain_share(alloc, chain, other)

@@ -12,7 +12,7 @@ abbrev pub kept_given : KeptChain → Result Header Cause
 kept_given chain = ok_or (kept_header chain) Argument
 
 -- The header that is due is kept, and the code is 0; or the call fails, and what was kept stays.
-abbrev pub TellsKept : Result Header Cause → ℕ → (old new : Option Header) → Type 0
-TellsKept expected code old new =
+abbrev pub KeepsHeader : Result Header Cause → ℕ → (old new : Option Header) → Type 0
+KeepsHeader expected code old new =
     ((header : Header) × (expected ≡ Ok header) × (new ≡ Some header) × (code ≡ 0))
     ⊎ (IsRefusal expected code × (new ≡ old))

@@ -3,9 +3,8 @@ ghost use Rattle.std.specs.Prelude.{◌≡◌, None};
 ghost use Rattle.zarrs_chunk.specs.Answer.{Answers};
 ghost use Rattle.zarrs_c_calls.specs.Calls.{header_given};
 ghost use Rattle.zarrs_c_calls.specs.Codes.{cause_memory};
-ghost use Rattle.zarrs_c_calls.specs.Kept.{kept_given, TellsKept};
-ghost use Rattle.zarrs_json.specs.HeaderRead.{header_seen};
-ghost use Rattle.zarrs_kept_chains.specs.Kept.{header_of};
+ghost use Rattle.zarrs_c_calls.specs.Kept.{kept_given, KeepsHeader};
+ghost use Rattle.zarrs_kept_chains.specs.Kept.{header_shown};
 ghost use Rattle.zarrs_kept_chains.specs.KeptChain.{kept_header};
 
 use crate::calls::form_given;
@@ -15,7 +14,7 @@ use zarrs_kept_chains::{Kept, KeptChain};
 
 /// The header that a text is, where it can be kept.
 fn header_kept(alloc: Global, text: &[u8]) -> Result<Box<Kept>, Cause>
-    ensures answer { Answers cause_memory (λ kept. header_seen (header_of kept.value)) result (header_given text.now) }
+    ensures answer { Answers cause_memory (λ kept. header_shown kept.value) result (header_given text.now) }
 {
     Ok(Kept::new(alloc, form_given(alloc, text)?)?)
 }
@@ -24,7 +23,7 @@ fn header_kept(alloc: Global, text: &[u8]) -> Result<Box<Kept>, Cause>
 /// is freed. `chain` begins as `{0}`, which keeps none. Errors: those of `zarrs_check`; what was kept
 /// stays then.
 pub fn zarrs_chain_new(alloc: Global, text: &[u8], chain: &mut KeptChain) -> u32
-    ensures told { TellsKept (header_given text.now) result
+    ensures told { KeepsHeader (header_given text.now) result
         (kept_header chain.old) (kept_header chain.new) }
 {
     match header_kept(alloc, text) {
@@ -41,7 +40,7 @@ pub fn zarrs_chain_new(alloc: Global, text: &[u8], chain: &mut KeptChain) -> u32
 /// keeps it. Errors: `Argument` where `chain` keeps none; `OutOfMemory`; what `other` kept stays then.
 pub fn zarrs_chain_share(alloc: Global, chain: &mut KeptChain, other: &mut KeptChain) -> u32
     ensures chain_kept { kept_header chain.new ≡ kept_header chain.old }
-    ensures told { TellsKept (kept_given chain.old) result
+    ensures told { KeepsHeader (kept_given chain.old) result
         (kept_header other.old) (kept_header other.new) }
 {
     let Some(kept) = chain.take(alloc) else {

@@ -85,6 +85,7 @@ fn check_edits(
     len: usize,
     edits: &Edits<'_>,
 ) -> Result<(), Cause>
+    // Wide: a header, a value and what edits take of three lists.
     ensures answer { Answers cause_memory (λ _. header_seen form.now) result
         (edits_opened (known_header form.now) len
         edits.now.sizes.now (length edits.now.numbers.now) (length edits.now.bytes.now)) }

@@ -1,67 +1,98 @@
--- How the machine holds a place, and what the calls need that take a box of something kept apart and make it again.
-use Rattle.std.proofs.Common.{◌≡◌, List, [], ◌∷◌, refl, lit<}
-use Rattle.std.specs.Prelude.{Option, Some, None, true, Bool}
-use lib.Dec.{T}
-use mathlib.Core.Path.{sym, subst}
-use mir.Syntax.{Dict, Args, impl, tnil, tcons, dnil, dcons, a_type, method, no_args, ty_ptr}
-use mir.Val.{Val, vstruct, vcons, vnil, has_ty, WT}
-use prog.Wired.{Wired}
-use contract.BorrowLft.{⊑_static}
-use denote.Param.{layout, bounded}
-use denote.Param.Glue.{Met as Drops}
+-- How the machine has a place, and what calls are given that take a box of what is kept apart, or make it again.
+use Rattle.std.proofs.Common.{◌≡◌, [], ◌∷◌, refl, lit<}
+use Rattle.std.proofs.ResultValues.{and_tt}
+use Rattle.std.specs.Prelude.{Option, Some, None, is_some, true}
+use base.Fml.{flft, ftrue}
+use base.Fraction.{full_share}
+use base.Logic.{ent, emp}
+use contract.BorrowLft.{◌⊑◌, ⊑_static}
+use contract.Monad.{fact, fact_i}
+use denote.Exit.{no}
+use denote.Param.{arg, layout}
+use denote.Param.Laws.{Laws, arg_laws}
 use denote.RattleType.{RattleType}
 use denote.RawPtr.{Ptr, block_ptr, null_ptr, ptr_val}
-use denote.Signature.{Slot, plain}
-use denote.Triple.Carry.{spared}
-use denote.Triple.Spec.{triple_of}
-use denote.Triple.Table.{run_framed, widened}
-use prog.Model.{Model}
+use denote.Steps.{nothing}
+use lib.Dec.{T}
+use mathlib.Core.Path.{sym, subst}
+use mir.Raw.{raw as bare}
+use mir.Syntax.{Dict, impl, tnil, tcons, dnil, ty_ptr}
+use mir.Val.{has_ty, WT}
 use seplogic.Ra.Ura.{Ura}
+use types.Kit.{Item, ‵, raw, ◌⊛◌, ◌$◌, ◌∵◌, !, qed, join, done, use0, mean}
 use types.Logic.{Logic}
-use contract.Running.{Running}
-use Rattle.std.specs.declared.alloc.Global.{Global}
 use Rattle.std.specs.contracts.alloc.Global as Heap
-use Rattle.std.specs.contracts.impls.GlobalAllocator.TheImpl.{ghosts}
-use Rattle.std.proofs.alloc.Global.TheLaws as heap
-use Rattle.std.specs.declared.boxed.Box.{Box}
 use Rattle.std.specs.contracts.boxed.Box as Boxes
-use Rattle.zarrs_kept_chains.specs.declared.kept.Kept.{Kept as KeptValue}
+use Rattle.std.specs.contracts.impls.GlobalAllocator.TheImpl.{ghosts}
+use Rattle.std.specs.declared.alloc.Global.{Global}
+use Rattle.std.specs.declared.boxed.Box.{Box}
+use Rattle.std.proofs.alloc.Global.TheLaws as heap
 use Rattle.zarrs_kept_chains.specs.contracts.kept.Kept as Kept
-use Rattle.zarrs_kept_chains.proofs.kept.Kept.TheLaws as kept
-use Rattle.zarrs_kept_chains.specs.declared.place.Place.{Place as PlaceValue}
 use Rattle.zarrs_kept_chains.specs.contracts.place.Place as Place
+use Rattle.zarrs_kept_chains.specs.declared.kept.Kept.{Kept as KeptValue}
+use Rattle.zarrs_kept_chains.specs.declared.place.Place.{Place as PlaceValue}
+use Rattle.zarrs_kept_chains.proofs.Destruct++none.drop.Symbol as none
+use Rattle.zarrs_kept_chains.proofs.kept.Kept.TheLaws as kept
 use Rattle.zarrs_kept_chains.proofs.place.Place.TheLaws.{lowered}
-use Rattle.zarrs_kept_chains.specs.Place.{has_kept}
-use Rattle.zarrs_kept_chains.specs.contracts.zarrs_kept_chains++kept++Kept+Destruct.drop as Drop
-use Rattle.zarrs_kept_chains.proofs.zarrs_kept_chains++kept++Kept+Destruct.drop.Symbol as drop
-use Rattle.zarrs_kept_chains.proofs.zarrs_kept_chains++kept++Kept+Destruct.drop.Met as dropped
 
--- a box of something kept
+-- a box of what is kept, and the place that owns the same
 abbrev pub Boxed : RattleType
 Boxed = Boxes.the_row Kept.the_row Heap.the_row ghosts
 
--- the place of what a box holds
 abbrev pub place_of : Box KeptValue Global → PlaceValue
 place_of box = record { at = box.ptr; alloc = box.alloc; kept = Some box.value }
 
--- an address in the machine has the type of one, and so has a place
+-- where something is kept, a value is
+pub some_kept : (kept : Option KeptValue) → is_some kept ≡ true → (value : KeptValue) × (kept ≡ Some value)
+some_kept None none = absurd (subst T (sym none) tt)
+some_kept (Some value) some = (value, refl)
+
+-- ---- what the machine stores fits
+
 pub address_fits : (at : Ptr) → T (has_ty ty_ptr (ptr_val at)) × WT (ptr_val at)
 address_fits (block_ptr block offset) = (tt, tt)
 address_fits null_ptr = (tt, record { fits = lit< tt })
 
--- how something kept is dropped
-abbrev pub kept_drop : Dict
-kept_drop = impl (drop.symbol ∷ []) tnil dnil
+-- the heap's handle takes no bytes
+pub handle_fits : (alloc : Global) → T (has_ty (layout Heap.the_row) (heap.lowered alloc)) × WT (heap.lowered alloc)
+handle_fits alloc = (tt, ((tt, tt), tt))
 
--- and what a call asks of that
-pub kept_drops : {M : Type 1} (𝓤 : Ura M) (𝓛 : Logic 𝓤) (𝓜 : Model 𝓤 𝓛.H) (𝓡 : Running 𝓤 𝓛.H 𝓜) → Wired 𝓡.env drop.code → Drops 𝓛 𝓜 𝓡 𝓡.env Kept.the_row kept_drop
-kept_drops 𝓤 𝓛 𝓜 𝓡 wired =
-    let key = method kept_drop 0 no_args in
-    let c = Drop.spec 𝓛 𝓜.mem 𝓡.returns in
-    spared 𝓛 Drop.signature (𝓡.run (𝓡.env key)) (run_framed 𝓤 𝓛.H 𝓜 𝓡 (𝓡.env key)) 1 (Kept.the_row.lives, tt) c
-    (widened 𝓤 𝓛.H (triple_of 𝓛 Drop.signature c) 𝓜 𝓡 𝓡.env (𝓡.env drop.name) (𝓡.env key) (drop.as_method 𝓡.env wired key refl) (dropped.met 𝓤 𝓛 𝓜 𝓡 wired))
+pub place_fits : (place : PlaceValue) → T (has_ty (layout Place.the_row) (lowered place)) × WT (lowered place)
+place_fits place =
+    let at = address_fits place.at in
+    (and_tt (has_ty ty_ptr (ptr_val place.at)) at.0, (at.1, ((handle_fits place.alloc).1, tt)))
 
--- where something is kept, it is a value
-pub some_kept : (kept : Option KeptValue) → has_kept kept ≡ true → (value : KeptValue) × (kept ≡ Some value)
-some_kept None none = absurd (subst T (sym none) tt)
-some_kept (Some value) some = (value, refl)
+-- ---- what a call is given that is generic over what a box holds, and over its allocator
+
+abbrev pub Passed : RattleType → RattleType
+Passed row = arg (bare (layout row)) no row
+
+pub kept_laws : Laws (Passed Kept.the_row)
+kept_laws = arg_laws (bare (layout Kept.the_row)) no Kept.the_row kept.the_row_laws refl
+
+pub heap_laws : Laws (Passed Heap.the_row)
+heap_laws = arg_laws (bare (layout Heap.the_row)) no Heap.the_row heap.the_row_laws refl
+
+-- where it finds how the heap's handle is dropped
+abbrev pub heap_drop : Dict
+heap_drop = impl (none.symbol ∷ []) (tcons (layout (Passed Heap.the_row)) tnil) dnil
+
+-- A lifetime for each of the two types: both hold values that never end, and so does the call.
+abbrev pub Endless : {M : Type 1} {𝓤 : Ura M} (𝓛 : Logic 𝓤) → Item 𝓤
+Endless 𝓛 = ‵ (flft [] full_share) ⊛ ‵ (flft [] full_share) ⊛ ‵ ftrue
+
+pub endless : {M : Type 1} {𝓤 : Ura M} (𝓛 : Logic 𝓤) → ent 𝓤 (emp 𝓤) (mean 𝓛 (Endless 𝓛))
+endless 𝓛 =
+    let token = 𝓛.lfts.lft-nil full_share in
+    qed 𝓛 [] ∵ nothing ! $ use0 𝓛 (‵ (flft [] full_share)) token $ join ! $ use0 𝓛 (‵ (flft [] full_share)) token $ join ! $ done !
+
+-- and what holds of these lifetimes
+abbrev pub Outlived : {M : Type 1} {𝓤 : Ura M} (𝓛 : Logic 𝓤) → Item 𝓤
+Outlived {𝓤 = 𝓤} 𝓛 = raw (fact 𝓤 ([] ⊑ Kept.the_row.lives)) ⊛ raw (fact 𝓤 ([] ⊑ Heap.the_row.lives)) ⊛ ‵ ftrue
+
+pub outlived : {M : Type 1} {𝓤 : Ura M} (𝓛 : Logic 𝓤) → ent 𝓤 (emp 𝓤) (mean 𝓛 (Outlived 𝓛))
+outlived {𝓤 = 𝓤} 𝓛 =
+    let of_kept = [] ⊑ Kept.the_row.lives in
+    let of_heap = [] ⊑ Heap.the_row.lives in
+    qed 𝓛 [] ∵ nothing ! $ use0 𝓛 (raw (fact 𝓤 of_heap)) (fact_i 𝓤 of_heap (emp 𝓤) (⊑_static [])) $ join ! $
+    use0 𝓛 (raw (fact 𝓤 of_kept)) (fact_i 𝓤 of_kept (emp 𝓤) (⊑_static [])) $ join ! $ done !

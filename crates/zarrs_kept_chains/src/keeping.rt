@@ -1,8 +1,6 @@
-//! What a handle of C keeps: taken, kept, freed.
-ghost use Rattle.std.specs.Prelude.{◌≡◌, Some, None};
-ghost use Rattle.std.specs.Option.{option_map};
-ghost use Rattle.zarrs_json.specs.HeaderRead.{header_seen};
-ghost use Rattle.zarrs_kept_chains.specs.Kept.{header_of};
+//! What a handle keeps: put there, taken, freed.
+ghost use Rattle.std.specs.Prelude.{◌≡◌, Some, None, option_map};
+ghost use Rattle.zarrs_kept_chains.specs.Kept.{header_shown};
 ghost use Rattle.zarrs_kept_chains.specs.KeptChain.{kept_header};
 
 use crate::kept::Kept;
@@ -12,9 +10,9 @@ use std::alloc::Global;
 use std::mem;
 
 impl KeptChain {
-    /// A handle that keeps nothing.
+    /// A handle that keeps nothing, as C's is that begins zeroed.
     pub fn none(alloc: Global) -> KeptChain
-        ensures none { kept_header result ≡ None }
+        ensures empty { kept_header result ≡ None }
     {
         KeptChain {
             is_there: false,
@@ -23,8 +21,8 @@ impl KeptChain {
     }
 
     /// A handle that keeps a header.
-    pub fn some(kept: Box<Kept>) -> KeptChain
-        ensures kept { kept_header result ≡ Some (header_seen (header_of kept.value)) }
+    fn some(kept: Box<Kept>) -> KeptChain
+        ensures header_kept { kept_header result ≡ Some (header_shown kept.value) }
     {
         KeptChain {
             is_there: true,
@@ -32,9 +30,9 @@ impl KeptChain {
         }
     }
 
-    /// What is kept, where something is, and the handle is gone.
+    /// What a handle keeps, or none. The handle is used up: so an owner in Rust lets one go.
     pub fn into_kept(self) -> Option<Box<Kept>>
-        ensures kept { kept_header self ≡ option_map (λ kept. header_seen (header_of kept.value)) result }
+        ensures value { option_map (λ kept. header_shown kept.value) result ≡ kept_header self }
     {
         let KeptChain { is_there, place } = self;
         if is_there {
@@ -45,22 +43,23 @@ impl KeptChain {
         }
     }
 
-    /// What is kept, where something is, and the handle keeps nothing from then on.
+    /// What the handle keeps, or none. It keeps nothing from then on: a call that only reads puts it
+    /// back by [`keep`](KeptChain::keep).
     pub fn take(&mut self, alloc: Global) -> Option<Box<Kept>>
+        ensures value { option_map (λ kept. header_shown kept.value) result ≡ kept_header self.old }
         ensures empty { kept_header self.new ≡ None }
-        ensures taken { kept_header self.old ≡ option_map (λ kept. header_seen (header_of kept.value)) result }
     {
         mem::replace(self, KeptChain::none(alloc)).into_kept()
     }
 
-    /// Keeps a header, in place of what was kept, which is freed.
+    /// Keeps a header, in place of what the handle kept, which is freed.
     pub fn keep(&mut self, kept: Box<Kept>)
-        ensures kept { kept_header self.new ≡ Some (header_seen (header_of kept.value)) }
+        ensures header_kept { kept_header self.new ≡ Some (header_shown kept.value) }
     {
         drop(mem::replace(self, KeptChain::some(kept)).into_kept());
     }
 
-    /// Frees what is kept.
+    /// Frees what the handle keeps. It keeps nothing from then on, and may be used, or cleared, again.
     pub fn clear(&mut self, alloc: Global)
         ensures empty { kept_header self.new ≡ None }
     {

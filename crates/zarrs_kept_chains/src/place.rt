@@ -1,14 +1,14 @@
 //! The address of what is kept.
-ghost use Rattle.std.specs.Prelude.{◌≡◌, Option, Some, None, true};
+ghost use Rattle.std.specs.Prelude.{◌≡◌, Option, Some, None, is_some, true};
 ghost use Rattle.zarrs_kept_chains.specs.declared.kept.Kept.{Kept as KeptValue};
-ghost use Rattle.zarrs_kept_chains.specs.Place.{has_kept, kept_coded, place_owns};
+ghost use Rattle.zarrs_kept_chains.specs.Place.{kept_coded, place_owns};
 
 use crate::kept::Kept;
 use std::alloc::Global;
 use std::marker::Model;
 use std::ptr;
 
-/// The address of a header that is kept, which it owns, or of none.
+/// The address of something kept, which it owns, or of nothing.
 #[repr(C)]
 pub(crate) struct Place {
     at: *mut u8,
@@ -17,13 +17,16 @@ pub(crate) struct Place {
 }
 
 impl Model for Place {
-    ghost also_owns = { λ place. place_owns (⟦<Global as std::alloc::Allocator>⟧.dealloc_token place.alloc) place.kept place.at };
+    ghost also_owns = { λ place. place_owns
+        (⟦<Global as std::alloc::Allocator>⟧.dealloc_token place.alloc) place.kept place.at };
 }
 
+unsafe impl Send for Place {}
+
 impl Place {
-    /// The address of none.
+    /// The address of nothing.
     pub(crate) fn none(alloc: Global) -> Place
-        ensures none { result.kept ≡ None }
+        ensures empty { result.kept ≡ None }
     {
         let at = ptr::null_mut();
         Place { at, alloc }
@@ -31,7 +34,7 @@ impl Place {
 
     /// The address of what a box holds.
     pub(crate) fn of_box(kept: Box<Kept>) -> Place
-        ensures kept { result.kept ≡ Some kept.value }
+        ensures header_kept { result.kept ≡ Some kept.value }
     {
         let (at, alloc) = Box::into_raw_with_allocator(kept);
         Place {
@@ -40,19 +43,19 @@ impl Place {
         }
     }
 
-    /// Lets the address of none go.
-    pub(crate) fn leave(self)
-        requires none { self.kept ≡ None }
-    {
-        let Place { at: _, alloc: _ } = self;
-    }
-
-    /// What is kept there, as a box.
+    /// What is kept at the address, in its box.
     pub(crate) fn into_box(self) -> Box<Kept>
-        requires some { has_kept self.kept ≡ true }
-        ensures kept { self.kept ≡ Some result.value }
+        requires some { is_some self.kept ≡ true }
+        ensures value { self.kept ≡ Some result.value }
     {
         let Place { at, alloc } = self;
         unsafe { Box::from_raw(alloc, at as *mut Kept) }
+    }
+
+    /// Lets the address of nothing go.
+    pub(crate) fn leave(self)
+        requires empty { self.kept ≡ None }
+    {
+        let Place { at: _, alloc: _ } = self;
     }
 }
