@@ -3,6 +3,7 @@
 import ctypes
 import os
 from pathlib import Path
+from typing import Any
 
 from . import refusals
 
@@ -14,7 +15,7 @@ _BUFFER = [_AT, _LENGTH]
 _ELEMENTS = [*_BUFFER, *_BUFFER, *_BUFFER]
 _SELECTION = [_NUMBER, *_BUFFER]
 _STORED = [ctypes.c_bool, *_BUFFER]
-_CALLS = {
+_CALLS: dict[str, list[Any]] = {
     "zarrs_check": [*_BUFFER],
     "zarrs_representation": [*_BUFFER, _AT, _AT],
     "zarrs_encode": [*_BUFFER, *_ELEMENTS, *_BUFFER, _AT],
