@@ -197,7 +197,9 @@ LEAKS = """
 import resource, threading
 import numpy as np
 from zarrs_codecs import Chain, Refused
-little, checked = {"name": "bytes", "configuration": {"endian": "little"}}, ["bytes", "crc32c"]
+from zarrs_codecs._kept import Kept
+from zarrs_codecs._library import library
+little = {"name": "bytes", "configuration": {"endian": "little"}}
 
 def held():
     return int(open("/proc/self/statm").read().split()[1]) * resource.getpagesize()
@@ -212,6 +214,13 @@ def some_chains(count):
             except Refused:
                 pass
 
+def some_handles(count, header):
+    kind, size = np.zeros(1, np.uint32), np.zeros(1, np.uint64)
+    for _ in range(count):
+        kept = Kept(header)
+        assert kept.keep() == 0 and kept.call(library.zarrs_chain_representation, kind.ctypes, size.ctypes) == 0
+    assert size[0] == 8 and Kept(header[:-1]).keep()
+
 def some_threads(count, chain):
     def work():
         for _ in range(3):
@@ -224,22 +233,23 @@ def some_threads(count, chain):
         for thread in threads:
             thread.join()
 
-def all_of_it(chains, threads):
+def all_of_it(handles, chains, threads):
+    chain = Chain([little], (2, 2), "uint16")
+    some_handles(handles, chain._header)
     some_chains(chains)
-    some_threads(threads, Chain([little], (2, 2), "uint16"))
+    some_threads(threads, chain)
 
-all_of_it(5_000, 1_000)
+all_of_it(5_000, 1_000, 400)
 before = held()
-all_of_it(CHAINS, THREADS)
+all_of_it(100_000, 10_000, 2_000)
 grown = held() - before
 assert grown < 4 << 20, f"{grown} bytes more"
 """
 
 
 def test_nothing_is_left_of_chains_and_threads():
-    """Of 100,000 chains, each with a call, and of 10,000 threads over one: a handle of each takes some hundred bytes."""
-    code = LEAKS.replace("CHAINS", "100_000").replace("THREADS", "10_000")
-    subprocess.run([sys.executable, "-c", code], check=True, timeout=1200)
+    """Of 100,000 chains that the library keeps, some hundred bytes each, 10,000 of Python's, and 2,000 threads over one."""
+    subprocess.run([sys.executable, "-c", LEAKS], check=True, timeout=1200)
 
 
 # -- the calls themselves
