@@ -1,8 +1,8 @@
 /* Codecs of Zarr v3, proved: encode, decode and re-encode chunks, and read and write parts of
  * them.
  *
- * Every call begins with a header: the JSON text of a chunk's shape, the type of its elements, its
- * fill value in hex and its codecs, as
+ * Every call begins with a header, or with a chain that was made of one (zarrs_chain). A header is the
+ * JSON text of a chunk's shape, the type of its elements, its fill value in hex and its codecs, as
  *
  *   {"shape":[2,3],"data_type":"uint16","fill_value":"0000","codecs":[
  *    {"name":"bytes","configuration":{"endian":"little"}}]}
@@ -53,7 +53,7 @@
  *
  * What the caller keeps: a pointer is valid for its length, and may be NULL where that is 0; pointers to
  * uint64_t are aligned; a buffer that is written overlaps no other argument; a bool is 0 or 1. Calls keep
- * no state, so threads may call at once; no call is made in a signal handler, nor in the forked child of a
+ * no state but in a zarrs_chain, so threads may call at once, each with chains of its own; no call is made in a signal handler, nor in the forked child of a
  * process with threads. malloc, realloc and free are the process's.
  */
 #ifndef ZARRS_CODECS_H
@@ -283,6 +283,75 @@ uint32_t zarrs_lacking(const uint8_t *header, size_t header_len,
                        const uint8_t *fetched, size_t fetched_len,
                        uint64_t tuples, const uint64_t *numbers, size_t numbers_len,
                        uint64_t *lacking, size_t lacking_len, size_t *needed);
+
+/* A chain that is kept from one call to the next, so that its header is read once: a call over it begins at once,
+ * which is most of what a small read costs otherwise. It begins as {0}, which keeps none, and is given to
+ * zarrs_chain_free at its end; it isn't copied, and no other code writes into it. One call at a time uses it: for
+ * another thread, share it. It keeps the chunk that the header is of, and nothing of a value. */
+typedef struct zarrs_chain {
+    bool is_there;
+    void *at;
+} zarrs_chain;
+
+/* Keeps the chain of a header in place of what chain kept. Where it fails, with the codes of zarrs_check, what was
+ * kept stays. */
+uint32_t zarrs_chain_new(const uint8_t *header, size_t header_len, zarrs_chain *chain);
+
+/* Keeps what chain keeps in other too, which is another one, in place of what that kept: for another thread, which then uses other while
+ * this one uses chain, and frees it. No header is read, and both are one in memory. */
+uint32_t zarrs_chain_share(zarrs_chain *chain, zarrs_chain *other);
+
+/* Frees what is kept: chain keeps none then, as at first. */
+void zarrs_chain_free(zarrs_chain *chain);
+
+/* Each is the call above of the same name over a chain that is kept, which stays as it is; ZARRS_ARGUMENT where none
+ * is kept. */
+uint32_t zarrs_chain_representation(zarrs_chain *chain, uint32_t *kind, uint64_t *size);
+uint32_t zarrs_chain_encode(zarrs_chain *chain, const uint8_t *masks, size_t masks_len,
+                            const uint64_t *offsets, size_t offsets_len,
+                            const uint8_t *bytes, size_t bytes_len,
+                            uint8_t *value, size_t value_len, size_t *needed);
+uint32_t zarrs_chain_decode(zarrs_chain *chain, const uint8_t *value, size_t value_len,
+                            uint8_t *masks, size_t masks_len,
+                            uint64_t *offsets, size_t offsets_len,
+                            uint8_t *bytes, size_t bytes_len, zarrs_sizes *needed);
+uint32_t zarrs_chain_reencode(zarrs_chain *chain, const uint8_t *value, size_t value_len,
+                              const uint8_t *codecs, size_t codecs_len,
+                              uint8_t *other, size_t other_len, size_t *needed);
+uint32_t zarrs_chain_read(zarrs_chain *chain, bool is_stored, const uint8_t *value, size_t value_len,
+                          uint64_t tuples, const uint64_t *numbers, size_t numbers_len,
+                          uint8_t *masks, size_t masks_len,
+                          uint64_t *offsets, size_t offsets_len,
+                          uint8_t *bytes, size_t bytes_len, zarrs_sizes *needed);
+uint32_t zarrs_chain_read_many(zarrs_chain *chain, bool is_stored, const uint8_t *value, size_t value_len,
+                               const zarrs_selection_size *sizes, size_t sizes_len,
+                               const uint64_t *numbers, size_t numbers_len,
+                               uint8_t *masks, size_t masks_len,
+                               uint64_t *offsets, size_t offsets_len,
+                               uint8_t *bytes, size_t bytes_len, zarrs_sizes *needed);
+uint32_t zarrs_chain_write(zarrs_chain *chain, bool is_stored, const uint8_t *value, size_t value_len,
+                           uint64_t tuples, const uint64_t *numbers, size_t numbers_len,
+                           const uint8_t *masks, size_t masks_len,
+                           const uint64_t *offsets, size_t offsets_len,
+                           const uint8_t *bytes, size_t bytes_len,
+                           uint8_t *out, size_t out_len, size_t *needed);
+uint32_t zarrs_chain_edit(zarrs_chain *chain, uint8_t *value, size_t value_len,
+                          const zarrs_edit_size *sizes, size_t sizes_len,
+                          const uint64_t *numbers, size_t numbers_len,
+                          const uint8_t *bytes, size_t bytes_len, size_t *done);
+uint32_t zarrs_chain_planned_ranges(zarrs_chain *chain, uint64_t tuples, const uint64_t *numbers, size_t numbers_len,
+                                    uint64_t *ranges, size_t ranges_len,
+                                    bool *is_planned, size_t *needed);
+uint32_t zarrs_chain_read_pieces(zarrs_chain *chain, uint64_t len, const uint64_t *ranges, size_t ranges_len,
+                                 const uint8_t *fetched, size_t fetched_len,
+                                 uint64_t tuples, const uint64_t *numbers, size_t numbers_len,
+                                 uint8_t *masks, size_t masks_len,
+                                 uint64_t *offsets, size_t offsets_len,
+                                 uint8_t *bytes, size_t bytes_len, zarrs_sizes *needed);
+uint32_t zarrs_chain_lacking(zarrs_chain *chain, uint64_t len, const uint64_t *ranges, size_t ranges_len,
+                             const uint8_t *fetched, size_t fetched_len,
+                             uint64_t tuples, const uint64_t *numbers, size_t numbers_len,
+                             uint64_t *lacking, size_t lacking_len, size_t *needed);
 
 #ifdef __cplusplus
 }

@@ -99,7 +99,11 @@ class Item:
         return self.file.cited(self.text)
 
     def is_goal(self):
-        return self.file.path.name in ("Answers.antt", "Invariants.antt", "Proof.antt") and self.statement.strip().startswith("goal.")
+        """The checker asks for it: an answer to a goal, or a proof by hand, of a function or that a type goes to other threads."""
+        path = self.file.path
+        if path.name == "Proof.antt" and self.name == f"{path.parent.name}_spec" or path.parent.name == "TheSendSync":
+            return "pub" in self.marks
+        return path.name in ("Answers.antt", "Invariants.antt", "Proof.antt") and self.statement.strip().startswith("goal.")
 
     @functools.cached_property
     def is_lemma(self):

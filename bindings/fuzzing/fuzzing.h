@@ -5,9 +5,9 @@
 #include "zarrs_codecs.h"
 
 enum { ROOM = 1 << 14, PAGE = 4096, AXES = 5, PATTERN = 0xA5 };
-enum { CHECK, REPRESENTATION, ENCODE, DECODE, READ, WRITE, REENCODE, PLAN, PIECES, NAME, MANY, EDIT, LACKING, KINDS };
-/* Memory that ends where none is. */
-typedef struct { uint8_t *begin; } room;
+enum { CHECK, REPRESENTATION, ENCODE, DECODE, READ, WRITE, REENCODE, PLAN, PIECES, NAME, MANY, EDIT, LACKING, KEEP, SHARE, KINDS };
+/* Memory that ends where none is; a call may write the last `len` bytes of it. */
+typedef struct { uint8_t *begin; size_t len; } room;
 
 typedef struct {
     size_t masks, offsets, bytes;
@@ -33,11 +33,17 @@ typedef struct {
 
 typedef struct {
     uint64_t seed, random, begun;
-    bool is_loose;
-    uint64_t calls[KINDS], done[KINDS], refused_memory;
+    bool is_loose, is_alone;
+    uint64_t calls[KINDS], done[KINDS], kept[KINDS], refused_memory;
     room header, codecs, value, masks, offsets, bytes, numbers, ranges, fetched;
-    room to_masks, to_offsets, to_bytes, to_value, to_ranges;
+    room to_masks, to_offsets, to_bytes, to_value, to_ranges, to_counts;
+    room chains[3];
+    zarrs_chain *chain, *other, *none; /* at the ends of these; both of the first keep one chain, or the second none */
+    bool is_kept; /* whether it is that of the header at hand */
+    uint32_t code;
 } fuzzer;
+
+enum { ROOMS = 18, WRITTEN = 6 };
 
 typedef struct { const uint8_t *at; size_t len; } lent;
 #define LENT(it) (it).at, (it).len
@@ -53,7 +59,8 @@ room made_room(void);
 /* Bytes at the end of a room; NULL now and then where there are none. */
 void *put(fuzzer *f, room to, const void *data, size_t len);
 /* So many bytes to be written, at the end of a room; all of it has the pattern. */
-void *blank(fuzzer *f, room to, size_t len);
+void *blank(fuzzer *f, room *to, size_t len);
+bool has_pattern(const uint8_t *at, size_t len);
 /* Whether a room of `len` bytes to be written has the pattern, but for the first `kept` of them. */
 bool untouched(room it, size_t len, size_t kept);
 void fault(fuzzer *f, const header *h, const char *what);
@@ -66,8 +73,24 @@ void make_selection(fuzzer *f, const header *h, selection *s);
 /* How many elements a selection of a chunk means, and the place of each, row by row; SIZE_MAX where it is none. */
 size_t places(const header *h, const selection *s, size_t *place);
 void before(fuzzer *f);
-/* The code of a call that has ended: of one whose allocation was refused, whether it may be made again. */
+/* Of a call that has ended, whether it may be made again, since memory was refused. */
 bool after(fuzzer *f, const header *h, int kind, uint32_t code);
+/* A call with the header's text, and then the same over a chain that is kept, which has to answer and write the same. It
+ * is the code of the first, and what that wrote is there. */
+#define BOTH(kind, name, ...)                                                                                          \
+    (before_header(f), f->code = zarrs_##name(LENT(text), __VA_ARGS__),                                                \
+     after_kept(f, h, kind, zarrs_chain_##name(before_kept(f, h, kind), __VA_ARGS__)))
+void before_header(fuzzer *f);
+zarrs_chain *before_kept(fuzzer *f, const header *h, int kind);
+uint32_t after_kept(fuzzer *f, const header *h, int kind, uint32_t code);
+/* Keeps the chain of a header, of which `check` is answered, in place of another one's or none. */
+void keep(fuzzer *f, const header *h, uint32_t check);
+/* Keeps a chain that another thread keeps too, whose header is answered; false where there is none. */
+bool take(fuzzer *f, header *h);
+/* Frees what the thread keeps. */
+void let_go(fuzzer *f);
+/* What the threads have given one another is freed. */
+void let_common_go(void);
 /* A call that tells elements; `given` is a value, or pieces. */
 uint32_t tell(fuzzer *f, const header *h, int kind, bool is_stored, lent given, uint64_t length,
     lent ranges, const selection *s, elements *e);

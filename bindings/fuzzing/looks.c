@@ -45,23 +45,27 @@ static bool plan_of(fuzzer *f, const header *h, const selection *s, uint64_t *ra
 {
     size_t room_of = some(f, 40);
     for (int turn = 0; turn < 8; turn++) {
-        bool is_planned = false;
         lent text = {put(f, f->header, h->text, h->len), h->len};
         const uint64_t *numbers = put(f, f->numbers, s->number, s->count * 8);
-        uint64_t *to = blank(f, f->to_ranges, room_of * 8);
-        before(f);
-        uint32_t plan = zarrs_planned_ranges(LENT(text), s->tuples, numbers, s->count, to, room_of, &is_planned, needed);
-        if (after(f, h, PLAN, plan))
+        uint64_t *to = blank(f, &f->to_ranges, room_of * 8);
+        struct { size_t needed; bool is_planned; } *told = blank(f, &f->to_counts, sizeof *told);
+        uint32_t plan = BOTH(PLAN, planned_ranges, s->tuples, numbers, s->count, to, room_of, &told->is_planned, &told->needed);
+        if (plan == ZARRS_OUT_OF_MEMORY)
             continue;
+        bool is_told = plan == ZARRS_DONE || plan == ZARRS_SHORT;
+        EXPECT(is_told || untouched(f->to_counts, sizeof *told, 0), "a plan told by a refusal");
+        if (!is_told)
+            return false;
+        *needed = told->needed;
         EXPECT(untouched(f->to_ranges, room_of * 8, plan == ZARRS_DONE ? *needed * 8 : 0), "written behind the plan");
         if (plan == ZARRS_SHORT) {
             EXPECT(room_of < *needed && *needed <= ROOM / 8, "a plan of another size than was told");
             room_of = *needed;
             continue;
         }
-        if (plan == ZARRS_DONE && is_planned)
+        if (told->is_planned)
             memcpy(ranges, f->to_ranges.begin + ROOM - room_of * 8, *needed * 8);
-        return plan == ZARRS_DONE && is_planned;
+        return told->is_planned;
     }
     return false;
 }
@@ -177,10 +181,12 @@ void turn(fuzzer *f)
     static __thread elements given, chunk, other;
     static __thread value v, again, moved;
     header *h = &good;
-    uint32_t kind = PATTERN, code;
-    uint64_t size = PATTERN;
-    make_header(f, h);
-    if (some(f, 8) == 0) {
+    struct { uint64_t size; uint32_t kind; } told;
+    uint32_t code;
+    bool is_taken = take(f, h);
+    if (!is_taken)
+        make_header(f, h);
+    if (!is_taken && some(f, 8) == 0) {
         spoilt = good;
         spoilt.len = spoil(f, (uint8_t *)spoilt.text, spoilt.len);
         h = &spoilt;
@@ -190,11 +196,15 @@ void turn(fuzzer *f)
     uint32_t check = zarrs_check(LENT(text));
     while (after(f, h, CHECK, check))
         check = zarrs_check(LENT(text));
-    before(f);
-    code = zarrs_representation(LENT(text), &kind, &size);
-    after(f, h, REPRESENTATION, code);
+    EXPECT(!is_taken || check == ZARRS_DONE, "a header of a chain that is kept is refused");
+    if (!is_taken)
+        keep(f, h, check);
+    text.at = put(f, f->header, h->text, h->len);
+    void *to = blank(f, &f->to_counts, sizeof told);
+    code = BOTH(REPRESENTATION, representation, (uint32_t *)((uint8_t *)to + 8), to);
+    memcpy(&told, to, sizeof told);
     EXPECT(code == check || code == ZARRS_OUT_OF_MEMORY, "check and representation differ");
-    EXPECT(code == ZARRS_DONE ? kind <= 2 : kind == PATTERN && size == PATTERN, "a representation that is none");
+    EXPECT(code == ZARRS_DONE ? told.kind <= 2 : untouched(f->to_counts, sizeof told, 0), "a representation that is none");
     make_elements(f, h, h->count, &given);
     write_value(f, h, ENCODE, true, (lent){0}, NULL, &given, (lent){0}, &v);
     if (check != ZARRS_DONE) {
@@ -212,7 +222,8 @@ void turn(fuzzer *f)
     if (h == &spoilt)
         return;
     if (v.code == ZARRS_DONE) {
-        EXPECT(kind == PATTERN || (kind == 0 ? v.size == size : kind == 2 || v.size <= size), "a value of another length than is told");
+        EXPECT(code != ZARRS_DONE || (told.kind == 0 ? v.size == told.size : told.kind == 2 || v.size <= told.size),
+               "a value of another length than is told");
         code = tell(f, h, DECODE, true, (lent){v.byte, v.size}, 0, (lent){0}, NULL, &chunk);
         if (code != ZARRS_DONE) {
             EXPECT(code == ZARRS_OUT_OF_MEMORY, "what was encoded isn't a value");
@@ -248,7 +259,7 @@ void turn(fuzzer *f)
     read_several(f, h, &v, true, check);
     edit_several(f, h, &v);
     size_t room_of = some(f, 65), needed;
-    uint8_t *name = blank(f, f->to_bytes, room_of);
+    uint8_t *name = blank(f, &f->to_bytes, room_of);
     code = zarrs_error_name((uint32_t)some(f, 300), name, room_of, &needed);
     after(f, h, NAME, code);
     EXPECT(needed < 64 && code == (needed <= room_of ? ZARRS_DONE : ZARRS_SHORT), "an error's name");

@@ -8,8 +8,12 @@
  * - that offsets begin at 0 and end at the bytes' end, and mask bytes are 0 or 1 (not looked at with `loose`);
  * - that decode, encode, read, write, reencode and reads by pieces agree with each other;
  * - that a read of pieces says which bytes it lacks, and is answered in at most three rounds when these are fetched;
- * - that several selections are read, and several edits made, by one call as by one call each.
- * It prints how many calls there were of each kind, and ends the process at the first fault, whose seed it prints.
+ * - that several selections are read, and several edits made, by one call as by one call each;
+ * - that each call over a chain that is kept answers and writes what the call with the header's text does, while other threads
+ *   use the same chain and free it; that what is kept stays where a new chain is refused, or isn't shared; and that a call over
+ *   none is refused.
+ * It prints how many calls there were of each kind, and ends the process at the first fault, whose seed it prints: with one
+ * thread, a run that begins with that seed begins with the fault.
  */
 #define _GNU_SOURCE
 #include "fuzzing.h"
@@ -20,7 +24,7 @@
 
 static const char *const KIND_NAMES[] = {"check", "representation", "encode", "decode", "read", "write",
                                          "reencode", "planned_ranges", "read_pieces", "error_name",
-                                         "read_many", "edit", "lacking"};
+                                         "read_many", "edit", "lacking", "chain_new", "chain_share"};
 static double limit;
 
 static double now(void)
@@ -34,12 +38,18 @@ static void *run(void *of)
 {
     fuzzer *f = of;
     room *rooms = &f->header;
-    for (int i = 0; i < 14; i++)
+    for (int i = 0; i < ROOMS; i++)
         rooms[i] = made_room();
+    zarrs_chain **chains[] = {&f->chain, &f->other, &f->none};
+    for (int i = 0; i < 3; i++) {
+        *chains[i] = blank(f, &f->chains[i], sizeof(zarrs_chain));
+        **chains[i] = (zarrs_chain){0};
+    }
     while (now() < limit) {
         f->begun = f->seed++;
         f->random = f->begun * 0x9E3779B97F4A7C15u | 1;
         turn(f);
+        let_go(f);
     }
     return NULL;
 }
@@ -59,6 +69,7 @@ int main(int count, char **words)
     for (int i = 0; i < many; i++) {
         fuzzers[i].seed = strtoull(words[3], NULL, 10) + (uint64_t)i * 1000000000u;
         fuzzers[i].is_loose = count > 4;
+        fuzzers[i].is_alone = many == 1;
         if (pthread_create(&threads[i], NULL, run, &fuzzers[i]))
             return 1;
     }
@@ -67,11 +78,13 @@ int main(int count, char **words)
         turns += fuzzers[i].seed - strtoull(words[3], NULL, 10) - (uint64_t)i * 1000000000u;
         memory += fuzzers[i].refused_memory;
     }
+    let_common_go();
     for (int kind = 0; kind < KINDS; kind++) {
-        uint64_t calls = 0, done = 0;
+        uint64_t calls = 0, done = 0, kept = 0;
         for (int i = 0; i < many; i++)
-            calls += fuzzers[i].calls[kind], done += fuzzers[i].done[kind];
-        printf("%-16s %10llu calls, %10llu done\n", KIND_NAMES[kind], (unsigned long long)calls, (unsigned long long)done);
+            calls += fuzzers[i].calls[kind], done += fuzzers[i].done[kind], kept += fuzzers[i].kept[kind];
+        printf("%-16s %10llu calls, %10llu done", KIND_NAMES[kind], (unsigned long long)calls, (unsigned long long)done);
+        printf(kept ? ", %10llu over a chain that is kept\n" : "\n", (unsigned long long)kept);
     }
     printf("%llu turns, %llu calls whose memory was refused, no fault\n", (unsigned long long)turns, (unsigned long long)memory);
     return 0;

@@ -51,17 +51,14 @@ void read_several(fuzzer *f, const header *h, const value *v, bool is_stored, ui
     size_t masks = some(f, 3) ? some(f, 200) : 0, offsets = some(f, 3) ? some(f, 200) : 0, len = some(f, 3) ? some(f, 3000) : 0;
     bool was_short = false;
     for (int turn = 0; turn < 8; turn++) {
-        uint8_t *to_masks = blank(f, f->to_masks, masks), *to_bytes = blank(f, f->to_bytes, len);
-        uint64_t *to_offsets = blank(f, f->to_offsets, offsets * 8);
-        zarrs_sizes needed;
-        memset(&needed, PATTERN, sizeof needed);
-        before(f);
-        uint32_t code = zarrs_read_many(LENT(text), is_stored, LENT(bytes), of, many, given, count, to_masks, masks,
-                                        to_offsets, offsets, to_bytes, len, &needed);
-        bool again = after(f, h, MANY, code);
+        uint8_t *to_masks = blank(f, &f->to_masks, masks), *to_bytes = blank(f, &f->to_bytes, len);
+        uint64_t *to_offsets = blank(f, &f->to_offsets, offsets * 8);
+        zarrs_sizes *needed = blank(f, &f->to_counts, sizeof *needed);
+        uint32_t code = BOTH(MANY, read_many, is_stored, LENT(bytes), of, many, given, count, to_masks, masks,
+                             to_offsets, offsets, to_bytes, len, needed);
         if (code == ZARRS_DONE) {
             EXPECT(!is_spoilt && expected == ZARRS_DONE, "several selections are read, and one of them isn't");
-            EXPECT(needed.masks == all.masks && needed.offsets == all.offsets && needed.bytes == all.bytes,
+            EXPECT(needed->masks == all.masks && needed->offsets == all.offsets && needed->bytes == all.bytes,
                    "several selections have other counts than each of them");
             EXPECT(!memcmp(f->to_masks.begin + ROOM - masks, all.mask, all.masks) &&
                        !memcmp(f->to_offsets.begin + ROOM - offsets * 8, all.offset, all.offsets * 8) &&
@@ -72,15 +69,15 @@ void read_several(fuzzer *f, const header *h, const value *v, bool is_stored, ui
         }
         EXPECT(untouched(f->to_masks, masks, 0) && untouched(f->to_offsets, offsets * 8, 0) && untouched(f->to_bytes, len, 0),
                "written where nothing is answered");
-        if (again)
+        EXPECT(untouched(f->to_counts, sizeof *needed, code == ZARRS_SHORT ? sizeof *needed : 0), "sizes told by a refusal");
+        if (code == ZARRS_OUT_OF_MEMORY)
             continue;
         if (code != ZARRS_SHORT) {
-            EXPECT(((uint8_t *)&needed)[0] == PATTERN, "sizes told by a refusal");
             EXPECT(is_spoilt || code == expected, "several selections are refused for another cause than the first of them");
             return;
         }
         EXPECT(!was_short && !is_spoilt && expected == ZARRS_DONE, "short again, or where nothing is due");
-        masks = needed.masks, offsets = needed.offsets, len = needed.bytes, was_short = true;
+        masks = needed->masks, offsets = needed->offsets, len = needed->bytes, was_short = true;
         EXPECT(masks == all.masks && offsets == all.offsets && len == all.bytes, "other sizes than are due");
     }
 }
@@ -94,7 +91,7 @@ void edit_several(fuzzer *f, const header *h, const value *v)
     static __thread uint64_t numbers[ROOM / 8];
     static __thread uint8_t bytes[ROOM];
     zarrs_edit_size sizes[MANY_MOST];
-    size_t many = some(f, MANY_MOST + 1), count = 0, len = 0, done = 0, told = 0;
+    size_t many = some(f, MANY_MOST + 1), count = 0, len = 0, done = 0;
     uint32_t expected = ZARRS_DONE;
     left[0] = *v;
     for (size_t i = 0; i < many; i++) {
@@ -124,12 +121,12 @@ void edit_several(fuzzer *f, const header *h, const value *v)
     const zarrs_edit_size *of = put(f, f->ranges, sizes, many * sizeof *sizes);
     const uint64_t *at = put(f, f->numbers, numbers, count * 8);
     const uint8_t *new = put(f, f->bytes, bytes, len);
-    uint8_t *to = blank(f, f->to_value, v->size);
+    uint8_t *to = blank(f, &f->to_value, v->size);
+    size_t *made = blank(f, &f->to_counts, sizeof *made);
     if (v->size)
         memcpy(to, v->byte, v->size);
-    before(f);
-    uint32_t code = zarrs_edit(LENT(text), to, v->size, of, many, at, count, new, len, &told);
-    after(f, h, EDIT, code);
+    uint32_t code = BOTH(EDIT, edit, to, v->size, of, many, at, count, new, len, made);
+    size_t told = *made;
     EXPECT(told <= many && untouched(f->to_value, v->size, v->size), "more edits than there are, or bytes before the value");
     if (code == ZARRS_NOT_IN_PLACE || is_spoilt) {
         EXPECT(code != ZARRS_DONE && told == 0, "edits where none can be made");

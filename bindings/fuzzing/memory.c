@@ -58,7 +58,8 @@ room made_room(void)
     uint8_t *at = mmap(NULL, ROOM + 2 * PAGE, PROT_NONE, MAP_PRIVATE | MAP_ANONYMOUS, -1, 0);
     if (at == MAP_FAILED || mprotect(at + PAGE, ROOM, PROT_READ | PROT_WRITE))
         abort();
-    return (room){at + PAGE};
+    memset(at + PAGE, PATTERN, ROOM);
+    return (room){at + PAGE, 0};
 }
 
 /* Bytes at the end of a room; NULL now and then where there are none. */
@@ -73,14 +74,15 @@ void *put(fuzzer *f, room to, const void *data, size_t len)
 }
 
 /* So many bytes to be written, at the end of a room; all of it has the pattern. */
-void *blank(fuzzer *f, room to, size_t len)
+void *blank(fuzzer *f, room *to, size_t len)
 {
-    memset(to.begin, PATTERN, ROOM);
-    return len == 0 && some(f, 2) ? NULL : to.begin + ROOM - len;
+    memset(to->begin, PATTERN, ROOM);
+    to->len = len;
+    return len == 0 && some(f, 2) ? NULL : to->begin + ROOM - len;
 }
 
 /* Whether bytes have the pattern: each is as the one behind it. */
-static bool has_pattern(const uint8_t *at, size_t len)
+bool has_pattern(const uint8_t *at, size_t len)
 {
     return len == 0 || (at[0] == PATTERN && memcmp(at, at + 1, len - 1) == 0);
 }

@@ -31,26 +31,25 @@ static bool gather(pieces *have, const value *v)
 /* The ranges that a read of pieces lacks, and how many numbers they are. */
 static uint32_t ask(fuzzer *f, const header *h, const value *v, const selection *s, const pieces *have, uint64_t *lacking, size_t *count)
 {
-    size_t room_of = some(f, 8), needed;
+    size_t room_of = some(f, 8);
     for (int turn = 0; turn < 8; turn++) {
         lent text = {put(f, f->header, h->text, h->len), h->len}, bytes = {put(f, f->fetched, have->byte, have->len), have->len};
         const uint64_t *numbers = put(f, f->numbers, s->number, s->count * 8), *ranges = put(f, f->ranges, have->range, have->count * 8);
-        uint64_t *to = blank(f, f->to_ranges, room_of * 8);
-        memset(&needed, PATTERN, sizeof needed);
-        before(f);
-        uint32_t code = zarrs_lacking(LENT(text), v->size, ranges, have->count, LENT(bytes), s->tuples, numbers, s->count, to, room_of,
-                                      &needed);
-        if (after(f, h, LACKING, code))
+        uint64_t *to = blank(f, &f->to_ranges, room_of * 8);
+        size_t *needed = blank(f, &f->to_counts, sizeof *needed);
+        uint32_t code = BOTH(LACKING, lacking, v->size, ranges, have->count, LENT(bytes), s->tuples, numbers, s->count, to, room_of,
+                             needed);
+        if (code == ZARRS_OUT_OF_MEMORY)
             continue;
-        EXPECT(untouched(f->to_ranges, room_of * 8, code == ZARRS_DONE ? needed * 8 : 0), "written behind the ranges that are lacking");
+        EXPECT(untouched(f->to_ranges, room_of * 8, code == ZARRS_DONE ? *needed * 8 : 0), "written behind the ranges that are lacking");
         if (code == ZARRS_SHORT) {
-            EXPECT(room_of < needed && needed <= ROOM / 8, "lacking ranges of another size than was told");
-            room_of = needed;
+            EXPECT(room_of < *needed && *needed <= ROOM / 8, "lacking ranges of another size than was told");
+            room_of = *needed;
             continue;
         }
-        EXPECT(code == ZARRS_DONE || ((uint8_t *)&needed)[0] == PATTERN, "a size told by a refusal");
+        EXPECT(code == ZARRS_DONE || untouched(f->to_counts, sizeof *needed, 0), "a size told by a refusal");
         if (code == ZARRS_DONE)
-            *count = needed, memcpy(lacking, f->to_ranges.begin + ROOM - room_of * 8, needed * 8);
+            *count = *needed, memcpy(lacking, f->to_ranges.begin + ROOM - room_of * 8, *count * 8);
         return code;
     }
     return ZARRS_OUT_OF_MEMORY;

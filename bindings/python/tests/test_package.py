@@ -179,11 +179,12 @@ def test_the_lines_that_compile_a_program(line, tmp_path):
 
 
 @pytest.mark.skipif(shutil.which("cc") is None or not (MADE.parent / "libzarrs_codecs.a").is_file(), reason="no compiler, or no library")
-def test_the_c_example_of_rounds_prints_what_its_page_says(tmp_path):
-    words = ["-std=c99", "-Wall", "-Wextra", "-Werror", "-Iinclude", "examples/c/rounds.c", "bindings/out/libzarrs_codecs.a"]
-    subprocess.run(["cc", *words, "-o", tmp_path / "rounds"], cwd=TOP, check=True)
-    run = subprocess.run([tmp_path / "rounds", tmp_path / "shard"], capture_output=True, text=True, check=True)
-    page = (TOP / "examples/README.md").read_text().partition("## `c/rounds.c")[2].partition("\n## ")[0]
+@pytest.mark.parametrize("name", ["rounds", "folder"])
+def test_the_c_examples_print_what_their_page_says(name, tmp_path):
+    words = ["-std=c99", "-Wall", "-Wextra", "-Werror", "-Iinclude", f"examples/c/{name}.c", "bindings/out/libzarrs_codecs.a"]
+    subprocess.run(["cc", *words, "-o", tmp_path / name], cwd=TOP, check=True)
+    run = subprocess.run([tmp_path / name, tmp_path / "made"], capture_output=True, text=True, check=True)
+    page = (TOP / "examples/README.md").read_text().partition(f"## `c/{name}.c")[2].partition("\n## ")[0]
     assert run.stdout == "".join(f"{line}\n" for line in re.findall("^    (.*)$", page, re.MULTILINE))
 
 

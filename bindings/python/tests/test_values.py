@@ -163,7 +163,7 @@ def test_calls_let_other_threads_run(monkeypatch):
     other = threading.Thread(target=count)
     other.start()
     seen = []
-    call = chain_module.library.zarrs_decode
+    call = chain_module.library.zarrs_chain_decode
 
     def counted(*arguments):
         before = turns
@@ -171,7 +171,7 @@ def test_calls_let_other_threads_run(monkeypatch):
         seen.append(turns - before)
         return code
 
-    monkeypatch.setattr(chain_module.library, "zarrs_decode", counted)
+    monkeypatch.setattr(chain_module.library, "zarrs_chain_decode", counted)
     usual = sys.getswitchinterval()
     sys.setswitchinterval(100)
     try:

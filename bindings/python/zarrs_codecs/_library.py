@@ -3,6 +3,7 @@
 import ctypes
 import os
 from pathlib import Path
+from typing import Any
 
 from . import refusals
 
@@ -14,7 +15,7 @@ _BUFFER = [_AT, _LENGTH]
 _ELEMENTS = [*_BUFFER, *_BUFFER, *_BUFFER]
 _SELECTION = [_NUMBER, *_BUFFER]
 _STORED = [ctypes.c_bool, *_BUFFER]
-_CALLS = {
+_CALLS: dict[str, list[Any]] = {
     "zarrs_check": [*_BUFFER],
     "zarrs_representation": [*_BUFFER, _AT, _AT],
     "zarrs_encode": [*_BUFFER, *_ELEMENTS, *_BUFFER, _AT],
@@ -29,6 +30,13 @@ _CALLS = {
     "zarrs_reencode": [*_BUFFER, *_BUFFER, *_BUFFER, *_BUFFER, _AT],
     "zarrs_error_name": [ctypes.c_uint32, *_BUFFER, _AT],
 }
+# those that begin with a header, over a chain that is kept, and those that keep one
+_CALLS |= {
+    name.replace("zarrs_", "zarrs_chain_"): [_AT, *arguments[2:]]
+    for name, arguments in _CALLS.items()
+    if name not in ("zarrs_check", "zarrs_error_name")
+}
+_CALLS |= {"zarrs_chain_new": [*_BUFFER, _AT], "zarrs_chain_share": [_AT, _AT], "zarrs_chain_free": [_AT]}
 
 
 class Sizes(ctypes.Structure):
@@ -56,7 +64,7 @@ def _loaded() -> ctypes.CDLL:
     for name, arguments in _CALLS.items():
         call = getattr(library, name)
         call.argtypes = arguments
-        call.restype = ctypes.c_uint32
+        call.restype = None if name == "zarrs_chain_free" else ctypes.c_uint32
     return library
 
 

@@ -22,6 +22,7 @@ from ._dense import is_dense, taken
 from ._elements import empty, given, held, picked, put, shape_of, spread, takes, told, told_into, told_many
 from ._files import PART_BYTES, File, Source
 from ._header import Header, copied, json_of
+from ._kept import Kept
 from ._lacking import lacking_in_round
 from ._library import SHORT, EditSize, checked, library
 from ._locating import OF_CODECS, OF_VALUES, locate, locate_stored
@@ -99,8 +100,8 @@ class Chain:
 
     A value goes in as any buffer and comes out as an array of `uint8`. A selection is a basic index of
     numpy, or a list or an array of elements' indices, a row for each. Each refusal is an exception of the
-    library's name, below `Refused`; `OutOfMemory` may come in place of any answer. A chain has no state,
-    so threads may use one together. numpy's arrays have 32 axes at most, from its version 2 on 64: of a chunk with more,
+    library's name, below `Refused`; `OutOfMemory` may come in place of any answer. A chain has no state
+    but what the library keeps of its header, so threads may use one together. numpy's arrays have 32 axes at most, from its version 2 on 64: of a chunk with more,
     elements are read and written by lists of indices, and else numpy's `ValueError` comes.
 
     >>> chain = Chain([{"name": "bytes", "configuration": {"endian": "big"}}], (2,), "int16", -1)
@@ -135,8 +136,7 @@ class Chain:
         inner = json_of(self._inner_list)
         self._inner_codecs = inner.encode()
         self._header = self._said.text(inner)
-        self._length = len(self._header)
-        self.check()
+        self._keep()
 
     def _set_elements(self, shape: int | Sequence[int], data_type: Any) -> None:
         """Keeps what the elements of a chunk are. Raises `Syntax` of sizes that no chunk has."""
@@ -222,12 +222,18 @@ class Chain:
         return Chain, (self.codecs, self.shape, self.data_type, self.fill_value)
 
     @_naming
+    def _keep(self) -> None:
+        """Has the library keep the chain; raises what `check` does."""
+        self._kept = Kept(self._header)
+        checked(self._kept.keep())
+
+    @_naming
     def check(self) -> None:
         """Raises the refusal of these codecs for such chunks, if there is one; so does making a chain.
 
         >>> Chain(["packbits"], (9,), "bool").check()
         """
-        checked(library.zarrs_check(self._header, self._length))
+        checked(library.zarrs_check(self._header, len(self._header)))
 
     @cached_property
     @_naming
@@ -239,7 +245,7 @@ class Chain:
         """
         kind, size = ctypes.c_uint32(), ctypes.c_uint64()
         at = ctypes.byref
-        checked(library.zarrs_representation(self._header, self._length, at(kind), at(size)))
+        checked(self._kept.call(library.zarrs_chain_representation, at(kind), at(size)))
         return Representation(_REPRESENTATIONS[kind.value], None if kind.value == 2 else size.value)
 
     @cached_property
@@ -331,7 +337,7 @@ class Chain:
     def _encode(self, elements: AnyArray) -> Bytes:
         """The same of elements that the type holds, of this shape."""
         parts = given(self._type, elements)
-        call = partial(library.zarrs_encode, self._header, self._length, *parts)
+        call = partial(self._kept.call, library.zarrs_chain_encode, *parts)
         try:
             return self._told_value(call, 2 * parts[-1] + 16 * parts[3] + parts[1] + 64)
         except Refused as error:
@@ -358,7 +364,7 @@ class Chain:
     def _decoding(self, inner: Any) -> tuple[Callable[..., int], int]:
         """C's call that decodes the library's value, and how many bytes that has."""
         at, length = lent(inner)
-        return partial(library.zarrs_decode, self._header, self._length, at, length), length
+        return partial(self._kept.call, library.zarrs_chain_decode, at, length), length
 
     def _told(
         self, call: Callable[..., Any], shape: Shape, value: Any, length: int, out: AnyArray | None
@@ -389,9 +395,7 @@ class Chain:
         try:
             at, length = lent(own)
             inner = other._inner_codecs
-            call = partial(
-                library.zarrs_reencode, self._header, self._length, at, length, inner, len(inner)
-            )
+            call = partial(self._kept.call, library.zarrs_chain_reencode, at, length, inner, len(inner))
             with self._saying_inner_chunk(at_hand(own), ..., partial(self._read, own)):
                 return other._told_value(call, length + 64)
         except Refused as error:
@@ -428,7 +432,7 @@ class Chain:
         value = b"" if inner is None else inner
         at, length = lent(value)
         arguments = (inner is not None, at, length, *chosen.without_gaps().arguments())
-        call = partial(library.zarrs_read, self._header, self._length, *arguments)
+        call = partial(self._kept.call, library.zarrs_chain_read, *arguments)
         return self._told(call, chosen.shape, value, length, out)
 
     @_naming
@@ -485,7 +489,7 @@ class Chain:
         numbers = np.concatenate([many for _, many in given_numbers] or [np.empty(0, np.uint64)])
         at, length = lent(b"" if inner is None else inner)
         arguments = (inner is not None, at, length, *counted(sizes, len(sizes)), *counted(numbers, numbers.size))
-        call = partial(library.zarrs_read_many, self._header, self._length, *arguments)
+        call = partial(self._kept.call, library.zarrs_chain_read_many, *arguments)
         answers: list[AnyArray] | None = None
         with contextlib.suppress(Refused):
             answers = told_many(self._type, call, [one.shape for one in chosen], length + 64)
@@ -581,7 +585,7 @@ class Chain:
         done = ctypes.c_size_t()
         lists = *counted(sizes, len(sizes)), *counted(numbers, numbers.size), *lent(joined), ctypes.byref(done)
         try:
-            checked(library.zarrs_edit(self._header, self._length, *lent(value), *lists))
+            checked(self._kept.call(library.zarrs_chain_edit, *lent(value), *lists))
         except Refused as error:
             self._locate_stored(error, value)
             raise
@@ -599,7 +603,7 @@ class Chain:
         size, done = EditSize(tuples, many, count), ctypes.c_size_t()
         edit = (ctypes.byref(size), 1, numbers, many, bytes_at, count, ctypes.byref(done))
         try:
-            checked(library.zarrs_edit(self._header, self._length, *lent(value), *edit))
+            checked(self._kept.call(library.zarrs_chain_edit, *lent(value), *edit))
         except Refused as error:
             self._locate_stored(error, value)
             raise
@@ -612,7 +616,7 @@ class Chain:
         parts = given(self._type, spread(self._type, elements, chosen.shape, chosen.after, new))
         at, length = lent(b"" if inner is None else inner)
         arguments = (inner is not None, at, length, *chosen.arguments(), *parts)
-        call = partial(library.zarrs_write, self._header, self._length, *arguments)
+        call = partial(self._kept.call, library.zarrs_chain_write, *arguments)
         with self._saying_inner_chunk(at_hand(inner), ..., partial(self._read, inner)):
             try:
                 return self._told_value(call, length + 2 * parts[-1] + 64)
@@ -622,9 +626,7 @@ class Chain:
 
     def _planned(self, chosen: Selection) -> npt.NDArray[np.uint64] | None:
         is_planned = ctypes.c_bool()
-        call = partial(
-            library.zarrs_planned_ranges, self._header, self._length, *chosen.arguments()
-        )
+        call = partial(self._kept.call, library.zarrs_chain_planned_ranges, *chosen.arguments())
         ranges = told_ranges(
             lambda at, count, needed: call(at, count, ctypes.byref(is_planned), needed),
             min(2 * math.prod(chosen.shape), _PLAN_NUMBERS),
@@ -724,7 +726,7 @@ class Chain:
             if lacking.size:
                 fetched.fetch(lacking)
             arguments = *fetched.arguments(), *asked.arguments()
-            call = partial(library.zarrs_read_pieces, self._header, self._length, *arguments)
+            call = partial(self._kept.call, library.zarrs_chain_read_pieces, *arguments)
             try:
                 elements = told(self._type, call, asked.shape, fetched.size + 64)
                 break
@@ -735,10 +737,10 @@ class Chain:
         return (elements if back is None else elements[back]).reshape(chosen.shape)
 
     @cached_property
-    def _whole_inside(self) -> bytes | None:
-        """The header of such chunks whose inner chunks are read whole; None where they are no shards."""
+    def _whole_inside(self) -> Kept | None:
+        """The chain of such chunks whose inner chunks are read whole; None where they are no shards."""
         codecs = with_whole_inside(self._inner_list)
-        return None if codecs is None else self._said.text(json_of(codecs))
+        return None if codecs is None else Kept(self._said.text(json_of(codecs)))
 
     @cached_property
     def _finest(self) -> tuple[Shape, int] | None:
@@ -764,11 +766,11 @@ class Chain:
         return has_shards_inside(self._inner_list)
 
     def _lacking(
-        self, given_pieces: tuple[Any, ...], numbers: tuple[Any, ...], header: bytes | None = None
+        self, given_pieces: tuple[Any, ...], numbers: tuple[Any, ...], other: Kept | None = None
     ) -> npt.NDArray[np.uint64]:
-        """The ranges that a read of these pieces lacks; of a chunk of another header, where one is given."""
-        header = self._header if header is None else header
-        call = partial(library.zarrs_lacking, header, len(header), *given_pieces, *numbers)
+        """The ranges that a read of these pieces lacks; through another chain, where one is given."""
+        kept = self._kept if other is None else other
+        call = partial(kept.call, library.zarrs_chain_lacking, *given_pieces, *numbers)
         return told_ranges(call, 64)
 
     def _read_parts(self, source: Source, chosen: Selection, elements: AnyArray) -> None:
@@ -784,9 +786,7 @@ class Chain:
             ranges = np.minimum(ranges[ranges[:, 0] < length], np.uint64(length))
             fetched = source.pieces(ranges)
             pieces = (length, start(ranges), ranges.size, start(fetched), fetched.size)
-            call = partial(
-                library.zarrs_read_pieces, self._header, self._length, *pieces, *part.arguments()
-            )
+            call = partial(self._kept.call, library.zarrs_chain_read_pieces, *pieces, *part.arguments())
             count = math.prod(part.shape)
             told_into(elements[at : at + count], call)
             at += count

@@ -2,6 +2,7 @@
 //! contract. `include/zarrs_codecs.h` declares them, and says what C has to keep.
 #![tactic(auto)]
 
+mod chain;
 mod check;
 mod decode;
 mod edit;
@@ -16,16 +17,17 @@ mod reencode;
 mod representation;
 mod write;
 
+pub use chain::{zarrs_chain_free, zarrs_chain_new, zarrs_chain_share};
 pub use check::zarrs_check;
-pub use decode::zarrs_decode;
-pub use edit::zarrs_edit;
-pub use encode::zarrs_encode;
+pub use decode::{zarrs_chain_decode, zarrs_decode};
+pub use edit::{zarrs_chain_edit, zarrs_edit};
+pub use encode::{zarrs_chain_encode, zarrs_encode};
 pub use error_name::zarrs_error_name;
-pub use lacking::zarrs_lacking;
-pub use planned_ranges::zarrs_planned_ranges;
-pub use read::zarrs_read;
-pub use read_many::zarrs_read_many;
-pub use read_pieces::zarrs_read_pieces;
-pub use reencode::zarrs_reencode;
-pub use representation::zarrs_representation;
-pub use write::zarrs_write;
+pub use lacking::{zarrs_chain_lacking, zarrs_lacking};
+pub use planned_ranges::{zarrs_chain_planned_ranges, zarrs_planned_ranges};
+pub use read::{zarrs_chain_read, zarrs_read};
+pub use read_many::{zarrs_chain_read_many, zarrs_read_many};
+pub use read_pieces::{zarrs_chain_read_pieces, zarrs_read_pieces};
+pub use reencode::{zarrs_chain_reencode, zarrs_reencode};
+pub use representation::{zarrs_chain_representation, zarrs_representation};
+pub use write::{zarrs_chain_write, zarrs_write};

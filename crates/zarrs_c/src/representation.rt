@@ -1,8 +1,12 @@
 //! The call `zarrs_representation`.
-ghost use Rattle.zarrs_c_calls.specs.Calls.{represented};
+ghost use Rattle.std.specs.Prelude.{◌≡◌};
+ghost use Rattle.zarrs_c_calls.specs.Calls.{header_given, represented};
+ghost use Rattle.zarrs_c_calls.specs.Kept.{kept_given};
 ghost use Rattle.zarrs_c_calls.specs.Told.{TellsRepresented};
+ghost use Rattle.zarrs_kept_chains.specs.KeptChain.{kept_header};
 
 use std::alloc::Global;
+use zarrs_kept_chains::KeptChain;
 
 /// How many bytes the value of a header's chunk has: `kind` is 0 where just `size`, 1 where at most
 /// `size`, and 2 where any number, and then `size` is 0. Errors: those of `zarrs_check`.
@@ -13,7 +17,22 @@ pub extern "C" fn zarrs_representation(
     kind: &mut u32,
     size: &mut u64,
 ) -> u32
-    ensures told { TellsRepresented (represented text.now) result kind.old kind.new size.old size.new }
+    ensures told { TellsRepresented (represented (header_given text.now)) result kind.old kind.new size.old size.new }
 {
     zarrs_c_calls::zarrs_representation(alloc, text, kind, size)
+}
+
+/// `zarrs_representation` of a chain that is kept, which stays. Errors: `Argument` where none is kept, and behind it
+/// those of `zarrs_representation` but those of `zarrs_check`.
+#[unsafe(no_mangle)]
+pub extern "C" fn zarrs_chain_representation(
+    alloc: Global,
+    chain: &mut KeptChain,
+    kind: &mut u32,
+    size: &mut u64,
+) -> u32
+    ensures chain_kept { kept_header chain.new ≡ kept_header chain.old }
+    ensures told { TellsRepresented (represented (kept_given chain.old)) result kind.old kind.new size.old size.new }
+{
+    zarrs_c_calls::zarrs_chain_representation(alloc, chain, kind, size)
 }

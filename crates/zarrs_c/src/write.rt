@@ -1,10 +1,15 @@
 //! The call `zarrs_write`.
+ghost use Rattle.std.specs.Prelude.{◌≡◌};
+ghost use Rattle.zarrs_c_calls.specs.Calls.{header_given};
+ghost use Rattle.zarrs_c_calls.specs.Kept.{kept_given};
 ghost use Rattle.zarrs_c_calls.specs.Buffers.{buffers};
 ghost use Rattle.zarrs_c_calls.specs.Reads.{stored_value};
 ghost use Rattle.zarrs_c_calls.specs.Told.{TellsBytes};
 ghost use Rattle.zarrs_c_calls.specs.Writes.{part_written};
+ghost use Rattle.zarrs_kept_chains.specs.KeptChain.{kept_header};
 
 use std::alloc::Global;
+use zarrs_kept_chains::KeptChain;
 
 /// The value that is left where new elements are written at the selected places, in the selection's
 /// order: the one that is written for the chunk with these elements, which begins as the chunk that
@@ -30,11 +35,38 @@ pub extern "C" fn zarrs_write(
     needed: &mut usize,
 ) -> u32
     // Wide: a caller's three buffers, and the one that is written with its count, before and after.
-    ensures told { TellsBytes (part_written text.now (stored_value is_stored value.now)
+    ensures told { TellsBytes (part_written (header_given text.now) (stored_value is_stored value.now)
         tuples numbers.now (buffers masks.now offsets.now bytes.now)) result
         out.old out.new needed.old needed.new }
 {
     zarrs_c_calls::zarrs_write(
         alloc, text, is_stored, value, tuples, numbers, masks, offsets, bytes, out, needed,
+    )
+}
+
+/// `zarrs_write` of a chain that is kept, which stays. Errors: `Argument` where none is kept, and behind it
+/// those of `zarrs_write` but those of `zarrs_check`.
+#[unsafe(no_mangle)]
+pub extern "C" fn zarrs_chain_write(
+    alloc: Global,
+    chain: &mut KeptChain,
+    is_stored: bool,
+    value: &[u8],
+    tuples: u64,
+    numbers: &[u64],
+    masks: &[u8],
+    offsets: &[u64],
+    bytes: &[u8],
+    out: &mut [u8],
+    needed: &mut usize,
+) -> u32
+    ensures chain_kept { kept_header chain.new ≡ kept_header chain.old }
+    // Wide: a caller's three buffers, and the one that is written with its count, before and after.
+    ensures told { TellsBytes (part_written (kept_given chain.old) (stored_value is_stored value.now)
+        tuples numbers.now (buffers masks.now offsets.now bytes.now)) result
+        out.old out.new needed.old needed.new }
+{
+    zarrs_c_calls::zarrs_chain_write(
+        alloc, chain, is_stored, value, tuples, numbers, masks, offsets, bytes, out, needed,
     )
 }

@@ -14,7 +14,7 @@ use Rattle.zarrs_json.specs.KnownBytesCodec.{known_codecs}
 use Rattle.zarrs_chain_meaning.specs.CodecMeaning.{chain_chunk}
 use Rattle.zarrs_chain_meaning.specs.Chain.{held_value}
 use Rattle.zarrs_c_calls.specs.Buffers.{Buffers}
-use Rattle.zarrs_c_calls.specs.Calls.{decoded, encoded, header_given, value_decoded}
+use Rattle.zarrs_c_calls.specs.Calls.{encoded, value_decoded}
 use Rattle.zarrs_c_calls.specs.Given.{elements_given}
 use Rattle.zarrs_c_calls.specs.Codes.{codec_call_answer}
 use Rattle.zarrs_c_calls.specs.Reads.{form_read, part_read}
@@ -44,23 +44,23 @@ elements_not_due type error (Err other) e = cc
 -- ---- a read
 
 -- where the header and the selection are read
-pub read_by : (text : List ℕ) (stored : Option (List ℕ)) (tuples : ℕ) (numbers : List ℕ) (header : Header) (selection : Selection) → header_given text ≡ Ok header → selection_given (length header.sizes) tuples numbers ≡ Ok selection
-    → part_read text stored tuples numbers ≡ (codec_call_answer (form_read (header_form header) stored selection) >>= typed header.data_type)
-read_by text stored tuples numbers header selection e f = rw (e, f) refl
+pub read_by : (given_header : Result Header Cause) (stored : Option (List ℕ)) (tuples : ℕ) (numbers : List ℕ) (header : Header) (selection : Selection) → given_header ≡ Ok header → selection_given (length header.sizes) tuples numbers ≡ Ok selection
+    → part_read given_header stored tuples numbers ≡ (codec_call_answer (form_read (header_form header) stored selection) >>= typed header.data_type)
+read_by given_header stored tuples numbers header selection e f = rw (e, f) refl
 
-module _ (text : List ℕ) (stored value : Option (List ℕ)) (tuples : ℕ) (numbers : List ℕ) (header : Header) (selection : Selection) (reads : header_given text ≡ Ok header) (means : selection_given (length header.sizes) tuples numbers ≡ Ok selection) (same : value ≡ stored) where
-  of_value : part_read text stored tuples numbers ≡ (codec_call_answer (form_read (header_form header) value selection) >>= typed header.data_type)
+module _ (given_header : Result Header Cause) (stored value : Option (List ℕ)) (tuples : ℕ) (numbers : List ℕ) (header : Header) (selection : Selection) (reads : given_header ≡ Ok header) (means : selection_given (length header.sizes) tuples numbers ≡ Ok selection) (same : value ≡ stored) where
+  of_value : part_read given_header stored tuples numbers ≡ (codec_call_answer (form_read (header_form header) value selection) >>= typed header.data_type)
   of_value =
-      read_by text stored tuples numbers header selection reads means
+      read_by given_header stored tuples numbers header selection reads means
       ∙ ap (λ (v : Option (List ℕ)). codec_call_answer (form_read (header_form header) v selection) >>= typed header.data_type) (sym same)
 
   -- a container that holds what is read of the chunk holds what is due
-  pub read_due : (held : Held) → IsOkAnd (form_read (header_form header) value selection) (Holds header.data_type held) → IsTight header.data_type held → IsOkAnd (part_read text stored tuples numbers) (HoldsThese held)
+  pub read_due : (held : Held) → IsOkAnd (form_read (header_form header) value selection) (Holds header.data_type held) → IsTight header.data_type held → IsOkAnd (part_read given_header stored tuples numbers) (HoldsThese held)
   read_due held h tight =
       subst (λ (x : Result Elements Cause). IsOkAnd x (HoldsThese held)) (sym of_value) (elements_due header.data_type held (form_read (header_form header) value selection) h tight)
 
   -- and an error of it is the one that is due
-  pub read_refused : (excused : Bool) (error : CodecError) → Excused excused (form_read (header_form header) value selection ≡ Err error) → Excused excused (part_read text stored tuples numbers ≡ Err (of_codec error))
+  pub read_refused : (excused : Bool) (error : CodecError) → Excused excused (form_read (header_form header) value selection ≡ Err error) → Excused excused (part_read given_header stored tuples numbers ≡ Err (of_codec error))
   read_refused excused error h = λ wants. of_value ∙ elements_not_due header.data_type error (form_read (header_form header) value selection) (h wants)
 
 -- ---- a whole chunk
@@ -74,20 +74,12 @@ value_due header value held h tight = elements_due header.data_type held (chain_
 pub value_not_due : (header : Header) (value : List ℕ) (excused : Bool) (error : CodecError) → Excused excused (chain_chunk known_codecs header.chain header.sizes header.data_type header.fill value ≡ Err error) → Excused excused (value_decoded header value ≡ Err (of_codec error))
 value_not_due header value excused error h = λ wants. elements_not_due header.data_type error (chain_chunk known_codecs header.chain header.sizes header.data_type header.fill value) (h wants)
 
--- what is due of a text is due of the header that it is
-pub decoded_by : (text value : List ℕ) (header : Header) → header_given text ≡ Ok header → decoded text value ≡ value_decoded header value
-decoded_by text value header e = rw e refl
-
--- and an error of the header is the one that is due
-pub header_not_given : (text value : List ℕ) (excused : Bool) (cause : Cause) → Excused excused (header_given text ≡ Err cause) → Excused excused (decoded text value ≡ Err cause)
-header_not_given text value excused cause h = λ wants. rw (h wants) refl
-
 -- the value of given elements is what is due
-pub value_written : (text : List ℕ) (elements : Buffers) (header : Header) (held : Held) (items : List ℕ) → header_given text ≡ Ok header → elements_given header.data_type elements ≡ Ok held
-    → held_value known_codecs header.chain header.sizes header.data_type header.fill held ≡ Ok items → encoded text elements ≡ Ok items
-value_written text elements header held items reads given is = rw (reads, given, is) refl
+pub value_written : (given_header : Result Header Cause) (elements : Buffers) (header : Header) (held : Held) (items : List ℕ) → given_header ≡ Ok header → elements_given header.data_type elements ≡ Ok held
+    → held_value known_codecs header.chain header.sizes header.data_type header.fill held ≡ Ok items → encoded given_header elements ≡ Ok items
+value_written given_header elements header held items reads given is = rw (reads, given, is) refl
 
 -- and so is an error of it
-pub value_not_written : (text : List ℕ) (elements : Buffers) (header : Header) (held : Held) (excused : Bool) (error : CodecError) → header_given text ≡ Ok header → elements_given header.data_type elements ≡ Ok held
-    → Excused excused (held_value known_codecs header.chain header.sizes header.data_type header.fill held ≡ Err error) → Excused excused (encoded text elements ≡ Err (of_codec error))
-value_not_written text elements header held excused error reads given h = λ wants. rw (reads, given, h wants) refl
+pub value_not_written : (given_header : Result Header Cause) (elements : Buffers) (header : Header) (held : Held) (excused : Bool) (error : CodecError) → given_header ≡ Ok header → elements_given header.data_type elements ≡ Ok held
+    → Excused excused (held_value known_codecs header.chain header.sizes header.data_type header.fill held ≡ Err error) → Excused excused (encoded given_header elements ≡ Err (of_codec error))
+value_not_written given_header elements header held excused error reads given h = λ wants. rw (reads, given, h wants) refl

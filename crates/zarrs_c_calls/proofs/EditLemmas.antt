@@ -20,7 +20,6 @@ use Rattle.zarrs_json.specs.declared.header.ChunkHeader.{ChunkHeader}
 use Rattle.zarrs_codecs.proofs.MadeCoders.{no_fault}
 use Rattle.zarrs_c_calls.specs.BufferHandle.{buffer_state}
 use Rattle.zarrs_c_calls.specs.Buffers.{Buffers, buffers}
-use Rattle.zarrs_c_calls.specs.Calls.{header_given}
 use Rattle.zarrs_c_calls.specs.Codes.{cause_code, cause_memory, codec_call_answer}
 use Rattle.zarrs_c_calls.specs.EditRuns.{EditsValue, IsRepresented, EditsInOrder}
 use Rattle.zarrs_c_calls.specs.Edits.{HasEdits, TellsEdits, all_are_taken, edited, edits_in_place, edits_left, edits_opened}
@@ -168,20 +167,20 @@ answered : {A : Type 0} (r : Result A CodecError) (x : A) → codec_call_answer 
 answered (Ok y) x e = ap (λ (z : _). Ok z) (same_value y x e)
 answered (Err error) x e = absurd (cc)
 
-pub record IsOpened (text : List ℕ) (sizes : List EditSize) (numbers bytes : ℕ) (header : Header) : Type 0 where
-  pub given : header_given text ≡ Ok header
+pub record IsOpened (given_header : Result Header Cause) (sizes : List EditSize) (numbers bytes : ℕ) (header : Header) : Type 0 where
+  pub given : given_header ≡ Ok header
   pub taken : all_are_taken sizes numbers bytes ≡ true
   pub represented : seen (λ _. tt {0}) (chain_representation known_codecs header.chain header.sizes header.data_type header.fill) ≡ Ok tt
 
-pub opened : (text : List ℕ) (len : ℕ) (sizes : List EditSize) (numbers bytes : ℕ) (header : Header) → edits_opened text len sizes numbers bytes ≡ Ok header → IsOpened text sizes numbers bytes header
-opened text len sizes numbers bytes header e =
-    let a = step_ok (header_given text) _ header e in
+pub opened : (given_header : Result Header Cause) (len : ℕ) (sizes : List EditSize) (numbers bytes : ℕ) (header : Header) → edits_opened given_header len sizes numbers bytes ≡ Ok header → IsOpened given_header sizes numbers bytes header
+opened given_header len sizes numbers bytes header e =
+    let a = step_ok (given_header) _ header e in
     let b = step_ok (demand (all_are_taken sizes numbers bytes) Argument) _ header a.2 in
     let c = step_ok (codec_call_answer (edits_in_place a.0 len)) _ header b.2 in
     let d = step_ok (demand c.0 NotInPlace) _ header c.2 in
     let r = step_ok (chain_representation known_codecs a.0.chain a.0.sizes a.0.data_type a.0.fill) _ c.0 (answered (edits_in_place a.0 len) c.0 c.1) in
     let same : a.0 ≡ header = same_value a.0 header d.2 in
-    subst (λ (h : Header). IsOpened text sizes numbers bytes h) same
+    subst (λ (h : Header). IsOpened given_header sizes numbers bytes h) same
     (record { given = a.1; taken = demanded (all_are_taken sizes numbers bytes) Argument b.0 b.1; represented = ap (seen (λ (r : BytesRepresentation). tt {0})) r.1 })
 
 -- the construction of an encoder fails only for lack of memory
@@ -202,22 +201,22 @@ none_made form before after edits error same is refuses =
 
 -- ---- of a header's chunk
 
-module _ (text : List ℕ) (before after : List ℕ) (edits : Edits) (form : ChunkHeader) (outcome : EditsOutcome) (given : edits_opened text (length before) edits.sizes.now (length edits.numbers.now) (length edits.bytes.now) ≡ Ok (header_seen form)) where
-  by_header : (count : ℕ) → edited text edits.sizes.now edits.numbers.now edits.bytes.now before count ≡ edits_left (header_seen form) edits.sizes.now edits.numbers.now edits.bytes.now before count
+module _ (given_header : Result Header Cause) (before after : List ℕ) (edits : Edits) (form : ChunkHeader) (outcome : EditsOutcome) (given : edits_opened given_header (length before) edits.sizes.now (length edits.numbers.now) (length edits.bytes.now) ≡ Ok (header_seen form)) where
+  by_header : (count : ℕ) → edited given_header edits.sizes.now edits.numbers.now edits.bytes.now before count ≡ edits_left (header_seen form) edits.sizes.now edits.numbers.now edits.bytes.now before count
   by_header count = ap (λ (r : Result Header Cause). r >>= λ header. edits_left header edits.sizes.now edits.numbers.now edits.bytes.now before count) given
 
   all_made : (refusal : Option Cause) (done : ℕ) → edits_left (header_seen form) edits.sizes.now edits.numbers.now edits.bytes.now before done ≡ Ok after → IfNone refusal (done ≡ length edits.sizes.now)
-      → IfNone refusal ((edited text edits.sizes.now edits.numbers.now edits.bytes.now before (length edits.sizes.now) ≡ Ok after) × (done ≡ length edits.sizes.now))
+      → IfNone refusal ((edited given_header edits.sizes.now edits.numbers.now edits.bytes.now before (length edits.sizes.now) ≡ Ok after) × (done ≡ length edits.sizes.now))
   all_made None done made all = (by_header (length edits.sizes.now) ∙ ap (edits_left (header_seen form) edits.sizes.now edits.numbers.now edits.bytes.now before) (sym all) ∙ made, all)
   all_made (Some cause) done made all = tt
 
   next_refused : (refusal : Option Cause) (done : ℕ) → IfSome refusal (λ cause. Excused (cause_memory cause) (edits_left (header_seen form) edits.sizes.now edits.numbers.now edits.bytes.now before (suc done) ≡ Err cause))
-      → IfSome refusal (λ cause. Excused (cause_memory cause) (edited text edits.sizes.now edits.numbers.now edits.bytes.now before (suc done) ≡ Err cause))
+      → IfSome refusal (λ cause. Excused (cause_memory cause) (edited given_header edits.sizes.now edits.numbers.now edits.bytes.now before (suc done) ≡ Err cause))
   next_refused None done refuses = tt
   next_refused (Some cause) done refuses = λ wants. by_header (suc done) ∙ refuses wants
 
   -- what edits give of the header that was read, they give of its text
-  pub edits_opened_made : EditsInOrder form before after edits outcome → EditsValue text before after edits outcome
+  pub edits_opened_made : EditsInOrder form before after edits outcome → EditsValue given_header before after edits outcome
   edits_opened_made runs = record {
     made = inr (by_header outcome.done ∙ runs.made);
     all = all_made outcome.refusal outcome.done runs.made runs.all;
@@ -225,9 +224,9 @@ module _ (text : List ℕ) (before after : List ℕ) (edits : Edits) (form : Chu
   }
 
 -- where nothing is opened, this is what is due of any edit
-pub edits_not_opened : (text : List ℕ) (sizes : List EditSize) (numbers bytes value : List ℕ) (count : ℕ) (cause : Cause) → Excused (cause_memory cause) (edits_opened text (length value) sizes (length numbers) (length bytes) ≡ Err cause)
-    → Excused (cause_memory cause) (edited text sizes numbers bytes value count ≡ Err cause)
-edits_not_opened text sizes numbers bytes value count cause refuses = λ wants.
+pub edits_not_opened : (given_header : Result Header Cause) (sizes : List EditSize) (numbers bytes value : List ℕ) (count : ℕ) (cause : Cause) → Excused (cause_memory cause) (edits_opened given_header (length value) sizes (length numbers) (length bytes) ≡ Err cause)
+    → Excused (cause_memory cause) (edited given_header sizes numbers bytes value count ≡ Err cause)
+edits_not_opened given_header sizes numbers bytes value count cause refuses = λ wants.
     ap (λ (r : Result Header Cause). r >>= λ header. edits_left header sizes numbers bytes value count) (refuses wants)
 
 -- ---- returned
@@ -241,10 +240,10 @@ some_of None x P is h = absurd (cc)
 some_of (Some y) x P is h = let e : y ≡ x = cc in subst (λ (z : _). P z) e h
 
 -- all edits are made
-pub edits_told : (text : List ℕ) (sizes : List EditSize) (numbers bytes old new : List ℕ) (done : ℕ) → edited text sizes numbers bytes old (length sizes) ≡ Ok new → done ≡ length sizes → TellsEdits text sizes numbers bytes old new 0 done
-edits_told text sizes numbers bytes old new done made all = inl (made, refl, all)
+pub edits_told : (given_header : Result Header Cause) (sizes : List EditSize) (numbers bytes old new : List ℕ) (done : ℕ) → edited given_header sizes numbers bytes old (length sizes) ≡ Ok new → done ≡ length sizes → TellsEdits given_header sizes numbers bytes old new 0 done
+edits_told given_header sizes numbers bytes old new done made all = inl (made, refl, all)
 
 -- one fails
-pub edit_refused : (text : List ℕ) (sizes : List EditSize) (numbers bytes old new : List ℕ) (done : ℕ) (cause : Cause) (code : ℕ) → HasEdits text sizes numbers bytes old new done
-    → Excused (cause_memory cause) (edited text sizes numbers bytes old (suc done) ≡ Err cause) → code ≡ cause_code cause → TellsEdits text sizes numbers bytes old new code done
-edit_refused text sizes numbers bytes old new done cause code has gives is = inr (rw is (refused cause (edited text sizes numbers bytes old (suc done)) gives), has)
+pub edit_refused : (given_header : Result Header Cause) (sizes : List EditSize) (numbers bytes old new : List ℕ) (done : ℕ) (cause : Cause) (code : ℕ) → HasEdits given_header sizes numbers bytes old new done
+    → Excused (cause_memory cause) (edited given_header sizes numbers bytes old (suc done) ≡ Err cause) → code ≡ cause_code cause → TellsEdits given_header sizes numbers bytes old new code done
+edit_refused given_header sizes numbers bytes old new done cause code has gives is = inr (rw is (refused cause (edited given_header sizes numbers bytes old (suc done)) gives), has)

@@ -37,6 +37,7 @@ use Rattle.zarrs_codecs.specs.PlannedReads.{ArePlanned}
 use Rattle.zarrs_c_calls.specs.Codes.{codec_call_answer}
 use Rattle.zarrs_c_calls.specs.Enough.{PlanIsEnough}
 use Rattle.zarrs_c_calls.specs.Plans.{Planned, places_planned}
+use Rattle.zarrs_c_calls.specs.Calls.{header_given}
 use Rattle.zarrs_c_calls.proofs.HeaderLemmas.{header_sound}
 use Rattle.zarrs_c_calls.proofs.PlanLemmas.{plan_by, with_header}
 use Rattle.zarrs_lent_handles.proofs.LackingLemmas.{each_passes}
@@ -148,7 +149,7 @@ plan_is_enough text tuples numbers header selection plan ranges pieces reads mea
     let form = header_form header in
     let places : List ℕ = told.0 in
     let made : List ByteSpan = told.1 in
-    let p = planned_is header (places_planned form selection) plan (sym (plan_by text tuples numbers header selection reads means) ∙ is) in
+    let p = planned_is header (places_planned form selection) plan (sym (plan_by (header_given text) tuples numbers header selection reads means) ∙ is) in
     let b = bind_ok (chain_representation known_codecs form.chain form.sizes form.type form.fill) (λ _. planned_places form selection) (Some places) (p.0 ∙ ap ok told.2) in
     let own : IsReadPlan known_codecs form (Some made) (Some places) = subst (λ (h : Header). IsReadPlan known_codecs (header_form h) (Some made) (Some places)) (sym p.1) told.3 in
     let sound = header_sound text header reads in

@@ -10,7 +10,6 @@ use Rattle.zarrs_chain_meaning.specs.CodecMeaning.{chain_representation}
 use Rattle.zarrs_codecs.specs.ChunkRead.{IsReadPlan, planned_places}
 use Rattle.zarrs_json.specs.Header.{Header, header_form, HeaderForm}
 use Rattle.zarrs_lent_handles.specs.Joined.{Joins}
-use Rattle.zarrs_c_calls.specs.Calls.{header_given}
 use Rattle.zarrs_c_calls.specs.Codes.{cause_code, cause_memory, codec_call_answer}
 use Rattle.zarrs_c_calls.specs.Plans.{Planned, PlanBuffers, TellsPlan, ToldRanges, places_planned, planned, range_numbers}
 use Rattle.zarrs_c_calls.specs.PlanSeen.{IsPlanNumbers}
@@ -63,22 +62,22 @@ some_joined header (Ok None) ranges numbers h joined = absurd h
 some_joined header (Ok (Some places)) ranges numbers h joined = (joined.0, joined.1, (places, ranges.items, refl, h, joined.2))
 some_joined header (Err e) ranges numbers h joined = absurd h
 
-module _ (text : List ℕ) (tuples : ℕ) (numbers : List ℕ) (header : Header) (selection : Selection) (reads : header_given text ≡ Ok header) (means : selection_given (length header.sizes) tuples numbers ≡ Ok selection) where
+module _ (given_header : Result Header Cause) (tuples : ℕ) (numbers : List ℕ) (header : Header) (selection : Selection) (reads : given_header ≡ Ok header) (means : selection_given (length header.sizes) tuples numbers ≡ Ok selection) where
   abbrev places : Result (Option (List ℕ)) CodecError
   places = places_planned (header_form header) selection
 
-  pub plan_by : planned text tuples numbers ≡ (codec_call_answer places >>= with_header header)
+  pub plan_by : planned given_header tuples numbers ≡ (codec_call_answer places >>= with_header header)
   plan_by = rw (reads, means) refl
 
   -- where none is planned, none is due
-  pub none_due : (ranges : Option (Vec ByteSpan Global)) → IsOkAnd places (IsPlanOf (header_form header) ranges) → ranges ≡ None → IsOkAnd (planned text tuples numbers) (IsPlanNumbers None)
+  pub none_due : (ranges : Option (Vec ByteSpan Global)) → IsOkAnd places (IsPlanOf (header_form header) ranges) → ranges ≡ None → IsOkAnd (planned given_header tuples numbers) (IsPlanNumbers None)
   none_due ranges h is =
       let of_none : IsOkAnd places (IsPlanOf (header_form header) None) = subst (λ (r : Option (Vec ByteSpan Global)). IsOkAnd places (IsPlanOf (header_form header) r)) is h in
       subst (λ (x : Result Planned Cause). IsOkAnd x (IsPlanNumbers None)) (sym plan_by) (none_joined header places of_none)
 
   -- those that are planned are due, joined
   pub some_due : (ranges : Option (Vec ByteSpan Global)) (made : Vec ByteSpan Global) (told : Vec ℕ Global) → IsOkAnd places (IsPlanOf (header_form header) ranges) → ranges ≡ Some made → AreNumbersOf made.items told
-      → IsOkAnd (planned text tuples numbers) (IsPlanNumbers (Some told))
+      → IsOkAnd (planned given_header tuples numbers) (IsPlanNumbers (Some told))
   some_due ranges made told h is joined =
       let of_some : IsOkAnd places (IsPlanOf (header_form header) (Some made)) = subst (λ (r : Option (Vec ByteSpan Global)). IsOkAnd places (IsPlanOf (header_form header) r)) is h in
       subst (λ (x : Result Planned Cause). IsOkAnd x (IsPlanNumbers (Some told))) (sym plan_by) (some_joined header places made told of_some joined)

@@ -45,7 +45,6 @@ use Rattle.zarrs_c_calls.proofs.EnoughLemmas.{form_passes}
 use Rattle.zarrs_c_calls.proofs.FetchedLemmas.{IsMade, part_stopped}
 use Rattle.zarrs_c_calls.proofs.LackingLemmas.{is_read, made_lacks, not_lacking, not_whole, surely_read, whole_read}
 use Rattle.zarrs_json.specs.Header.{Header, HeaderForm, header_form}
-use Rattle.zarrs_c_calls.specs.Calls.{header_given}
 use Rattle.zarrs_c_calls.specs.Codes.{IsRefusal, cause_code, cause_memory, codec_call_answer}
 use Rattle.zarrs_c_calls.specs.Fetched.{pieces_given, pieces_read}
 use Rattle.zarrs_c_calls.specs.Selections.{selection_given}
@@ -53,7 +52,6 @@ use Rattle.zarrs_c_calls.specs.Told.{Elements}
 use Rattle.zarrs_c_calls.specs.declared.cause.Cause.{Cause}
 use Rattle.zarrs_c_calls.proofs.AnswerLemmas.{elements_not_due, of_codec, typed}
 use Rattle.zarrs_c_calls.proofs.CodeLemmas.{refused}
-use Rattle.zarrs_c_calls.proofs.HeaderLemmas.{header_sound}
 use Rattle.std.specs.Option.{option_map_or}
 
 -- ---- numbers and the bytes of ranges
@@ -506,17 +504,12 @@ plan_stopped form len ps selection state source e is made h = λ wants. plan_sto
 
 -- ---- of a header
 
-pub sound_form : (text : List ℕ) (header : Header) → header_given text ≡ Ok header → IsSoundForm (header_form header)
-sound_form text header reads =
-    let s = header_sound text header reads in
-    record { mappings = s.mappings; positive = s.positive }
-
-module _ (text : List ℕ) (len : ℕ) (ranges fetched : List ℕ) (tuples : ℕ) (numbers : List ℕ) (header : Header) (selection : Selection) (pieces : List PlainPiece) (reads : header_given text ≡ Ok header) (means : selection_given (length header.sizes) tuples numbers ≡ Ok selection) (given : pieces_given ranges fetched ≡ Ok pieces) where
-  of_pieces : pieces_read zeros text len ranges fetched tuples numbers ≡ (codec_call_answer (apart_read zeros (header_form header) len pieces selection) >>= typed header.data_type)
+module _ (given_header : Result Header Cause) (len : ℕ) (ranges fetched : List ℕ) (tuples : ℕ) (numbers : List ℕ) (header : Header) (selection : Selection) (pieces : List PlainPiece) (reads : given_header ≡ Ok header) (means : selection_given (length header.sizes) tuples numbers ≡ Ok selection) (given : pieces_given ranges fetched ≡ Ok pieces) where
+  of_pieces : pieces_read zeros given_header len ranges fetched tuples numbers ≡ (codec_call_answer (apart_read zeros (header_form header) len pieces selection) >>= typed header.data_type)
   of_pieces = rw (reads, means, given) refl
 
   pub all_due : (told : List ℕ) → (lacking : List ByteSpan) × AreLackingTo (header_form header) len pieces selection lacking × (told ≡ range_numbers lacking)
-      → (lacking : List ByteSpan) × IsLackingOf text len ranges fetched tuples numbers lacking × (told ≡ range_numbers lacking)
+      → (lacking : List ByteSpan) × IsLackingOf given_header len ranges fetched tuples numbers lacking × (told ≡ range_numbers lacking)
   all_due told (lacking, are, e) = (
     lacking,
     record { header = header; selection = selection; pieces = pieces; header_is = reads; selection_is = means; pieces_are = given; are = are },
@@ -524,7 +517,7 @@ module _ (text : List ℕ) (len : ℕ) (ranges fetched : List ℕ) (tuples : ℕ
   )
 
   -- an error of the chunk's read is the one that is due
-  pub all_refused : (error : CodecError) → Excused (memory error) (apart_read zeros (header_form header) len pieces selection ≡ Err error) → Excused (memory error) (pieces_read zeros text len ranges fetched tuples numbers ≡ Err (of_codec error))
+  pub all_refused : (error : CodecError) → Excused (memory error) (apart_read zeros (header_form header) len pieces selection ≡ Err error) → Excused (memory error) (pieces_read zeros given_header len ranges fetched tuples numbers ≡ Err (of_codec error))
   all_refused error h = λ wants. of_pieces ∙ elements_not_due header.data_type error (apart_read zeros (header_form header) len pieces selection) (h wants)
 
 -- ---- returned

@@ -9,7 +9,6 @@ use Rattle.zarrs_array_bytes.specs.Held.{Held}
 use Rattle.zarrs_array_bytes.specs.Update.{with_items_at}
 use Rattle.zarrs_json.specs.Header.{header_form, Header}
 use Rattle.zarrs_c_calls.specs.Buffers.{Buffers}
-use Rattle.zarrs_c_calls.specs.Calls.{header_given}
 use Rattle.zarrs_c_calls.specs.Codes.{codec_call_answer}
 use Rattle.zarrs_c_calls.specs.Given.{elements_given}
 use Rattle.zarrs_c_calls.specs.Selections.{selection_given}
@@ -31,23 +30,23 @@ refusal_is_answer : (error : CodecError) (left : Result (List ℕ) CodecError) �
 refusal_is_answer error (Ok value) e = absurd (cc)
 refusal_is_answer error (Err other) e = cc
 
-module _ (text : List ℕ) (stored : Option (List ℕ)) (tuples : ℕ) (numbers : List ℕ) (b : Buffers) (header : Header) (selection : Selection) (new : Held) (reads : header_given text ≡ Ok header) (means : selection_given (length header.sizes) tuples numbers ≡ Ok selection)
+module _ (given_header : Result Header Cause) (stored : Option (List ℕ)) (tuples : ℕ) (numbers : List ℕ) (b : Buffers) (header : Header) (selection : Selection) (new : Held) (reads : given_header ≡ Ok header) (means : selection_given (length header.sizes) tuples numbers ≡ Ok selection)
     (given : elements_given header.data_type b ≡ Ok new) where
   abbrev left : Result (List ℕ) CodecError
   left = known_written (header_form header) stored selection new
 
-  of_value : part_written text stored tuples numbers b ≡ codec_call_answer left
+  of_value : part_written given_header stored tuples numbers b ≡ codec_call_answer left
   of_value = rw (reads, means, given) refl
 
-  seen_value : seen (λ value. Some value) (part_written text stored tuples numbers b) ≡ seen (λ value. Some value) (codec_call_answer left)
+  seen_value : seen (λ value. Some value) (part_written given_header stored tuples numbers b) ≡ seen (λ value. Some value) (codec_call_answer left)
   seen_value = ap (seen (λ value. Some value)) of_value
 
   -- the value that is stored afterwards is the one that is due
-  pub written_due : (after : Option (List ℕ)) → seen (λ value. Some value) left ≡ Ok after → seen (λ value. Some value) (part_written text stored tuples numbers b) ≡ Ok after
+  pub written_due : (after : Option (List ℕ)) → seen (λ value. Some value) left ≡ Ok after → seen (λ value. Some value) (part_written given_header stored tuples numbers b) ≡ Ok after
   written_due after e = seen_value ∙ written_is_answer after left e
 
   -- and an error is the one that is due
-  pub write_refused : (excused : Bool) (error : CodecError) → Excused excused (seen (λ value. Some value) left ≡ Err error) → Excused excused (seen (λ value. Some value) (part_written text stored tuples numbers b) ≡ Err (of_codec error))
+  pub write_refused : (excused : Bool) (error : CodecError) → Excused excused (seen (λ value. Some value) left ≡ Err error) → Excused excused (seen (λ value. Some value) (part_written given_header stored tuples numbers b) ≡ Err (of_codec error))
   write_refused excused error h = λ wants. seen_value ∙ refusal_is_answer error left (h wants)
 
 -- ---- returned

@@ -5,6 +5,7 @@ use Rattle.zarrs_json.specs.KnownBytesCodec.{known_codecs}
 use Rattle.zarrs_chain_meaning.specs.CodecMeaning.{chain_representation}
 use Rattle.zarrs_codecs.specs.PartialEncoder.{encoder_handle}
 use Rattle.zarrs_codecs.specs.declared.partial_encoder.array_partial_encoder.ArrayPartialEncoder.{ArrayPartialEncoder}
+use Rattle.zarrs_json.specs.Header.{Header}
 use Rattle.zarrs_json.specs.HeaderRead.{header_seen}
 use Rattle.zarrs_json.specs.declared.header.ChunkHeader.{ChunkHeader}
 use Rattle.zarrs_c_calls.specs.BufferHandle.{buffer_bytes}
@@ -47,7 +48,7 @@ pub record EditsInOrder (form : ChunkHeader) (before after : List ℕ) (edits : 
   pub refused : IfSome outcome.refusal (λ cause. Excused (cause_memory cause) (edits_left (header_seen form) edits.sizes.now edits.numbers.now edits.bytes.now before (suc outcome.done) ≡ Err cause))
 
 -- the same of the chunk of a header, which may be rejected before any edit is made
-pub record EditsValue (text : List ℕ) (before after : List ℕ) (edits : Edits) (outcome : EditsOutcome) : Type 0 where
-  pub made : HasEdits text edits.sizes.now edits.numbers.now edits.bytes.now before after outcome.done
-  pub all : IfNone outcome.refusal ((edited text edits.sizes.now edits.numbers.now edits.bytes.now before (length edits.sizes.now) ≡ Ok after) × (outcome.done ≡ length edits.sizes.now))
-  pub refused : IfSome outcome.refusal (λ cause. Excused (cause_memory cause) (edited text edits.sizes.now edits.numbers.now edits.bytes.now before (suc outcome.done) ≡ Err cause))
+pub record EditsValue (given_header : Result Header Cause) (before after : List ℕ) (edits : Edits) (outcome : EditsOutcome) : Type 0 where
+  pub made : HasEdits given_header edits.sizes.now edits.numbers.now edits.bytes.now before after outcome.done
+  pub all : IfNone outcome.refusal ((edited given_header edits.sizes.now edits.numbers.now edits.bytes.now before (length edits.sizes.now) ≡ Ok after) × (outcome.done ≡ length edits.sizes.now))
+  pub refused : IfSome outcome.refusal (λ cause. Excused (cause_memory cause) (edited given_header edits.sizes.now edits.numbers.now edits.bytes.now before (suc outcome.done) ≡ Err cause))

@@ -9,7 +9,6 @@ use Rattle.zarrs_chain_meaning.specs.Chain.{chain_writes}
 use Rattle.zarrs_chain_meaning.specs.CodecMeaning.{chain_representation}
 use Rattle.zarrs_json.specs.Header.{Header}
 use Rattle.zarrs_c_calls.specs.Buffers.{buffers}
-use Rattle.zarrs_c_calls.specs.Calls.{header_given}
 use Rattle.zarrs_c_calls.specs.Codes.{IsRefusal, codec_call_answer}
 use Rattle.zarrs_c_calls.specs.Writes.{header_written}
 use Rattle.zarrs_c_calls.specs.declared.cause.Cause.{Cause}
@@ -37,9 +36,9 @@ edits_in_place header len = do
   Ok ((chain_writes (λ _. record { partial_encode = false }) header.chain).partial_encode && has_all_bytes representation len)
 
 -- the header whose chunk is edited in a value of so many bytes, where the edits take just so many numbers and bytes
-abbrev pub edits_opened : List ℕ → ℕ → List EditSize → ℕ → ℕ → Result Header Cause
-edits_opened text len sizes numbers bytes = do
-  header ← header_given text
+abbrev pub edits_opened : Result Header Cause → ℕ → List EditSize → ℕ → ℕ → Result Header Cause
+edits_opened given_header len sizes numbers bytes = do
+  header ← given_header
   _ ← demand (all_are_taken sizes numbers bytes) Argument
   in_place ← codec_call_answer (edits_in_place header len)
   _ ← demand in_place NotInPlace
@@ -56,19 +55,19 @@ edits_left header (size ∷ sizes) numbers bytes value (suc count) = do
   edits_left header sizes (drop size.numbers numbers) (drop size.bytes bytes) left count
 
 -- the same of the chunk of a header, where its edits are written in place
-abbrev pub edited : List ℕ → List EditSize → List ℕ → List ℕ → List ℕ → ℕ → Result (List ℕ) Cause
-edited text sizes numbers bytes value count = do
-  header ← edits_opened text (length value) sizes (length numbers) (length bytes)
+abbrev pub edited : Result Header Cause → List EditSize → List ℕ → List ℕ → List ℕ → ℕ → Result (List ℕ) Cause
+edited given_header sizes numbers bytes value count = do
+  header ← edits_opened given_header (length value) sizes (length numbers) (length bytes)
   edits_left header sizes numbers bytes value count
 
 -- ---- returned
 
 -- the value has the first so many edits and no others; none of them is made where nothing is opened
-abbrev pub HasEdits : List ℕ → List EditSize → List ℕ → List ℕ → (old new : List ℕ) → ℕ → Type 0
-HasEdits text sizes numbers bytes old new done = (done ≡ 0 × new ≡ old) ⊎ (edited text sizes numbers bytes old done ≡ Ok new)
+abbrev pub HasEdits : Result Header Cause → List EditSize → List ℕ → List ℕ → (old new : List ℕ) → ℕ → Type 0
+HasEdits given_header sizes numbers bytes old new done = (done ≡ 0 × new ≡ old) ⊎ (edited given_header sizes numbers bytes old done ≡ Ok new)
 
 -- All edits are made, and the code is 0; or the edit after the first `done` ones fails, or all are rejected, and the value has these edits and no others.
-abbrev pub TellsEdits : List ℕ → List EditSize → List ℕ → List ℕ → (old new : List ℕ) → ℕ → ℕ → Type 0
-TellsEdits text sizes numbers bytes old new code done =
-    ((edited text sizes numbers bytes old (length sizes) ≡ Ok new) × (code ≡ 0) × (done ≡ length sizes))
-    ⊎ (IsRefusal (edited text sizes numbers bytes old (suc done)) code × HasEdits text sizes numbers bytes old new done)
+abbrev pub TellsEdits : Result Header Cause → List EditSize → List ℕ → List ℕ → (old new : List ℕ) → ℕ → ℕ → Type 0
+TellsEdits given_header sizes numbers bytes old new code done =
+    ((edited given_header sizes numbers bytes old (length sizes) ≡ Ok new) × (code ≡ 0) × (done ≡ length sizes))
+    ⊎ (IsRefusal (edited given_header sizes numbers bytes old (suc done)) code × HasEdits given_header sizes numbers bytes old new done)

@@ -15,5 +15,5 @@ use Rattle.zarrs_c_calls.specs.Selections.{selection_given}
 abbrev pub PlanIsEnough : Type 0
 PlanIsEnough =
     (text : List ℕ) (tuples : ℕ) (numbers : List ℕ) (header : Header) (selection : Selection) (plan : Planned) (ranges : List ByteSpan) (pieces : List PlainPiece)
-    → header_given text ≡ Ok header → selection_given (length header.sizes) tuples numbers ≡ Ok selection → planned text tuples numbers ≡ Ok plan → AreForPlan (Some ranges) plan
+    → header_given text ≡ Ok header → selection_given (length header.sizes) tuples numbers ≡ Ok selection → planned (header_given text) tuples numbers ≡ Ok plan → AreForPlan (Some ranges) plan
     → ((number : ℕ) → have_number ranges number ≡ true → is_at_hand pieces number ≡ true) → (asked : List ℕ) × ArePlanned known_codecs (header_form header) selection asked × (are_at_hand pieces asked ≡ true)

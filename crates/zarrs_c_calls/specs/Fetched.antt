@@ -20,7 +20,6 @@ use Rattle.zarrs_lent_handles.specs.declared.piece.Piece.{Piece}
 use Rattle.zarrs_codecs.specs.ChunkRead.{are_asked_sure, asks_in_part, read_rests_on}
 use Rattle.zarrs_codecs.specs.PlannedReads.{ArePlanned}
 use Rattle.zarrs_c_calls.specs.Buffers.{Room, crossed}
-use Rattle.zarrs_c_calls.specs.Calls.{header_given}
 use Rattle.zarrs_c_calls.specs.Codes.{IsRefusal, cause_memory, codec_call_answer}
 use Rattle.zarrs_c_calls.specs.LackingByte.{LacksByte, apart_read}
 use Rattle.zarrs_c_calls.specs.Reads.{form_seen, part_read}
@@ -47,21 +46,21 @@ pieces_given (start ∷ end ∷ ranges) bytes = do
   Ok (record { start = start; bytes = front } ∷ pieces)
 
 -- the selected elements of the value of so many bytes that has these pieces, and these bytes elsewhere
-abbrev pub pieces_read : (ℕ → ℕ) → List ℕ → ℕ → List ℕ → List ℕ → ℕ → List ℕ → Result Elements Cause
-pieces_read elsewhere text len ranges fetched tuples numbers = do
-  header ← header_given text
+abbrev pub pieces_read : (ℕ → ℕ) → Result Header Cause → ℕ → List ℕ → List ℕ → ℕ → List ℕ → Result Elements Cause
+pieces_read elsewhere given_header len ranges fetched tuples numbers = do
+  header ← given_header
   selection ← selection_given (length header.sizes) tuples numbers
   pieces ← pieces_given ranges fetched
   chunk ← codec_call_answer (apart_read elsewhere (header_form header) len pieces selection)
   Ok (header.data_type, chunk)
 
 -- The value has so many bytes and these pieces, and all bytes that a read of the selection plans to ask for are among them.
-pub record HasPlannedPieces (text : List ℕ) (len : ℕ) (ranges fetched : List ℕ) (tuples : ℕ) (numbers value : List ℕ) : Type 0 where
+pub record HasPlannedPieces (given_header : Result Header Cause) (len : ℕ) (ranges fetched : List ℕ) (tuples : ℕ) (numbers value : List ℕ) : Type 0 where
   pub header : Header
   pub selection : Selection
   pub pieces : List PlainPiece
   pub planned : List ℕ
-  pub header_is : header_given text ≡ Ok header
+  pub header_is : given_header ≡ Ok header
   pub selection_is : selection_given (length header.sizes) tuples numbers ≡ Ok selection
   pub pieces_are : pieces_given ranges fetched ≡ Ok pieces
   pub stand_apart : are_apart len 0 pieces ≡ true
@@ -82,11 +81,11 @@ abbrev pub memory_or_lack : Cause → Bool
 memory_or_lack cause = cause_memory cause || cause_lacks cause
 
 -- The header, the selection and the pieces have no error, and a byte is lacking, of the value that has these bytes elsewhere.
-pub record Lacks (elsewhere : ℕ → ℕ) (text : List ℕ) (len : ℕ) (ranges fetched : List ℕ) (tuples : ℕ) (numbers : List ℕ) : Type 0 where
+pub record Lacks (elsewhere : ℕ → ℕ) (given_header : Result Header Cause) (len : ℕ) (ranges fetched : List ℕ) (tuples : ℕ) (numbers : List ℕ) : Type 0 where
   pub header : Header
   pub selection : Selection
   pub pieces : List PlainPiece
-  pub header_is : header_given text ≡ Ok header
+  pub header_is : given_header ≡ Ok header
   pub selection_is : selection_given (length header.sizes) tuples numbers ≡ Ok selection
   pub pieces_are : pieces_given ranges fetched ≡ Ok pieces
   pub lacking : LacksByte elsewhere (header_form header) len pieces selection
@@ -105,10 +104,10 @@ pub record HasFetched (len : ℕ) (ranges fetched value : List ℕ) : Type 0 whe
   pub has : HasPieces len pieces value
 
 -- what a read of pieces returns: what is due of the value that has the bytes of this one elsewhere, or a byte is lacking; where this one has the pieces itself, what is due of it; and for each value that has them, where they are enough, what a read of that value returns
-pub record TellsPieces (text : List ℕ) (len : ℕ) (ranges fetched : List ℕ) (tuples : ℕ) (numbers value : List ℕ) (code : ℕ) (old new : Room) : Type 0 where
-  pub told : TellsOrLacks (Lacks (own_bytes value) text len ranges fetched tuples numbers) (pieces_read (own_bytes value) text len ranges fetched tuples numbers) code old new
-  pub each : HasFetched len ranges fetched value → TellsOrLacks (Lacks (own_bytes value) text len ranges fetched tuples numbers) (part_read text (Some value) tuples numbers) code old new
-  pub alike : (other : List ℕ) → HasPlannedPieces text len ranges fetched tuples numbers other → TellsElements (part_read text (Some other) tuples numbers) code old new
+pub record TellsPieces (given_header : Result Header Cause) (len : ℕ) (ranges fetched : List ℕ) (tuples : ℕ) (numbers value : List ℕ) (code : ℕ) (old new : Room) : Type 0 where
+  pub told : TellsOrLacks (Lacks (own_bytes value) given_header len ranges fetched tuples numbers) (pieces_read (own_bytes value) given_header len ranges fetched tuples numbers) code old new
+  pub each : HasFetched len ranges fetched value → TellsOrLacks (Lacks (own_bytes value) given_header len ranges fetched tuples numbers) (part_read given_header (Some value) tuples numbers) code old new
+  pub alike : (other : List ℕ) → HasPlannedPieces given_header len ranges fetched tuples numbers other → TellsElements (part_read given_header (Some other) tuples numbers) code old new
 
 -- ---- before it is returned
 
@@ -132,11 +131,11 @@ ReadsSurelyInPart form state indexer result =
     asks_in_part (form_seen form).chain.bytes_to_bytes (form_seen form).chain.array_to_bytes ≡ true → AsksSurely (form_seen form) state (selection_of indexer) (is_fault result)
 
 -- of each value that has the fetched pieces, where all bytes that are planned are among them, the answer is that of a read of the value
-abbrev pub ReadsFetchedAlike : List ℕ → Fetched → ℕ → List ℕ → Result Held Cause → Type 0
-ReadsFetchedAlike text fetched tuples numbers result =
-    (value : List ℕ) → HasPlannedPieces text fetched.len fetched.ranges.now fetched.bytes.now tuples numbers value → AnswersBy cause_memory HoldsThese result (part_read text (Some value) tuples numbers)
+abbrev pub ReadsFetchedAlike : Result Header Cause → Fetched → ℕ → List ℕ → Result Held Cause → Type 0
+ReadsFetchedAlike given_header fetched tuples numbers result =
+    (value : List ℕ) → HasPlannedPieces given_header fetched.len fetched.ranges.now fetched.bytes.now tuples numbers value → AnswersBy cause_memory HoldsThese result (part_read given_header (Some value) tuples numbers)
 
 -- the error that a byte isn't at hand comes only where it is due, or where a byte is lacking
-abbrev pub LacksWhereAnswered : (ℕ → ℕ) → List ℕ → Fetched → ℕ → List ℕ → Result Held Cause → Type 0
-LacksWhereAnswered elsewhere text fetched tuples numbers result =
-    IfErr result (λ cause. cause_lacks cause ≡ true → (pieces_read elsewhere text fetched.len fetched.ranges.now fetched.bytes.now tuples numbers ≡ Err cause) ⊎ Lacks elsewhere text fetched.len fetched.ranges.now fetched.bytes.now tuples numbers)
+abbrev pub LacksWhereAnswered : (ℕ → ℕ) → Result Header Cause → Fetched → ℕ → List ℕ → Result Held Cause → Type 0
+LacksWhereAnswered elsewhere given_header fetched tuples numbers result =
+    IfErr result (λ cause. cause_lacks cause ≡ true → (pieces_read elsewhere given_header fetched.len fetched.ranges.now fetched.bytes.now tuples numbers ≡ Err cause) ⊎ Lacks elsewhere given_header fetched.len fetched.ranges.now fetched.bytes.now tuples numbers)

@@ -16,7 +16,6 @@ use Rattle.zarrs_lent_handles.specs.PiecesHandle.{HandleLacks, are_unsure, made_
 use Rattle.zarrs_lent_handles.specs.declared.pieces_handle.PiecesHandle.{PiecesHandle}
 use Rattle.zarrs_codecs.specs.ChunkSource.{source_made}
 use Rattle.zarrs_codecs.specs.PlannedReads.{ArePlanned}
-use Rattle.zarrs_c_calls.specs.Calls.{header_given}
 use Rattle.zarrs_c_calls.specs.Codes.{IsRefusal, cause_memory}
 use Rattle.zarrs_c_calls.specs.Fetched.{pieces_given, pieces_read}
 use Rattle.zarrs_c_calls.specs.LackingByte.{LacksByte, apart_read, whole_value}
@@ -35,28 +34,28 @@ pub record AreLackingTo (form : HeaderForm) (len : ℕ) (pieces : List PlainPiec
       → (number : ℕ) → have_number lacking number ≡ (list_any (λ other. other == number) planned && is_lacking len pieces number)
 
 -- The header, the selection and the pieces have no error, and these are the ranges that are lacking.
-pub record IsLackingOf (text : List ℕ) (len : ℕ) (ranges fetched : List ℕ) (tuples : ℕ) (numbers : List ℕ) (lacking : List ByteSpan) : Type 0 where
+pub record IsLackingOf (given_header : Result Header Cause) (len : ℕ) (ranges fetched : List ℕ) (tuples : ℕ) (numbers : List ℕ) (lacking : List ByteSpan) : Type 0 where
   pub header : Header
   pub selection : Selection
   pub pieces : List PlainPiece
-  pub header_is : header_given text ≡ Ok header
+  pub header_is : given_header ≡ Ok header
   pub selection_is : selection_given (length header.sizes) tuples numbers ≡ Ok selection
   pub pieces_are : pieces_given ranges fetched ≡ Ok pieces
   pub are : AreLackingTo (header_form header) len pieces selection lacking
 
 -- The call returns the ranges that are lacking, each a start and an end; or the first error of the read, and then it leaves the buffer and the count as they were.
-abbrev pub TellsLacking : List ℕ → ℕ → List ℕ → List ℕ → ℕ → List ℕ → ℕ → List ℕ → List ℕ → ℕ → ℕ → Type 0
-TellsLacking text len ranges fetched tuples numbers code old new needed_old needed_new =
-    ((lacking : List ByteSpan) × IsLackingOf text len ranges fetched tuples numbers lacking × ToldBytes (range_numbers lacking) code old new needed_new)
-    ⊎ (IsRefusal (pieces_read zeros text len ranges fetched tuples numbers) code × (new ≡ old) × (needed_new ≡ needed_old))
+abbrev pub TellsLacking : Result Header Cause → ℕ → List ℕ → List ℕ → ℕ → List ℕ → ℕ → List ℕ → List ℕ → ℕ → ℕ → Type 0
+TellsLacking given_header len ranges fetched tuples numbers code old new needed_old needed_new =
+    ((lacking : List ByteSpan) × IsLackingOf given_header len ranges fetched tuples numbers lacking × ToldBytes (range_numbers lacking) code old new needed_new)
+    ⊎ (IsRefusal (pieces_read zeros given_header len ranges fetched tuples numbers) code × (new ≡ old) × (needed_new ≡ needed_old))
 
 -- ---- before they are returned
 
 -- the numbers of the ranges that are lacking of what was fetched, or the first error of the read
-abbrev pub AnswersLacking : List ℕ → Fetched → ℕ → List ℕ → Result (Vec ℕ Global) Cause → Type 0
-AnswersLacking text fetched tuples numbers (Ok told) =
-    (lacking : List ByteSpan) × IsLackingOf text fetched.len fetched.ranges.now fetched.bytes.now tuples numbers lacking × (told.items ≡ range_numbers lacking)
-AnswersLacking text fetched tuples numbers (Err cause) = Excused (cause_memory cause) (pieces_read zeros text fetched.len fetched.ranges.now fetched.bytes.now tuples numbers ≡ Err cause)
+abbrev pub AnswersLacking : Result Header Cause → Fetched → ℕ → List ℕ → Result (Vec ℕ Global) Cause → Type 0
+AnswersLacking given_header fetched tuples numbers (Ok told) =
+    (lacking : List ByteSpan) × IsLackingOf given_header fetched.len fetched.ranges.now fetched.bytes.now tuples numbers lacking × (told.items ≡ range_numbers lacking)
+AnswersLacking given_header fetched tuples numbers (Err cause) = Excused (cause_memory cause) (pieces_read zeros given_header fetched.len fetched.ranges.now fetched.bytes.now tuples numbers ≡ Err cause)
 
 -- the same of a chunk of which there are pieces
 abbrev pub AnswersPartLacking : HeaderForm → ℕ → List PlainPiece → Selection → Result (Vec ℕ Global) CodecError → Type 0

@@ -22,3 +22,4 @@ pub mod LackingByte
 pub mod Fetched
 pub mod Enough
 pub mod LackingRanges
+pub mod Kept

@@ -4,7 +4,6 @@ use Rattle.zarrs_chunk.specs.Answer.{◌>>=◌, demand}
 use Rattle.zarrs_array_bytes.specs.Held.{Held}
 use Rattle.zarrs_json.specs.Header.{Header}
 use Rattle.zarrs_c_calls.specs.Buffers.{Room}
-use Rattle.zarrs_c_calls.specs.Calls.{header_given}
 use Rattle.zarrs_c_calls.specs.Codes.{IsRefusal}
 use Rattle.zarrs_c_calls.specs.JoinedParts.{ToldJoined, joined_parts}
 use Rattle.zarrs_c_calls.specs.Reads.{header_read}
@@ -31,9 +30,9 @@ selections_read header stored (size ∷ sizes) numbers = do
   Ok (first ∷ more)
 
 -- what is due to a read of several selections of a header's chunk: the elements of each, read one after another; or the first error
-abbrev pub many_read : List ℕ → Option (List ℕ) → List SelectionSize → List ℕ → Result (List Elements) Cause
-many_read text stored sizes numbers = do
-  header ← header_given text
+abbrev pub many_read : Result Header Cause → Option (List ℕ) → List SelectionSize → List ℕ → Result (List Elements) Cause
+many_read given_header stored sizes numbers = do
+  header ← given_header
   selections_read header stored sizes numbers
 
 -- each container holds the elements in its place, and there are as many

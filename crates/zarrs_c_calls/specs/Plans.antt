@@ -12,7 +12,6 @@ use Rattle.zarrs_codecs.specs.ChunkRead.{IsReadPlan, planned_places}
 use Rattle.zarrs_chain_meaning.specs.ChunkForm.{ChunkForm}
 use Rattle.zarrs_json.specs.Header.{Header, header_form}
 use Rattle.zarrs_lent_handles.specs.Joined.{Joins}
-use Rattle.zarrs_c_calls.specs.Calls.{header_given}
 use Rattle.zarrs_c_calls.specs.Codes.{IsRefusal, codec_call_answer}
 use Rattle.zarrs_c_calls.specs.Selections.{selection_given}
 use Rattle.zarrs_c_calls.specs.Told.{ToldBytes}
@@ -29,9 +28,9 @@ places_planned form selection = do
   planned_places form selection
 
 -- the places whose bytes a read of a selection asks for, where it asks for these alone; or the first error
-abbrev pub planned : List ℕ → ℕ → List ℕ → Result Planned Cause
-planned text tuples numbers = do
-  header ← header_given text
+abbrev pub planned : Result Header Cause → ℕ → List ℕ → Result Planned Cause
+planned given_header tuples numbers = do
+  header ← given_header
   selection ← selection_given (length header.sizes) tuples numbers
   places ← codec_call_answer (places_planned (header_form header) selection)
   Ok (header, places)

@@ -15,7 +15,6 @@ use Rattle.zarrs_codecs.specs.MadeCoder.{made_read}
 use Rattle.zarrs_json.specs.Header.{HeaderForm, Header, header_form}
 use Rattle.zarrs_json.specs.HeaderRead.{header_seen}
 use Rattle.zarrs_json.specs.declared.header.ChunkHeader.{ChunkHeader}
-use Rattle.zarrs_c_calls.specs.Calls.{header_given}
 use Rattle.zarrs_c_calls.specs.Codes.{codec_call_answer}
 use Rattle.zarrs_c_calls.specs.Selections.{selection_given}
 use Rattle.zarrs_c_calls.specs.Told.{Elements}
@@ -45,9 +44,9 @@ header_read header stored tuples numbers = do
   Ok (header.data_type, chunk)
 
 -- what is due to a read in part of a header's chunk: the selected elements, or the first error
-abbrev pub part_read : List ℕ → Option (List ℕ) → ℕ → List ℕ → Result Elements Cause
-part_read text stored tuples numbers = do
-  header ← header_given text
+abbrev pub part_read : Result Header Cause → Option (List ℕ) → ℕ → List ℕ → Result Elements Cause
+part_read given_header stored tuples numbers = do
+  header ← given_header
   header_read header stored tuples numbers
 
 -- a read of what is stored answers the elements that are due; what `excuse` names may come at any time

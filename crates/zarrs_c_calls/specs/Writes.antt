@@ -11,7 +11,6 @@ use Rattle.zarrs_json.specs.declared.header.ChunkHeader.{ChunkHeader}
 use Rattle.zarrs_codecs.specs.MadeCoder.{made_written}
 use Rattle.zarrs_json.specs.Header.{HeaderForm, Header, header_form}
 use Rattle.zarrs_c_calls.specs.Buffers.{Buffers, buffers}
-use Rattle.zarrs_c_calls.specs.Calls.{header_given}
 use Rattle.zarrs_c_calls.specs.Codes.{cause_memory, codec_call_answer}
 use Rattle.zarrs_c_calls.specs.Given.{elements_given}
 use Rattle.zarrs_c_calls.specs.Reads.{form_seen}
@@ -33,9 +32,9 @@ header_written header stored tuples numbers elements = do
   codec_call_answer (known_written (header_form header) stored selection new)
 
 -- what is due to a write in part of a header's chunk: the value that new elements at a selection leave, or the first error
-abbrev pub part_written : List ℕ → Option (List ℕ) → ℕ → List ℕ → Buffers → Result (List ℕ) Cause
-part_written text stored tuples numbers elements = do
-  header ← header_given text
+abbrev pub part_written : Result Header Cause → Option (List ℕ) → ℕ → List ℕ → Buffers → Result (List ℕ) Cause
+part_written given_header stored tuples numbers elements = do
+  header ← given_header
   header_written header stored tuples numbers elements
 
 -- the value that is due of a write through an encoder that is made for it, or the first error
@@ -47,6 +46,6 @@ abbrev pub stored_due : ChunkHeader → Option (List ℕ) → Indexer → Held �
 stored_due form stored indexer new = seen Some (write_due form stored indexer new)
 
 -- the value that an edit leaves of what is stored is written
-abbrev pub WritesEdit : List ℕ → Option (List ℕ) → Edit → (old new apart : List ℕ) → Result Written Cause → Type 0
-WritesEdit text stored edit old new apart result =
-    WritesDue cause_memory (part_written text stored edit.tuples edit.numbers.now (buffers edit.masks.now edit.offsets.now edit.bytes.now)) old new apart result
+abbrev pub WritesEdit : Result Header Cause → Option (List ℕ) → Edit → (old new apart : List ℕ) → Result Written Cause → Type 0
+WritesEdit given_header stored edit old new apart result =
+    WritesDue cause_memory (part_written given_header stored edit.tuples edit.numbers.now (buffers edit.masks.now edit.offsets.now edit.bytes.now)) old new apart result

@@ -6,7 +6,7 @@ ghost use Rattle.zarrs_chain.specs.FrontWrites.{PutsFront};
 ghost use Rattle.zarrs_data_type.specs.ElementType.{fixed_size_of};
 ghost use Rattle.zarrs_json.specs.HeaderRead.{header_seen};
 ghost use Rattle.zarrs_c_calls.specs.Buffers.{buffers};
-ghost use Rattle.zarrs_c_calls.specs.Calls.{header_given, represented, encoded, value_decoded, reencoded};
+ghost use Rattle.zarrs_c_calls.specs.Calls.{header_given, known_header, represented, encoded, value_decoded, reencoded};
 ghost use Rattle.zarrs_c_calls.specs.Codes.{cause_memory};
 ghost use Rattle.zarrs_c_calls.specs.Told.{HoldsThese};
 
@@ -29,10 +29,12 @@ pub(crate) fn form_given(alloc: Global, text: &[u8]) -> Result<ChunkHeader, Caus
 }
 
 /// How many bytes the value of a header's chunk has.
-pub(crate) fn representation(alloc: Global, text: &[u8]) -> Result<BytesRepresentation, Cause>
-    ensures answer { AnswersValue cause_memory result (represented text.now) }
+pub(crate) fn representation(
+    alloc: Global,
+    form: &ChunkHeader,
+) -> Result<BytesRepresentation, Cause>
+    ensures answer { AnswersValue cause_memory result (represented (known_header form.now)) }
 {
-    let form = form_given(alloc, text)?;
     let representation = form
         .chain
         .encoded_representation(alloc, &form.shape, &form.data_type, &form.fill_value)?;
@@ -43,16 +45,15 @@ pub(crate) fn representation(alloc: Global, text: &[u8]) -> Result<BytesRepresen
 /// how many bytes it has.
 pub(crate) fn encode(
     alloc: Global,
-    text: &[u8],
+    header: &ChunkHeader,
     masks: &[u8],
     offsets: &[u64],
     bytes: &[u8],
     out: &mut [u8],
 ) -> Result<usize, Cause>
     ensures written { PutsFront out.old out.new result (λ answer. Answers cause_memory (λ items. items) answer
-        (encoded text.now (buffers masks.now offsets.now bytes.now))) }
+        (encoded (known_header header.now) (buffers masks.now offsets.now bytes.now))) }
 {
-    let header = form_given(alloc, text)?;
     let elements = elements_given(alloc, &header.data_type, masks, offsets, bytes)?;
     let form = Form {
         shape: &header.shape,
@@ -108,13 +109,13 @@ pub(crate) fn decode_front(
 /// The value that the chain of these codecs writes for the chunk that a value stands for.
 pub(crate) fn reencode_value(
     alloc: Global,
-    text: &[u8],
+    form: &ChunkHeader,
     value: &[u8],
     codecs: &[u8],
 ) -> Result<Vec<u8>, Cause>
-    ensures answer { AnswersItems cause_memory result (reencoded text.now value.now codecs.now) }
+    ensures answer { AnswersItems cause_memory result
+        (reencoded (known_header form.now) value.now codecs.now) }
 {
-    let form = form_given(alloc, text)?;
     let to = read_codecs(alloc, &KnownMaker::Shipped, codecs)?;
     let other = reencode(
         alloc,

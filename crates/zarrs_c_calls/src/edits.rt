@@ -5,6 +5,7 @@ ghost use Rattle.zarrs_chunk.specs.Indexer.{selection_of};
 ghost use Rattle.zarrs_json.specs.HeaderRead.{header_seen};
 ghost use Rattle.zarrs_codecs.specs.PartialEncoder.{encoder_form};
 ghost use Rattle.zarrs_c_calls.specs.BufferHandle.{buffer_bytes, buffer_is_stored, buffer_name};
+ghost use Rattle.zarrs_c_calls.specs.Calls.{known_header};
 ghost use Rattle.zarrs_c_calls.specs.Codes.{cause_memory};
 ghost use Rattle.zarrs_c_calls.specs.Edits.{all_are_taken, edits_in_place, edits_opened, has_all_bytes as has_all};
 ghost use Rattle.zarrs_c_calls.specs.EditRuns.{buffer_of, encoder_bytes, AreTaken, EditsValue, IsRepresented, MakesEdit, EditsInOrder};
@@ -12,7 +13,6 @@ ghost use Rattle.zarrs_c_calls.specs.Reads.{form_seen};
 ghost use Rattle.zarrs_c_calls.specs.Writes.{known_written};
 
 use crate::buffer_handle::BufferHandle;
-use crate::calls::form_given;
 use crate::cause::Cause;
 use crate::given::elements_given;
 use crate::many_reads::numbers_behind;
@@ -78,24 +78,25 @@ fn are_in_place(alloc: Global, form: &ChunkHeader, len: usize) -> Result<bool, C
     Ok(in_part && has_all_bytes(representation, len))
 }
 
-/// The header whose chunk is edited, where edits of a value of so many bytes are taken.
-fn form_opened(
+/// Whether edits of a value of so many bytes are taken.
+fn check_edits(
     alloc: Global,
-    text: &[u8],
+    form: &ChunkHeader,
     len: usize,
     edits: &Edits<'_>,
-) -> Result<ChunkHeader, Cause>
-    ensures answer { Answers cause_memory header_seen result (edits_opened text.now len
+) -> Result<(), Cause>
+    // Wide: a header, a value and what edits take of three lists.
+    ensures answer { Answers cause_memory (λ _. header_seen form.now) result
+        (edits_opened (known_header form.now) len
         edits.now.sizes.now (length edits.now.numbers.now) (length edits.now.bytes.now)) }
 {
-    let form = form_given(alloc, text)?;
     if !take_all(edits.sizes, edits.numbers.len(), edits.bytes.len()) {
         return Err(Cause::Argument);
     }
-    if !are_in_place(alloc, &form, len)? {
+    if !are_in_place(alloc, form, len)? {
         return Err(Cause::NotInPlace);
     }
-    Ok(form)
+    Ok(())
 }
 
 /// Writes new elements by an encoder of the header's chunks.
@@ -248,14 +249,19 @@ fn edit_value(
 
 /// Makes edits of a header's chunk in a caller's own value, one after another, up to the first one
 /// that fails.
-pub(crate) fn edit(alloc: Global, text: &[u8], value: &mut [u8], edits: &Edits<'_>) -> EditsOutcome
-    ensures edits { EditsValue text.now value.old value.new edits.now result }
+pub(crate) fn edit(
+    alloc: Global,
+    form: &ChunkHeader,
+    value: &mut [u8],
+    edits: &Edits<'_>,
+) -> EditsOutcome
+    ensures edits { EditsValue (known_header form.now) value.old value.new edits.now result }
 {
-    match form_opened(alloc, text, value.len(), edits) {
+    match check_edits(alloc, form, value.len(), edits) {
         Err(cause) => EditsOutcome {
             done: 0,
             refusal: Some(cause),
         },
-        Ok(form) => edit_value(alloc, &form, value, edits),
+        Ok(()) => edit_value(alloc, form, value, edits),
     }
 }

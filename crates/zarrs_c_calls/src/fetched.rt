@@ -7,13 +7,13 @@ ghost use Rattle.zarrs_array_bytes.specs.Tight.{IsTight};
 ghost use Rattle.zarrs_json.specs.HeaderRead.{header_seen};
 ghost use Rattle.zarrs_lent_handles.specs.Elsewhere.{own_bytes};
 ghost use Rattle.zarrs_lent_handles.specs.Pieces.{pieces_seen};
+ghost use Rattle.zarrs_c_calls.specs.Calls.{known_header};
 ghost use Rattle.zarrs_c_calls.specs.Codes.{cause_memory};
 ghost use Rattle.zarrs_c_calls.specs.Fetched.{front_bytes, memory_or_lack, pieces_in, pieces_given as pieces_of, pieces_read, LacksWhereAnswered, ReadsApart, ReadsFetchedAlike, ReadsSurelyInPart};
 ghost use Rattle.zarrs_c_calls.specs.LackingByte.{whole_value as whole_of, LacksByte};
 ghost use Rattle.zarrs_c_calls.specs.Reads.{form_seen, ReadsForm};
 ghost use Rattle.zarrs_c_calls.specs.Told.{HoldsThese};
 
-use crate::calls::form_given;
 use crate::cause::Cause;
 use crate::from_elements::{FromElements, handed_on};
 use crate::part_reads::read_part;
@@ -168,24 +168,23 @@ pub(crate) struct Fetched<'a> {
 /// elsewhere, whichever these are.
 pub(crate) fn read_fetched(
     alloc: Global,
-    text: &[u8],
+    form: &ChunkHeader,
     fetched: &Fetched<'_>,
     tuples: u64,
     numbers: &[u64],
 ) -> Result<ArrayBytes<'static>, Cause>
     ghost value: { List ℕ }
     ensures answer { AnswersBy memory_or_lack HoldsThese result (pieces_read (own_bytes value)
-        text.now fetched.now.len fetched.now.ranges.now fetched.now.bytes.now tuples numbers.now) }
-    ensures alike { ReadsFetchedAlike text.now fetched.now tuples numbers.now result }
-    ensures lacking { LacksWhereAnswered (own_bytes value) text.now fetched.now tuples numbers.now
-        result }
+        (known_header form.now) fetched.now.len fetched.now.ranges.now fetched.now.bytes.now tuples numbers.now) }
+    ensures alike { ReadsFetchedAlike (known_header form.now) fetched.now tuples numbers.now result }
+    ensures lacking { LacksWhereAnswered (own_bytes value) (known_header form.now) fetched.now tuples
+        numbers.now result }
 {
-    let form = form_given(alloc, text)?;
-    let indexer = selection_given(alloc, &form, tuples, numbers)?;
+    let indexer = selection_given(alloc, form, tuples, numbers)?;
     let pieces = pieces_given(alloc, fetched.ranges, fetched.bytes)?;
     let elements = read_apart::<Brand, ArrayBytes<'static>>(
         alloc,
-        &form,
+        form,
         fetched.len,
         pieces,
         &indexer,

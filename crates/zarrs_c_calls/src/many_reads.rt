@@ -5,6 +5,7 @@ ghost use Rattle.zarrs_array_bytes.specs.Tight.{IsTight};
 ghost use Rattle.zarrs_json.specs.HeaderRead.{header_seen};
 ghost use Rattle.zarrs_codecs.specs.PartialDecoder.{decoder_form};
 ghost use Rattle.zarrs_lent_handles.specs.LentHandle.{lent_value};
+ghost use Rattle.zarrs_c_calls.specs.Calls.{known_header};
 ghost use Rattle.zarrs_c_calls.specs.Codes.{cause_memory};
 ghost use Rattle.zarrs_c_calls.specs.EachRead.{decoder_value, front_given, FirstIsGiven, GivesEach, IsSourced};
 ghost use Rattle.zarrs_c_calls.specs.ManyReads.{front_read, many_read, HoldEach};
@@ -12,7 +13,6 @@ ghost use Rattle.zarrs_c_calls.specs.Reads.{form_seen, lent_stored, ReadsForm};
 ghost use Rattle.zarrs_c_calls.specs.Selections.{Selects};
 ghost use Rattle.zarrs_c_calls.specs.Told.{HoldsThese};
 
-use crate::calls::form_given;
 use crate::cause::Cause;
 use crate::selection::selection_given;
 use crate::sizes::SelectionSize;
@@ -139,21 +139,20 @@ fn read_some(
 /// The elements of each selection of a list, of a value or of nothing.
 pub(crate) fn read_many(
     alloc: Global,
-    text: &[u8],
+    form: &ChunkHeader,
     stored: Option<&[u8]>,
     sizes: &[SelectionSize],
     numbers: &[u64],
 ) -> Result<Vec<ArrayBytes<'static>>, Cause>
     ensures answer { AnswersBy cause_memory (λ v. HoldEach v.items) result
-        (many_read text.now (lent_stored stored.entry) sizes.now numbers.now) }
+        (many_read (known_header form.now) (lent_stored stored.entry) sizes.now numbers.now) }
 {
-    let form = form_given(alloc, text)?;
     if sizes.len() == 0 {
         if numbers.len() != 0 {
             return Err(Cause::Argument);
         }
         return Ok(Vec::new(alloc));
     }
-    front_selection(alloc, &form, &sizes[0], numbers)?;
-    read_some(alloc, &form, LentHandle::new(stored), sizes, numbers)
+    front_selection(alloc, form, &sizes[0], numbers)?;
+    read_some(alloc, form, LentHandle::new(stored), sizes, numbers)
 }

@@ -4,11 +4,11 @@ ghost use Rattle.zarrs_chunk.specs.Answer.{is_fault, memory, AnswersBy};
 ghost use Rattle.zarrs_array_bytes.specs.Tight.{IsTight};
 ghost use Rattle.zarrs_json.specs.HeaderRead.{header_seen};
 ghost use Rattle.zarrs_lent_handles.specs.LentHandle.{lent_value};
+ghost use Rattle.zarrs_c_calls.specs.Calls.{known_header};
 ghost use Rattle.zarrs_c_calls.specs.Codes.{cause_memory};
 ghost use Rattle.zarrs_c_calls.specs.Reads.{part_read, stored_value, lent_stored, ReadsForm};
 ghost use Rattle.zarrs_c_calls.specs.Told.{HoldsThese};
 
-use crate::calls::form_given;
 use crate::cause::Cause;
 use crate::selection::selection_given;
 use std::alloc::Global;
@@ -52,16 +52,15 @@ pub(crate) fn read_part(
 /// The selected elements of a value, or of nothing.
 pub(crate) fn read(
     alloc: Global,
-    text: &[u8],
+    form: &ChunkHeader,
     stored: Option<&[u8]>,
     tuples: u64,
     numbers: &[u64],
 ) -> Result<ArrayBytes<'static>, Cause>
     ensures answer { AnswersBy cause_memory HoldsThese result
-        (part_read text.now (lent_stored stored.entry) tuples numbers.now) }
+        (part_read (known_header form.now) (lent_stored stored.entry) tuples numbers.now) }
 {
-    let form = form_given(alloc, text)?;
-    let indexer = selection_given(alloc, &form, tuples, numbers)?;
-    let elements = read_part(alloc, &form, LentHandle::new(stored), &indexer)?;
+    let indexer = selection_given(alloc, form, tuples, numbers)?;
+    let elements = read_part(alloc, form, LentHandle::new(stored), &indexer)?;
     Ok(elements)
 }

@@ -2,12 +2,12 @@
 ghost use Rattle.std.specs.Prelude.{◌≡◌, OnErr};
 ghost use Rattle.zarrs_chunk.specs.Answer.{memory, memory_or_fault, Answers};
 ghost use Rattle.zarrs_codec.specs.CodersOverHandles.{HandleWrites};
+ghost use Rattle.zarrs_c_calls.specs.Calls.{known_header};
 ghost use Rattle.zarrs_c_calls.specs.OneWriteHandle.{apart_bytes, apart_name, fresh_state, newly_written, once_state, once_value, out_bytes, out_name};
 ghost use Rattle.zarrs_c_calls.specs.Reads.{stored_value};
 ghost use Rattle.zarrs_c_calls.specs.Writes.{write_due, stored_due, WritesEdit};
 ghost use Rattle.zarrs_c_calls.specs.Written.{WritesDue};
 
-use crate::calls::form_given;
 use crate::cause::Cause;
 use crate::given::elements_given;
 use crate::one_write_handle::{Before, OneWriteHandle};
@@ -163,19 +163,18 @@ pub(crate) struct Edit<'a> {
 /// buffer where it has room, and else apart.
 pub(crate) fn write(
     alloc: Global,
-    text: &[u8],
+    form: &ChunkHeader,
     is_stored: bool,
     value: &[u8],
     edit: &Edit<'_>,
     out: &mut [u8],
     apart: &mut Vec<u8>,
 ) -> Result<Written, Cause>
-    ensures writes { WritesEdit text.now (stored_value is_stored value.now)
+    ensures writes { WritesEdit (known_header form.now) (stored_value is_stored value.now)
         edit.now out.old out.new apart.new.items result }
 {
-    let form = form_given(alloc, text)?;
-    let indexer = selection_given(alloc, &form, edit.tuples, edit.numbers)?;
+    let indexer = selection_given(alloc, form, edit.tuples, edit.numbers)?;
     let new = elements_given(alloc, &form.data_type, edit.masks, edit.offsets, edit.bytes)?;
-    let written = write_part(alloc, &form, is_stored, value, &indexer, &new, out, apart)?;
+    let written = write_part(alloc, form, is_stored, value, &indexer, &new, out, apart)?;
     Ok(written)
 }

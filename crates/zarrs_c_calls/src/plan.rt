@@ -5,12 +5,12 @@ ghost use Rattle.zarrs_chunk.specs.Answer.{AnswersBy};
 ghost use Rattle.zarrs_chunk.specs.Indexer.{selection_of};
 ghost use Rattle.zarrs_codec.specs.ByteSpan.{ByteSpan};
 ghost use Rattle.zarrs_lent_handles.specs.Joined.{Joins};
+ghost use Rattle.zarrs_c_calls.specs.Calls.{known_header};
 ghost use Rattle.zarrs_c_calls.specs.Codes.{cause_memory};
 ghost use Rattle.zarrs_c_calls.specs.PlanSeen.{IsPlanNumbers, PlansPart};
 ghost use Rattle.zarrs_c_calls.specs.Plans.{planned, range_numbers};
 ghost use Rattle.zarrs_c_calls.specs.Reads.{form_seen};
 
-use crate::calls::form_given;
 use crate::cause::Cause;
 use crate::selection::selection_given;
 use std::alloc::{AllocError, Global};
@@ -67,15 +67,15 @@ fn joined_numbers(alloc: Global, ranges: Vec<ByteRange>) -> Result<Vec<u64>, Cod
 /// The ranges of bytes that a read of a selection asks for, in order and joined, as numbers.
 pub(crate) fn plan(
     alloc: Global,
-    text: &[u8],
+    form: &ChunkHeader,
     tuples: u64,
     numbers: &[u64],
 ) -> Result<Option<Vec<u64>>, Cause>
-    ensures answer { AnswersBy cause_memory IsPlanNumbers result (planned text.now tuples numbers.now) }
+    ensures answer { AnswersBy cause_memory IsPlanNumbers result
+        (planned (known_header form.now) tuples numbers.now) }
 {
-    let form = form_given(alloc, text)?;
-    let indexer = selection_given(alloc, &form, tuples, numbers)?;
-    match ranges_of(alloc, &form, &indexer)? {
+    let indexer = selection_given(alloc, form, tuples, numbers)?;
+    match ranges_of(alloc, form, &indexer)? {
         None => Ok(None),
         Some(ranges) => Ok(Some(joined_numbers(alloc, ranges)?)),
     }

@@ -1,13 +1,20 @@
 //! The call `zarrs_read`.
+ghost use Rattle.std.specs.Prelude.{◌≡◌};
+ghost use Rattle.zarrs_c_calls.specs.Calls.{header_given, known_header};
+ghost use Rattle.zarrs_c_calls.specs.Kept.{kept_given};
 ghost use Rattle.zarrs_c_calls.specs.Buffers.{room};
 ghost use Rattle.zarrs_c_calls.specs.Reads.{part_read, stored_value};
 ghost use Rattle.zarrs_c_calls.specs.Told.{TellsElements};
+ghost use Rattle.zarrs_kept_chains.specs.KeptChain.{kept_header};
 
-use crate::cause::cause_code;
+use crate::calls::form_given;
+use crate::cause::{Cause, cause_code};
 use crate::part_reads::{read, stored_given};
 use crate::sizes::Sizes;
 use crate::tell::tell;
 use std::alloc::Global;
+use zarrs_json::ChunkHeader;
+use zarrs_kept_chains::KeptChain;
 
 /// The selected elements, in the selection's order, of the chunk that a value stands for, or fill
 /// values where nothing is stored; `value` isn't read then.
@@ -31,12 +38,79 @@ pub fn zarrs_read(
 ) -> u32
     // Wide: a caller's three buffers and their counts, before and after.
     ensures told { TellsElements
-        (part_read text.now (stored_value is_stored value.now) tuples numbers.now) result
+        (part_read (header_given text.now) (stored_value is_stored value.now) tuples numbers.now) result
+        (room masks.old offsets.old bytes.old needed.old)
+        (room masks.new offsets.new bytes.new needed.new) }
+{
+    match form_given(alloc, text) {
+        Ok(form) => read_of_header(
+            alloc, &form, is_stored, value, tuples, numbers, masks, offsets, bytes, needed,
+        ),
+        Err(cause) => cause_code(&cause),
+    }
+}
+
+/// [`zarrs_read`] of a chain that is kept, which stays. Errors: `Argument` where none is kept, and behind it
+/// those of `zarrs_read` but those of `zarrs_check`.
+pub fn zarrs_chain_read(
+    alloc: Global,
+    chain: &mut KeptChain,
+    is_stored: bool,
+    value: &[u8],
+    tuples: u64,
+    numbers: &[u64],
+    masks: &mut [u8],
+    offsets: &mut [u64],
+    bytes: &mut [u8],
+    needed: &mut Sizes,
+) -> u32
+    ensures chain_kept { kept_header chain.new ≡ kept_header chain.old }
+    // Wide: a caller's three buffers and their counts, before and after.
+    ensures told { TellsElements
+        (part_read (kept_given chain.old) (stored_value is_stored value.now) tuples numbers.now) result
+        (room masks.old offsets.old bytes.old needed.old)
+        (room masks.new offsets.new bytes.new needed.new) }
+{
+    let Some(kept) = chain.take(alloc) else {
+        return cause_code(&Cause::Argument);
+    };
+    let code = read_of_header(
+        alloc,
+        kept.header(),
+        is_stored,
+        value,
+        tuples,
+        numbers,
+        masks,
+        offsets,
+        bytes,
+        needed,
+    );
+    chain.keep(kept);
+    code
+}
+
+/// The same of a header that was read.
+fn read_of_header(
+    alloc: Global,
+    form: &ChunkHeader,
+    is_stored: bool,
+    value: &[u8],
+    tuples: u64,
+    numbers: &[u64],
+    masks: &mut [u8],
+    offsets: &mut [u64],
+    bytes: &mut [u8],
+    needed: &mut Sizes,
+) -> u32
+    // Wide: a caller's three buffers and their counts, before and after.
+    ensures told { TellsElements
+        (part_read (known_header form.now) (stored_value is_stored value.now) tuples numbers.now) result
         (room masks.old offsets.old bytes.old needed.old)
         (room masks.new offsets.new bytes.new needed.new) }
 {
     let stored = stored_given(is_stored, value);
-    match read(alloc, text, stored, tuples, numbers) {
+    match read(alloc, form, stored, tuples, numbers) {
         Ok(elements) => tell(&elements, masks, offsets, bytes, needed),
         Err(cause) => cause_code(&cause),
     }

@@ -1,14 +1,21 @@
 //! The call `zarrs_read_many`.
+ghost use Rattle.std.specs.Prelude.{◌≡◌};
+ghost use Rattle.zarrs_c_calls.specs.Calls.{header_given, known_header};
+ghost use Rattle.zarrs_c_calls.specs.Kept.{kept_given};
 ghost use Rattle.zarrs_c_calls.specs.Buffers.{room};
 ghost use Rattle.zarrs_c_calls.specs.ManyReads.{many_read, TellsMany};
 ghost use Rattle.zarrs_c_calls.specs.Reads.{stored_value};
+ghost use Rattle.zarrs_kept_chains.specs.KeptChain.{kept_header};
 
-use crate::cause::cause_code;
+use crate::calls::form_given;
+use crate::cause::{Cause, cause_code};
 use crate::many_reads::read_many;
 use crate::part_reads::stored_given;
 use crate::sizes::{SelectionSize, Sizes};
 use crate::tell_many::tell_many;
 use std::alloc::Global;
+use zarrs_json::ChunkHeader;
+use zarrs_kept_chains::KeptChain;
 
 /// The elements of each selection of a list, as `zarrs_read` returns those of one: the parts of
 /// each answer stand behind those of the one before it, with its own masks, its own offsets, which
@@ -33,12 +40,79 @@ pub fn zarrs_read_many(
 ) -> u32
     // Wide: a caller's three buffers and their counts, before and after.
     ensures told { TellsMany
-        (many_read text.now (stored_value is_stored value.now) sizes.now numbers.now) result
+        (many_read (header_given text.now) (stored_value is_stored value.now) sizes.now numbers.now) result
+        (room masks.old offsets.old bytes.old needed.old)
+        (room masks.new offsets.new bytes.new needed.new) }
+{
+    match form_given(alloc, text) {
+        Ok(form) => many_of_header(
+            alloc, &form, is_stored, value, sizes, numbers, masks, offsets, bytes, needed,
+        ),
+        Err(cause) => cause_code(&cause),
+    }
+}
+
+/// [`zarrs_read_many`] of a chain that is kept, which stays. Errors: `Argument` where none is kept, and behind it
+/// those of `zarrs_read_many` but those of `zarrs_check`.
+pub fn zarrs_chain_read_many(
+    alloc: Global,
+    chain: &mut KeptChain,
+    is_stored: bool,
+    value: &[u8],
+    sizes: &[SelectionSize],
+    numbers: &[u64],
+    masks: &mut [u8],
+    offsets: &mut [u64],
+    bytes: &mut [u8],
+    needed: &mut Sizes,
+) -> u32
+    ensures chain_kept { kept_header chain.new ≡ kept_header chain.old }
+    // Wide: a caller's three buffers and their counts, before and after.
+    ensures told { TellsMany
+        (many_read (kept_given chain.old) (stored_value is_stored value.now) sizes.now numbers.now) result
+        (room masks.old offsets.old bytes.old needed.old)
+        (room masks.new offsets.new bytes.new needed.new) }
+{
+    let Some(kept) = chain.take(alloc) else {
+        return cause_code(&Cause::Argument);
+    };
+    let code = many_of_header(
+        alloc,
+        kept.header(),
+        is_stored,
+        value,
+        sizes,
+        numbers,
+        masks,
+        offsets,
+        bytes,
+        needed,
+    );
+    chain.keep(kept);
+    code
+}
+
+/// The same of a header that was read.
+fn many_of_header(
+    alloc: Global,
+    form: &ChunkHeader,
+    is_stored: bool,
+    value: &[u8],
+    sizes: &[SelectionSize],
+    numbers: &[u64],
+    masks: &mut [u8],
+    offsets: &mut [u64],
+    bytes: &mut [u8],
+    needed: &mut Sizes,
+) -> u32
+    // Wide: a caller's three buffers and their counts, before and after.
+    ensures told { TellsMany
+        (many_read (known_header form.now) (stored_value is_stored value.now) sizes.now numbers.now) result
         (room masks.old offsets.old bytes.old needed.old)
         (room masks.new offsets.new bytes.new needed.new) }
 {
     let stored = stored_given(is_stored, value);
-    match read_many(alloc, text, stored, sizes, numbers) {
+    match read_many(alloc, form, stored, sizes, numbers) {
         Ok(answers) => tell_many(answers.as_slice(), masks, offsets, bytes, needed),
         Err(cause) => cause_code(&cause),
     }

@@ -4,17 +4,18 @@ ghost use Rattle.zarrs_chunk.specs.declared.codec_error.CodecError.TheVariants.{
 ghost use Rattle.zarrs_chunk.specs.Indexer.{selection_of};
 ghost use Rattle.zarrs_codecs.specs.PartialDecoder.{decoder_form, handle_of};
 ghost use Rattle.zarrs_lent_handles.specs.Lacking.{ranges_kept};
+ghost use Rattle.zarrs_c_calls.specs.Calls.{known_header};
 ghost use Rattle.zarrs_c_calls.specs.Fetched.{pieces_in};
 ghost use Rattle.zarrs_c_calls.specs.LackingRanges.{AnswersKept, AnswersLacking, AnswersMade, AnswersOver, AnswersPartLacking, AreOfLackedOrKept, IsSoundForm};
 ghost use Rattle.zarrs_c_calls.specs.Reads.{form_seen};
 
-use crate::calls::form_given;
 use crate::cause::Cause;
 use crate::fetched::{Fetched, pieces_given, whole_value};
 use crate::part_reads::read_part;
 use crate::plan::numbers_of;
 use crate::selection::selection_given;
 use std::alloc::Global;
+use zarrs_chain::stages::chain_is_sound;
 use zarrs_chunk::{CodecError, Indexer};
 use zarrs_codec::{ByteRange, Refused};
 use zarrs_codecs::{ArrayPartialDecoder, CodecChainPartialTraits};
@@ -129,15 +130,17 @@ fn lacking_apart(
 /// The ranges that a read of a value lacks of which pieces were fetched, as numbers.
 pub(crate) fn lacking_fetched(
     alloc: Global,
-    text: &[u8],
+    form: &ChunkHeader,
     fetched: &Fetched<'_>,
     tuples: u64,
     numbers: &[u64],
 ) -> Result<Vec<u64>, Cause>
-    ensures answer { AnswersLacking text.now fetched.now tuples numbers.now result }
+    ensures answer { AnswersLacking (known_header form.now) fetched.now tuples numbers.now result }
 {
-    let form = form_given(alloc, text)?;
-    let indexer = selection_given(alloc, &form, tuples, numbers)?;
+    let indexer = selection_given(alloc, form, tuples, numbers)?;
     let pieces = pieces_given(alloc, fetched.ranges, fetched.bytes)?;
-    Ok(lacking_apart(alloc, &form, fetched.len, pieces, &indexer)?)
+    // what a plan rests on
+    chain_is_sound(&form.chain);
+    form.shape.as_slice();
+    Ok(lacking_apart(alloc, form, fetched.len, pieces, &indexer)?)
 }

@@ -20,15 +20,15 @@ pub(crate) fn is<T: PartialEq + Debug>(rt: &impl Abort, name: &str, came: &T, wa
 
 /// The caller's buffers: masks, numbers and bytes, and how many of them a call counts.
 #[derive(Drop)]
-struct Room {
-    masks: [u8; 8],
-    numbers: [u64; 8],
-    bytes: [u8; 32],
-    needed: Sizes,
-    is_planned: bool,
+pub(crate) struct Room {
+    pub(crate) masks: [u8; 8],
+    pub(crate) numbers: [u64; 8],
+    pub(crate) bytes: [u8; 32],
+    pub(crate) needed: Sizes,
+    pub(crate) is_planned: bool,
 }
 
-fn make_room() -> Room {
+pub(crate) fn make_room() -> Room {
     Room {
         masks: [255; 8],
         numbers: [255; 8],
@@ -229,7 +229,7 @@ fn front<T>(items: &[T], count: usize) -> &[T] {
 }
 
 /// What stands in the buffers is what the row says.
-fn holds(rt: &impl Abort, name: &str, room: &Room, told: &Told) {
+pub(crate) fn holds(rt: &impl Abort, name: &str, room: &Room, told: &Told) {
     let needed = (room.needed.masks, room.needed.offsets, room.needed.bytes);
     is(rt, name, &needed, &told.needed);
     is(rt, name, &room.is_planned, &told.is_planned);

@@ -10,6 +10,8 @@
 #[cfg(test)]
 mod calls;
 #[cfg(test)]
+mod kept_calls;
+#[cfg(test)]
 mod part_rows;
 #[cfg(test)]
 mod round_rows;

@@ -1,7 +1,8 @@
-use Rattle.std.proofs.Common.{[]}
+use Rattle.std.proofs.Common.{[], refl}
 use Rattle.std.proofs.lemmas.Result.{err_from_is_err_and}
 use Rattle.zarrs_chunk.specs.Answer.{memory}
 use Rattle.zarrs_json.specs.HeaderRead.{header_seen}
+use Rattle.zarrs_c_calls.specs.Calls.{known_header}
 use Rattle.zarrs_c_calls.specs.Buffers.{buffers}
 use Rattle.zarrs_c_calls.proofs.AnswerLemmas.{value_not_written, value_written}
 use Rattle.zarrs_c_calls.proofs.calls.encode.Goals as goal
@@ -17,7 +18,7 @@ returns-in_err-count c =
         counted = rw p.1 tt;
         there = rw p.1 tt;
         left = rw p.1 w.left;
-        answered = rw (p.1, p.2) (value_not_written c.args.text.now (buffers c.args.masks.now c.args.offsets.now c.args.bytes.now) (header_seen c.in_ok-header.header) c.in_ok-elements.elements (memory error) error c.in_ok-header.ensures.answer c.in_ok-elements.ensures.answer w.answered.is);
+        answered = rw (p.1, p.2) (value_not_written (known_header c.args.header.now) (buffers c.args.masks.now c.args.offsets.now c.args.bytes.now) (header_seen c.args.header.now) c.in_ok-elements.elements (memory error) error refl c.in_ok-elements.ensures.answer w.answered.is);
       };
     }
 
@@ -30,6 +31,6 @@ returns c =
         counted = w.counted;
         there = w.there;
         left = tt;
-        answered = value_written c.args.text.now (buffers c.args.masks.now c.args.offsets.now c.args.bytes.now) (header_seen c.in_ok-header.header) c.in_ok-elements.elements w.items c.in_ok-header.ensures.answer c.in_ok-elements.ensures.answer w.answered.is;
+        answered = value_written (known_header c.args.header.now) (buffers c.args.masks.now c.args.offsets.now c.args.bytes.now) (header_seen c.args.header.now) c.in_ok-elements.elements w.items refl c.in_ok-elements.ensures.answer w.answered.is;
       };
     }

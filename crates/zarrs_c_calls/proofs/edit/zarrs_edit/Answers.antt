@@ -1,15 +1,12 @@
-use Rattle.zarrs_c_calls.proofs.EditLemmas.{edit_refused, edits_told, none_of, some_of}
+use Rattle.std.proofs.Common.{inl, refl}
+use Rattle.zarrs_c_calls.specs.Calls.{header_given}
+use Rattle.zarrs_c_calls.proofs.EditLemmas.{edit_refused}
 use Rattle.zarrs_c_calls.proofs.edit.zarrs_edit.Goals as goal
 
-pub returns-in-None : goal.returns-in-None
-returns-in-None c =
-    let all = none_of c.edit-outcome.result.refusal _ c.in-None.is c.edit-outcome.ensures.edits.all in
-    record { told = edits_told c.args.text.now c.args.sizes.now c.args.numbers.now c.args.bytes.now c.args.value.now c.edit-outcome.new.value c.edit-outcome.result.done all.0 all.1 }
+pub returns-in-Ok : goal.returns-in-Ok
+returns-in-Ok c = record { told = rw c.in-Ok.ensures.answer c.edit_of_header.ensures.told }
 
-pub returns-in-Some : goal.returns-in-Some
-returns-in-Some c =
-    let refuses = some_of c.edit-outcome.result.refusal c.in-Some.cause _ c.in-Some.is c.edit-outcome.ensures.edits.refused in
-    record {
-      told = edit_refused c.args.text.now c.args.sizes.now c.args.numbers.now c.args.bytes.now c.args.value.now c.edit-outcome.new.value c.edit-outcome.result.done c.in-Some.cause c.cause_code.result c.edit-outcome.ensures.edits.made
-          refuses c.cause_code.ensures.value;
-    }
+pub returns-in-Err : goal.returns-in-Err
+returns-in-Err c = record {
+  told = edit_refused (header_given c.args.text.now) c.args.sizes.now c.args.numbers.now c.args.bytes.now c.args.value.now c.args.value.now 0 c.in-Err.cause c.cause_code.result (inl (refl, refl)) (λ wants. rw (c.in-Err.ensures.answer wants) refl) c.cause_code.ensures.value;
+}

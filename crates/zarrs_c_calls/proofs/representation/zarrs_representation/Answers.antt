@@ -1,12 +1,12 @@
 use Rattle.std.proofs.Common.{refl}
-use Rattle.zarrs_c_calls.specs.Calls.{represented}
-use Rattle.zarrs_c_calls.proofs.TellLemmas.{representation_told, representation_refused}
+use Rattle.zarrs_c_calls.specs.Calls.{header_given, represented}
+use Rattle.zarrs_c_calls.proofs.TellLemmas.{representation_refused}
 use Rattle.zarrs_c_calls.proofs.representation.zarrs_representation.Goals as goal
 
 pub returns-in-Ok : goal.returns-in-Ok
-returns-in-Ok c =
-    record { told = representation_told c.in-Ok.representation (represented c.args.text.now) 0 c.args.kind.now c.tell_representation.new.kind c.args.size.now c.tell_representation.new.size c.in-Ok.ensures.answer refl c.tell_representation.ensures.kind c.tell_representation.ensures.size }
+returns-in-Ok c = record { told = rw c.in-Ok.ensures.answer c.representation_of_header.ensures.told }
 
 pub returns-in-Err : goal.returns-in-Err
 returns-in-Err c =
-    record { told = representation_refused c.in-Err.cause (represented c.args.text.now) c.cause_code.result c.args.kind.now c.args.size.now c.in-Err.ensures.answer c.cause_code.ensures.value }
+    let due = represented (header_given c.args.text.now) in
+    record { told = representation_refused c.in-Err.cause due c.cause_code.result c.args.kind.now c.args.size.now (λ wants. rw (c.in-Err.ensures.answer wants) refl) c.cause_code.ensures.value }
