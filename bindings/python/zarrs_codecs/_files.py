@@ -1,5 +1,6 @@
 """Where a value's bytes are: reading pieces of it, and replacing files."""
 
+import bisect
 import contextlib
 import errno
 import io
@@ -31,6 +32,28 @@ def joined(ranges: AnyArray) -> AnyArray:
     is_last = np.ones(len(ranges), bool)
     is_last[:-1] = is_first[1:]
     return np.column_stack((ranges[is_first, 0], ranges[is_last, 1]))
+
+
+def near(ranges: list[list[int]], gap: int, most: int | None = None) -> list[list[int]]:
+    """Ranges that cover these, in order, each a start and an end: those with so many bytes between them, or fewer, are one,
+    where that has so many bytes at most."""
+    found: list[list[int]] = []
+    for begin, end in sorted(ranges):
+        if found and begin - found[-1][1] <= gap and (most is None or end - found[-1][0] <= most):
+            found[-1][1] = max(found[-1][1], end)
+        else:
+            found.append([begin, end])
+    return found
+
+
+def cut(ranges: AnyArray, covering: list[list[int]], parts: list[AnyArray]) -> AnyArray:
+    """The bytes of ranges, joined, of ranges that cover them, as `near` makes these, and of the bytes of each."""
+    begins = [begin for begin, _ in covering]
+    found = []
+    for begin, end in listed(ranges):
+        at = bisect.bisect_right(begins, begin) - 1
+        found.append(parts[at].data[begin - begins[at] : end - begins[at]])
+    return np.frombuffer(bytearray().join(found), np.uint8)
 
 
 def opened(path: str) -> int:
