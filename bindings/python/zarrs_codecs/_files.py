@@ -59,12 +59,17 @@ def cut(ranges: AnyArray, covering: list[list[int]], parts: list[AnyArray]) -> A
 def opened(path: str) -> int:
     """The number of a file that is opened to be read. Raises `FileNotFoundError`, and `OSError` of what is no file: the
     opening of a pipe would wait for another end."""
+    return opened_with_size(path)[0]
+
+
+def opened_with_size(path: str) -> tuple[int, int]:
+    """The same, and how many bytes the file has."""
     number = os.open(path, os.O_RDONLY | os.O_CLOEXEC | os.O_NONBLOCK)
-    mode = os.fstat(number).st_mode
-    if stat.S_ISREG(mode):
-        return number
+    found = os.fstat(number)
+    if stat.S_ISREG(found.st_mode):
+        return number, found.st_size
     os.close(number)
-    if stat.S_ISDIR(mode):
+    if stat.S_ISDIR(found.st_mode):
         raise IsADirectoryError(errno.EISDIR, os.strerror(errno.EISDIR), path)
     raise OSError(errno.EINVAL, "it is no file", path)
 
@@ -209,6 +214,12 @@ class File(Source):
         for begin, end in listed(joined(ranges)):
             self._read(view[at : at + end - begin], begin)
             at += end - begin
+        return fetched
+
+    def one_piece(self, begin: int, end: int) -> AnyArray:
+        """The bytes of one range."""
+        fetched = np.empty(end - begin, np.uint8)
+        self._read(fetched.data, begin)
         return fetched
 
 

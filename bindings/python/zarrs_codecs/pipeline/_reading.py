@@ -13,11 +13,8 @@ from .._types import AnyArray
 from ..refusals import Refused
 from ._parts import Part, is_basic
 from ._statistics import Statistics
-from ._threads import in_thread, run_all, run_together
-from ._values import AllLacking, FarValue, Lacking, Missing, file_of, is_at_hand, opened_file
-
-# Chunks of so many bytes together are decoded by the event loop's own thread.
-IN_LOOP = 1 << 18
+from ._threads import IN_LOOP, in_thread, run_all, run_at_hand, run_together
+from ._values import AllLacking, ChunkFile, FarValue, Lacking, Missing, file_of, is_at_hand
 
 
 @dataclass(slots=True)
@@ -68,7 +65,7 @@ class Read:
         """Reads the part of a value in a file: ranges of it, or all."""
 
         def read() -> AnyArray | None:
-            with opened_file(path) as source:
+            with ChunkFile(path) as source:
                 if self.part.is_ranged:
                     return self.part.of_source(source)
                 return self.part.of_value(source.whole(), self._target())
@@ -117,11 +114,7 @@ async def read_all(reads: list[Read], statistics: Statistics) -> list[bool]:
     if is_at_hand(first):
         values = [await read.getter.get(prototype=read.spec.prototype) for read in reads]
         calls = [partial(read.from_value, value) for read, value in zip(reads, values, strict=True)]
-        if sum(read.part.work for read in reads) <= IN_LOOP:
-            # others that wait for the event loop have their turn
-            await asyncio.sleep(0)
-            return [call() for call in calls]
-        return await in_thread(partial(run_all, calls))
+        return await run_at_hand(calls, sum(read.part.work for read in reads))
     paths = [file_of(read.getter) for read in reads]
     files = [partial(read.from_file, path) for read, path in zip(reads, paths, strict=True) if path is not None]
     if len(files) == len(reads):

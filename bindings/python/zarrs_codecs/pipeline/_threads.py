@@ -9,6 +9,10 @@ from typing import TypeVar
 
 from zarr.core.config import config
 
+# So many bytes are decoded by the event loop's own thread.
+IN_LOOP = 1 << 18
+# Of chunks of so few bytes each, Python's part takes longer than the library's, and Python runs in one thread at a time.
+_FEW_EACH = 1 << 15
 _R = TypeVar("_R")
 _lock = threading.Lock()
 _pools: dict[int, ThreadPoolExecutor] = {}
@@ -78,6 +82,18 @@ def run_all(calls: Sequence[Callable[[], _R]]) -> list[_R]:
 async def in_thread(call: Callable[[], _R]) -> _R:
     """What a call returns, run by a thread that isn't the event loop's."""
     return await asyncio.get_running_loop().run_in_executor(pool(), call)
+
+
+async def run_at_hand(calls: Sequence[Callable[[], _R]], work: int) -> list[_R]:
+    """What calls return that wait for nothing, and go through so many bytes together: run by the event loop's thread, by
+    another, or by all. An exception is raised as `run_all` does."""
+    if work <= IN_LOOP:
+        # others that wait for the event loop have their turn
+        await asyncio.sleep(0)
+        return [call() for call in calls]
+    if work <= _FEW_EACH * len(calls):
+        return await in_thread(lambda: [call() for call in calls])
+    return await in_thread(lambda: run_all(calls))
 
 
 async def run_together(calls: Sequence[Callable[[], Awaitable[_R]]], limit: int | None) -> list[_R]:

@@ -3,15 +3,14 @@
 import asyncio
 import bisect
 import os
-from collections.abc import Iterator
-from contextlib import contextmanager
 from typing import Any
 
 import numpy as np
 from zarr.abc.store import RangeByteRequest, SuffixByteRequest
+from zarr.core.config import config
 from zarr.storage import LocalStore, MemoryStore, StorePath
 
-from .._files import File, Source, cut, near, opened
+from .._files import File, Source, cut, near, opened_with_size
 from .._types import AnyArray, listed
 from ..refusals import InvalidByteRange
 
@@ -19,8 +18,8 @@ from ..refusals import InvalidByteRange
 _LENGTH = 1 << 62
 # Ranges of a file that are as near as this are read by one call, since a call takes as long as so many bytes.
 _NEAR_IN_FILE = 1 << 13
-# Ranges of a far value that are as near as this are one request, of so many bytes at most, where zarr-python's
-# configuration of an array doesn't have other numbers.
+# Ranges of a far value that are as near as this are one request, of so many bytes at most, where zarr-python's configuration
+# has no other numbers.
 _NEAR, _MOST_JOINED = 1 << 20, 1 << 24
 
 
@@ -58,28 +57,39 @@ def is_set_in_threads(setter: Any) -> bool:
     return file_of(setter) is not None and hasattr(setter, "set_sync") and hasattr(setter.store, "set_sync")
 
 
-class _NearFile(File):
-    """A file of which ranges that are near are read by one call."""
+class ChunkFile(File):
+    """A value's file, which is open in a `with` block; of ranges of it those that are near are read by one call. Raises
+    `Missing` where there is none."""
+
+    def __init__(self, path: str) -> None:
+        try:
+            number, self._size = opened_with_size(path)
+        except (FileNotFoundError, IsADirectoryError, NotADirectoryError) as error:
+            raise Missing from error
+        super().__init__(number)
+
+    def __enter__(self) -> "ChunkFile":
+        return self
+
+    def __exit__(self, *_: object) -> None:
+        os.close(self._file)
+
+    def length(self) -> int:
+        return self._size
+
+    def whole(self) -> AnyArray:
+        return self.one_piece(0, self._size)
 
     def pieces(self, ranges: AnyArray) -> AnyArray:
         covering = near(listed(ranges), _NEAR_IN_FILE)
         if len(covering) == len(ranges):
             return super().pieces(ranges)
-        read = super().pieces
-        return cut(ranges, covering, [read(np.array([one], np.uint64)) for one in covering])
+        return cut(ranges, covering, [self.one_piece(*one) for one in covering])
 
 
-@contextmanager
-def opened_file(path: str) -> Iterator[Source]:
-    """A value's file. Raises `Missing` where there is none."""
-    try:
-        number = opened(path)
-    except (FileNotFoundError, IsADirectoryError, NotADirectoryError) as error:
-        raise Missing from error
-    try:
-        yield _NearFile(number)
-    finally:
-        os.close(number)
+def _setting(spec: Any, name: str, default: int) -> int:
+    """A number of an array's configuration, which zarr-python 3.0 doesn't have."""
+    return int(getattr(spec.config, name, None) or config.get(f"array.{name}", default))
 
 
 class FarValue(Source):
@@ -90,8 +100,8 @@ class FarValue(Source):
 
     def __init__(self, getter: Any, spec: Any, turn: asyncio.Semaphore) -> None:
         self._getter, self._prototype, self._turn = getter, spec.prototype, turn
-        self._near = getattr(spec.config, "sharding_coalesce_max_gap_bytes", _NEAR)
-        self._most = getattr(spec.config, "sharding_coalesce_max_bytes", _MOST_JOINED)
+        self._near = _setting(spec, "sharding_coalesce_max_gap_bytes", _NEAR)
+        self._most = _setting(spec, "sharding_coalesce_max_bytes", _MOST_JOINED)
         # ranges that were fetched, in order, and their bytes
         self._there: list[list[int]] = []
         self._parts: list[AnyArray] = []

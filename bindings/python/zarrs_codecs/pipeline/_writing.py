@@ -1,6 +1,5 @@
 """Writes of a batch of chunks."""
 
-import asyncio
 from dataclasses import dataclass
 from functools import partial
 from typing import Any
@@ -13,8 +12,7 @@ from zarr.core.config import config
 from .._types import AnyArray, Bytes
 from ..refusals import Refused
 from ._parts import Part
-from ._reading import IN_LOOP
-from ._threads import in_thread, run_all, run_together
+from ._threads import IN_LOOP, in_thread, run_all, run_at_hand, run_together
 from ._values import is_at_hand, is_set_in_threads
 
 # The type of a buffer's bytes: int8 in zarr-python 3.0, uint8 later, and each refuses the other.
@@ -89,11 +87,7 @@ async def write_all(writes: list[Write]) -> None:
     first = writes[0].setter
     if is_at_hand(first):
         calls = [partial(write.value, await write.get()) for write in writes]
-        if sum(write.work for write in writes) <= IN_LOOP:
-            await asyncio.sleep(0)
-            values = [call() for call in calls]
-        else:
-            values = await in_thread(partial(run_all, calls))
+        values = await run_at_hand(calls, sum(write.work for write in writes))
         for write, value in zip(writes, values, strict=True):
             await write.put(value)
     elif is_set_in_threads(first) and not first.store.read_only:
