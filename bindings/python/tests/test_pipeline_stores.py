@@ -90,18 +90,12 @@ def test_a_column_of_a_shard_takes_two_requests_each(stored):
     assert len(far.asked) == 4 and len(far.suffixes) == 2
 
 
-@pytest.mark.skipif(IS_3_0, reason="zarr-python 3.0 has no such setting")
-def test_how_near_is_near_is_zarr_pythons_setting(stored):
+@pytest.mark.parametrize("setting, least, most", [("gap_bytes", 500, 9999), ("bytes", 5, 100)])
+def test_how_near_is_near_is_zarr_pythons_setting(setting, least, most, stored):
     far = Far(stored)
-    with using(OURS), zarr.config.set({"array.sharding_coalesce_max_gap_bytes": 0}):
-        array = zarr.open_array(far, path="shards", mode="r")
-    same_bits(array[:, 77], DATA[:, 77])
-    assert len(far.asked) > 500
-    far = Far(stored)
-    with using(OURS), zarr.config.set({"array.sharding_coalesce_max_bytes": 1 << 15}):
-        array = zarr.open_array(far, path="shards", mode="r")
-    same_bits(array[:, 77], DATA[:, 77])
-    assert 4 < len(far.asked) < 100
+    with using(OURS), zarr.config.set({f"array.sharding_coalesce_max_{setting}": 0 if setting == "gap_bytes" else 1 << 15}):
+        same_bits(zarr.open_array(far, path="shards", mode="r")[:, 77], DATA[:, 77])
+    assert least <= len(far.asked) <= most
 
 
 def test_requests_go_side_by_side(stored):

@@ -1,5 +1,5 @@
-"""Arrays and indices of zarr-python's own strategies of hypothesis, by one pipeline and by the other. PIPELINE_EXAMPLES says how
-many of each, at random then; else they are a few, the same each time."""
+"""Arrays and indices of zarr-python's own strategies of hypothesis, by one pipeline and by the other. PIPELINE_EXAMPLES says
+how many of each, at random then; else they are a few, the same each time."""
 
 import importlib.util
 import os
@@ -20,7 +20,11 @@ from zarr.testing import strategies as zst  # noqa: E402
 pytestmark = pytest.mark.filterwarnings("ignore")
 ASKED = os.environ.get("PIPELINE_EXAMPLES")
 examples = settings(
-    max_examples=int(ASKED or 15), derandomize=ASKED is None, database=None, deadline=None, suppress_health_check=list(HealthCheck)
+    max_examples=int(ASKED or 15),
+    derandomize=ASKED is None,
+    database=None,
+    deadline=None,
+    suppress_health_check=list(HealthCheck),
 )
 V3 = st.just(3)
 

@@ -53,8 +53,9 @@ def file_of(getter: Any) -> str | None:
 
 
 def is_set_in_threads(setter: Any) -> bool:
-    """Whether a value is in a folder, and written with no event loop: by zarr-python 3.1 and later versions."""
-    return file_of(setter) is not None and hasattr(setter, "set_sync") and hasattr(setter.store, "set_sync")
+    """Whether a value is in a folder or in memory, and written with no event loop: by zarr-python 3.1 and later versions."""
+    is_near = file_of(setter) is not None or isinstance(setter, StorePath) and is_at_hand(setter)
+    return is_near and hasattr(setter.store, "set_sync") and not setter.store.read_only
 
 
 class ChunkFile(File):
@@ -89,7 +90,8 @@ class ChunkFile(File):
 
 def _setting(spec: Any, name: str, default: int) -> int:
     """A number of an array's configuration, which zarr-python 3.0 doesn't have."""
-    return int(getattr(spec.config, name, None) or config.get(f"array.{name}", default))
+    found = getattr(spec.config, name, None)
+    return int(config.get(f"array.{name}", default) if found is None else found)
 
 
 class FarValue(Source):

@@ -84,13 +84,13 @@ def _own(value: Bytes) -> Bytes:
 
 async def write_all(writes: list[Write]) -> None:
     """Writes chunks of one store. An exception is raised when all writes that were begun have ended."""
-    first = writes[0].setter
-    if is_at_hand(first):
-        calls = [partial(write.value, await write.get()) for write in writes]
-        values = await run_at_hand(calls, sum(write.work for write in writes))
+    first, work = writes[0].setter, sum(write.work for write in writes)
+    if is_set_in_threads(first):
+        calls = [write.in_thread for write in writes]
+        await (run_at_hand(calls, work) if is_at_hand(first) else in_thread(partial(run_all, calls)))
+    elif is_at_hand(first):
+        values = await run_at_hand([partial(write.value, await write.get()) for write in writes], work)
         for write, value in zip(writes, values, strict=True):
             await write.put(value)
-    elif is_set_in_threads(first) and not first.store.read_only:
-        await in_thread(partial(run_all, [write.in_thread for write in writes]))
     else:
         await run_together([write.by_loop for write in writes], config.get("async.concurrency"))
