@@ -121,5 +121,5 @@ def same_bits(found, expected):
     if found.dtype.kind in "OTUS":
         assert found.tolist() == expected.tolist()
     else:
-        assert found.dtype.newbyteorder("=") == expected.dtype.newbyteorder("=")
+        assert found.dtype.newbyteorder("=") == expected.dtype.newbyteorder("="), (found.dtype, expected.dtype)
         assert found.astype(expected.dtype).tobytes() == expected.tobytes()

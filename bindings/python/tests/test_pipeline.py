@@ -1,13 +1,17 @@
 """The codec pipeline for zarr-python 3: what it is to zarr-python, which chunks it takes, and what it stores."""
 
 import asyncio
+import importlib.util
 import multiprocessing
+import os
 import pickle
+import re
 import subprocess
 import sys
 import threading
 from concurrent.futures import ThreadPoolExecutor
 from dataclasses import replace
+from pathlib import Path
 
 import numpy as np
 import pytest
@@ -21,6 +25,7 @@ from zarr.storage import LocalStore, MemoryStore
 from zarrs_codecs.pipeline import Statistics
 
 pytestmark = pytest.mark.filterwarnings("ignore")
+PACKAGE = Path(__file__).resolve().parents[1]
 NAN = np.array([0x7FC12345], "u4").view("f4")[0]
 
 
@@ -50,6 +55,45 @@ def test_the_package_needs_no_zarr_python():
     code = "import sys; sys.modules['zarr'] = None; import zarrs_codecs as z; z.Chain(['bytes'], 3, 'uint8'); z.CodecPipeline"
     run = subprocess.run([sys.executable, "-c", code], capture_output=True, text=True)
     assert run.returncode == 1 and "ModuleNotFoundError" in run.stderr
+
+
+def run_of(program, folder, **more):
+    """What a program writes that runs in a folder."""
+    environment = {**os.environ, "PYTHONPATH": os.pathsep.join([str(PACKAGE), *sys.path]), **more}
+    run = subprocess.run([sys.executable, "-c", program], cwd=folder, env=environment, capture_output=True, text=True)
+    assert run.returncode == 0, run.stderr
+    return run.stdout
+
+
+@pytest.mark.skipif(sys.version_info < (3, 11), reason="this Python reads no pyproject.toml")
+def test_an_installed_package_needs_no_look_at_it(tmp_path):
+    """zarr-python finds the pipeline by the entry point, and its path in the environment."""
+    import tomllib
+
+    groups = tomllib.loads((PACKAGE / "pyproject.toml").read_text())["project"]["entry-points"]
+    installed = tmp_path / "zarrs_codecs-0.0.dist-info"
+    installed.mkdir()
+    (installed / "METADATA").write_text("Metadata-Version: 2.1\nName: zarrs_codecs\nVersion: 0.0\n")
+    lines = [f"[{group}]\n" + "".join(f"{name} = {it}\n" for name, it in names.items()) for group, names in groups.items()]
+    (installed / "entry_points.txt").write_text("".join(lines))
+    program = "import sys, zarr; a = zarr.create_array({}, shape=4, dtype='u1'); print(a._async_array.codec_pipeline)"
+    paths = os.pathsep.join([str(tmp_path), str(PACKAGE), *sys.path])
+    assert run_of(program, tmp_path, PYTHONPATH=paths, ZARR_CODEC_PIPELINE__PATH=OURS).startswith("CodecPipeline(codecs=")
+
+
+def test_the_packages_modules_are_in_the_wheel():
+    (listed,) = re.findall(r"^packages = (.*)$", (PACKAGE / "pyproject.toml").read_text(), re.MULTILINE)
+    folders = {path.parent.relative_to(PACKAGE) for path in (PACKAGE / "zarrs_codecs").rglob("*.py")}
+    assert {".".join(folder.parts) for folder in folders} == set(re.findall(r'"(.*?)"', listed))
+
+
+@pytest.mark.skipif(importlib.util.find_spec("xarray") is None, reason="xarray isn't installed")
+def test_the_program_of_the_page(tmp_path):
+    page = (PACKAGE.parent / "README.md").read_text()
+    (program,) = re.findall(r"```python\n(.*?)```", page.partition("## With zarr-python")[2].partition("\n## ")[0], re.DOTALL)
+    printed = run_of(program, tmp_path)
+    assert printed.startswith("[6. 7.]\n") and "0  chunks written by zarr-python\n" in printed
+    assert re.search(r"^ +[1-9]\d*  chunks written by the library$", printed, re.MULTILINE)
 
 
 def test_pipelines_compare_by_their_codecs():
@@ -142,12 +186,16 @@ def test_other_types_and_codecs_are_run_by_zarr_python():
     assert stats.written == stats.read == 0 and "numcodecs.lz4" in repr(stats)
 
 
-def test_arrays_of_zarr_2_are_run_by_zarr_python():
-    array = made(MemoryStore(), shape=(6,), chunks=(4,), dtype="u2", zarr_format=2)
-    with counted() as stats:
-        array[...] = np.arange(6)
-        assert array[2:].tolist() == [2, 3, 4, 5]
-    assert stats.written_by_zarr_python == 2 and stats.read_by_zarr_python == 2
+def test_arrays_of_zarr_2_with_other_codecs_are_run_by_zarr_python():
+    import numcodecs
+
+    for more in ({"compressors": numcodecs.Zlib(1)}, {"filters": [numcodecs.Delta("u2")]}):
+        array = made(MemoryStore(), shape=(6,), chunks=(4,), dtype="u2", zarr_format=2, **more)
+        with counted() as stats:
+            array[...] = np.arange(6)
+            assert array[2:].tolist() == [2, 3, 4, 5]
+        assert stats.written_by_zarr_python == stats.read_by_zarr_python == 2 and stats.read == 0
+        assert "Zarr v2 with filters" in repr(stats)
 
 
 class Another(np.ndarray):

@@ -2,11 +2,11 @@
 
 import json
 import math
-from collections.abc import Iterable
 from functools import cached_property, lru_cache
 from typing import Any
 
 import numpy as np
+from zarr.codecs._v2 import V2Codec
 from zarr.core.codec_pipeline import fill_value_or_default
 
 from .._data_types import zarrs_own
@@ -14,6 +14,7 @@ from .._rounds import behind_transpositions
 from .._types import Shape
 from ..chain import Chain, is_read_whole
 from ..refusals import Refused
+from ._zarr2 import codecs_of
 
 # The codecs that mean the same there and here.
 _CODECS = frozenset(
@@ -92,8 +93,11 @@ def _check_name(declared: Any) -> None:
         raise NotTaken(f"the library has no codec {declared.get('name')!r}")
 
 
-def codecs_json(codecs: Iterable[Any]) -> str:
-    """A list of zarr-python's codecs as JSON. Raises `NotTaken` where the library hasn't all of them."""
+def declared_by(codecs: tuple[Any, ...]) -> "str | V2Codec":
+    """A list of zarr-python's codecs as JSON; the codec of a Zarr v2 array itself, which rests on the elements' type. Raises
+    `NotTaken` where the library hasn't all of them."""
+    if len(codecs) == 1 and type(codecs[0]) is V2Codec:
+        return codecs[0]
     found = []
     for codec in codecs:
         _check_codec(codec)
@@ -112,11 +116,18 @@ def native(dtype: Any) -> np.dtype[Any]:
     return found
 
 
-def coding_of(codecs: str, spec: Any) -> Coding:
+def coding_of(codecs: "str | V2Codec", spec: Any) -> Coding:
     """How the library codes chunks, whose form zarr-python declares so. Raises `NotTaken` where it doesn't."""
     dtype, fill = native(spec.dtype), fill_value_or_default(spec)
+    if isinstance(codecs, V2Codec):
+        declared = codecs_of(codecs, dtype, spec.order, len(spec.shape))
+        if declared is None:
+            raise NotTaken(f"Zarr v2 with filters {codecs.filters} and compressor {codecs.compressor}")
+        codecs = json.dumps(declared)
     try:
         if dtype.kind in "TO":
+            if not isinstance(fill, (str, bytes)):
+                raise TypeError("texts and byte strings have such")
             found = _coding(codecs, spec.shape, dtype, fill if isinstance(fill, bytes) else str(fill))
         else:
             little = dtype.newbyteorder("<")

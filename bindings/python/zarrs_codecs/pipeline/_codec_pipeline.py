@@ -10,11 +10,11 @@ from zarr.abc import codec as abc
 from zarr.core.codec_pipeline import BatchedCodecPipeline
 
 from .._types import AnyArray
-from ._chains import Coding, NotTaken, codecs_json, coding_of
+from ._chains import Coding, NotTaken, coding_of, declared_by
 from ._parts import Part
 from ._reading import Read, read_all
 from ._statistics import Statistics
-from ._writing import _BYTE, Write, write_all
+from ._writing import Write, buffer_of, write_all
 
 # Of a chunk: its getter or setter, its form, the places in it and those in the array, and whether these are all of it.
 Job = tuple[Any, Any, Any, Any, bool]
@@ -85,25 +85,26 @@ class CodecPipeline(abc.CodecPipeline):
         return int(self.plain.compute_encoded_size(byte_length, array_spec))
 
     @cached_property
-    def _json(self) -> str | NotTaken:
-        """The codecs as JSON, or why the library hasn't all of them."""
+    def _declared(self) -> Any:
+        """What zarr-python declares the codecs to be, or why the library hasn't all of them."""
         try:
-            return codecs_json(self.codecs)
+            return declared_by(self.codecs)
         except NotTaken as error:
             return error
 
-    def _codings(self, way: str, specs: Iterable[Any]) -> list[Coding | None]:
+    def _codings(self, way: str, specs: list[Any]) -> list[Coding | None]:
         """How the library codes chunks of these forms; None of those that zarr-python codes."""
         found: list[Coding | None] = []
-        kept: dict[int, Coding | NotTaken] = {}
+        kept: dict[Any, Coding | NotTaken] = {}
         for spec in specs:
-            # one form serves all chunks of a regular grid
-            if id(spec) not in kept:
+            # mostly one form has all chunks of a batch, which lives as long as this
+            form = spec.shape, id(spec.dtype), id(spec.fill_value)
+            if form not in kept:
                 try:
-                    kept[id(spec)] = self._coding(spec)
+                    kept[form] = self._coding(spec)
                 except NotTaken as error:
-                    kept[id(spec)] = error
-            coding = kept[id(spec)]
+                    kept[form] = error
+            coding = kept[form]
             found.append(coding if isinstance(coding, Coding) else None)
             if isinstance(coding, NotTaken):
                 self.stats.add(f"{way}_by_zarr_python", 1, str(coding))
@@ -111,14 +112,14 @@ class CodecPipeline(abc.CodecPipeline):
         return found
 
     def _coding(self, spec: Any) -> Coding:
-        if isinstance(self._json, NotTaken):
-            raise self._json
-        return coding_of(self._json, spec)
+        if isinstance(self._declared, NotTaken):
+            raise self._declared
+        return coding_of(self._declared, spec)
 
     async def decode(self, chunk_bytes_and_specs: Iterable[tuple[Any, Any]]) -> Iterable[Any]:
         """The chunks of values at hand, each with its form; None of None."""
         batch = list(chunk_bytes_and_specs)
-        codings = self._codings("read", (spec for _, spec in batch))
+        codings = self._codings("read", [spec for _, spec in batch])
         theirs = iter(await self.plain.decode([job for job, coding in zip(batch, codings, strict=True) if coding is None]))
         found = []
         for (value, spec), coding in zip(batch, codings, strict=True):
@@ -133,7 +134,7 @@ class CodecPipeline(abc.CodecPipeline):
     async def encode(self, chunk_arrays_and_specs: Iterable[tuple[Any, Any]]) -> Iterable[Any]:
         """The values of chunks at hand, each with its form; None of None."""
         batch = list(chunk_arrays_and_specs)
-        codings = self._codings("written", (spec for _, spec in batch))
+        codings = self._codings("written", [spec for _, spec in batch])
         theirs = iter(await self.plain.encode([job for job, coding in zip(batch, codings, strict=True) if coding is None]))
         found = []
         for (array, spec), coding in zip(batch, codings, strict=True):
@@ -142,14 +143,13 @@ class CodecPipeline(abc.CodecPipeline):
             elif array is None:
                 found.append(None)
             else:
-                value = coding.chain.encode(_as_objects(array.as_numpy_array()))
-                found.append(spec.prototype.buffer.from_array_like(value.view(_BYTE)))
+                found.append(buffer_of(coding.chain.encode(_as_objects(array.as_numpy_array())), spec))
         return found
 
     def _taken(self, way: str, batch: list[Job], array: Any) -> list[Coding | None]:
         """How the library codes the chunks of a batch; None of those that zarr-python codes."""
         if type(array) is np.ndarray or isinstance(array, np.generic):
-            return self._codings(way, (spec for _, spec, *_ in batch))
+            return self._codings(way, [spec for _, spec, *_ in batch])
         self.stats.add(f"{way}_by_zarr_python", len(batch), f"an array is a {type(array).__qualname__}, and not numpy's")
         return [None] * len(batch)
 

@@ -52,7 +52,7 @@ class Write:
             if error.path is None:
                 error.path = str(self.setter)
             raise
-        return None if made is None else self.spec.prototype.buffer.from_array_like(_own(made).view(_BYTE))
+        return None if made is None else buffer_of(_own(made), self.spec)
 
     async def get(self) -> Any:
         """The old value; None where all of the chunk is replaced, or nothing is stored."""
@@ -74,6 +74,11 @@ class Write:
         """Writes the chunk to a store that may be far away."""
         call = partial(self.value, await self.get())
         await self.put(call() if self.work <= IN_LOOP else await in_thread(call))
+
+
+def buffer_of(value: Bytes, spec: Any) -> Any:
+    """A value as zarr-python takes it."""
+    return spec.prototype.buffer.from_array_like(value.view(_BYTE))
 
 
 def _own(value: Bytes) -> Bytes:
