@@ -17,6 +17,8 @@ _FEW = 8
 # A value is read at once where more than one in so many of its elements are read: one in a file, one of a shard, and one that
 # is far away.
 _WHOLE_FROM, _WHOLE_FROM_OF_SHARDS, _WHOLE_FROM_OF_FAR = 4, 2, 2
+# Each thread keeps an array of so many bytes at most.
+_MOST_KEPT = 1 << 24
 _rooms = threading.local()
 
 
@@ -123,7 +125,8 @@ class Part:
         if target.shape == coding.shape and target.dtype == coding.dtype and target.flags.carray:
             coding.chain.decode(value, out=target)
             return None
-        return coding.chain.decode(value, out=_room(coding))
+        is_kept = coding.size * coding.dtype.itemsize <= _MOST_KEPT
+        return coding.chain.decode(value, out=_room(coding) if is_kept else None)
 
     def _shaped(self, found: AnyArray) -> AnyArray:
         return found if self.shape is None else found.reshape(self.shape)
