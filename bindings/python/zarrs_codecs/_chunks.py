@@ -175,8 +175,8 @@ class Chunks:
             # all of the chunk: one call instead of two
             return self._chain.decode(source.whole(), out)
         if self._is_planned:
-            filled = 0 if out is None or source.part_bytes is None else out.size
-            if _WHOLE_FROM * filled >= math.prod(self._chain.shape):
+            needed = 0 if out is None or source.part_bytes is None else out.size
+            if _WHOLE_FROM * needed >= math.prod(self._chain.shape):
                 # one read instead of many, and few bytes more
                 return self._chain._read_inner(source.whole(), selection, out)
             return self._chain._read_fetched(Fetched(source), selection, out)

@@ -21,7 +21,7 @@ _SHARDS_AT_HAND, _SHARDS_IN_FILE = 6, 64
 _RANGE_BYTES = 1 << 14
 
 
-def _touched(chosen: Selection, sizes: Shape) -> int:
+def touched_chunks(chosen: Selection, sizes: Shape) -> int:
     """How many inner chunks of these sizes have elements of a selection."""
     if isinstance(chosen, Rows):
         if len(chosen.rows) <= _MANY:
@@ -39,7 +39,7 @@ def is_dense(chain: "Chain", chosen: Selection, length: int, is_at_hand: bool = 
     if chain._finest is None or chain._finest[1] <= _MANY:
         return False
     sizes, whole = chain._finest
-    touched = _touched(chosen, sizes)
+    touched = touched_chunks(chosen, sizes)
     has_shards = chain._has_shards_inside
     if is_at_hand:
         return touched * (_SHARDS_AT_HAND if has_shards else _AT_HAND) >= whole

@@ -1,5 +1,6 @@
 """Where a value's bytes are: reading pieces of it, and replacing files."""
 
+import bisect
 import contextlib
 import errno
 import io
@@ -33,15 +34,42 @@ def joined(ranges: AnyArray) -> AnyArray:
     return np.column_stack((ranges[is_first, 0], ranges[is_last, 1]))
 
 
+def near(ranges: list[list[int]], gap: int, most: int | None = None) -> list[list[int]]:
+    """Ranges that cover these, in order, each a start and an end: those with so many bytes between them, or fewer, are one,
+    where that has so many bytes at most."""
+    found: list[list[int]] = []
+    for begin, end in sorted(ranges):
+        if found and begin - found[-1][1] <= gap and (most is None or end - found[-1][0] <= most):
+            found[-1][1] = max(found[-1][1], end)
+        else:
+            found.append([begin, end])
+    return found
+
+
+def cut(ranges: AnyArray, covering: list[list[int]], parts: list[AnyArray]) -> AnyArray:
+    """The bytes of ranges, joined, of ranges that cover them, as `near` makes these, and of the bytes of each."""
+    begins = [begin for begin, _ in covering]
+    found = []
+    for begin, end in listed(ranges):
+        at = bisect.bisect_right(begins, begin) - 1
+        found.append(parts[at].data[begin - begins[at] : end - begins[at]])
+    return np.frombuffer(bytearray().join(found), np.uint8)
+
+
 def opened(path: str) -> int:
     """The number of a file that is opened to be read. Raises `FileNotFoundError`, and `OSError` of what is no file: the
     opening of a pipe would wait for another end."""
+    return opened_with_size(path)[0]
+
+
+def opened_with_size(path: str) -> tuple[int, int]:
+    """The same, and how many bytes the file has."""
     number = os.open(path, os.O_RDONLY | os.O_CLOEXEC | os.O_NONBLOCK)
-    mode = os.fstat(number).st_mode
-    if stat.S_ISREG(mode):
-        return number
+    found = os.fstat(number)
+    if stat.S_ISREG(found.st_mode):
+        return number, found.st_size
     os.close(number)
-    if stat.S_ISDIR(mode):
+    if stat.S_ISDIR(found.st_mode):
         raise IsADirectoryError(errno.EISDIR, os.strerror(errno.EISDIR), path)
     raise OSError(errno.EINVAL, "it is no file", path)
 
@@ -186,6 +214,12 @@ class File(Source):
         for begin, end in listed(joined(ranges)):
             self._read(view[at : at + end - begin], begin)
             at += end - begin
+        return fetched
+
+    def one_piece(self, begin: int, end: int) -> AnyArray:
+        """The bytes of one range."""
+        fetched = np.empty(end - begin, np.uint8)
+        self._read(fetched.data, begin)
         return fetched
 
 

@@ -8,6 +8,7 @@ import numpy as np
 
 from ._rounds import Fetched, Ranges
 from ._selections import Selection
+from ._types import listed
 from .refusals import Refused
 
 if TYPE_CHECKING:
@@ -58,5 +59,5 @@ def _together(chain: "Chain", is_early: bool, fetched: Fetched, chosen: Selectio
     asked = [part.arguments() for part in itertools.islice(chosen.parts(_TOLD_AT_ONCE), _MOST_PARTS + 1)]
     if len(asked) > _MOST_PARTS:
         return None
-    each = [chain._lacking(fetched.arguments(), part, chain._whole_inside).tolist() for part in asked]
+    each = [listed(chain._lacking(fetched.arguments(), part, chain._whole_inside)) for part in asked]
     return fetched.without(np.array(sorted(itertools.chain(*each)), np.uint64).reshape(-1, 2))

@@ -8,6 +8,7 @@ import numpy as np
 from ._rounds import Fetched, Ranges
 from ._selections import Selection, select
 from ._sharding import ShardedChain
+from ._types import listed
 from .chain import Chain
 
 
@@ -46,7 +47,7 @@ def _asked_inside(
         yield from _asked(chunk._cut, select(inside, chunk.shape), begin, length, fetched)
         return
     planned = chunk.planned_ranges(inside) if chunk._is_planned else None
-    ranges = [(0, length)] if planned is None else planned.tolist()
+    ranges = [(0, length)] if planned is None else listed(planned)
     for first, last in ranges:
         # that one ends behind the inner chunk, the library says
         if last <= length:

@@ -309,8 +309,9 @@ class ShardedChain(Chain):
         """The numbers of the inner chunks with elements of a selection, in order."""
         if isinstance(chosen, Rows):
             grid = chosen.rows.astype(np.int64) // np.array(self._chunk_shape, np.int64)
-            each: AnyArray = np.ravel_multi_index(tuple(grid.T), self._grid) if self._grid else np.zeros(1, np.int64)
-            return np.unique(each)
+            each: Any = np.ravel_multi_index(tuple(grid.T), self._grid) if self._grid else np.zeros(1, np.int64)
+            found: AnyArray = np.unique(each)
+            return found
         numbers: AnyArray = np.zeros(1, np.int64)
         for one, size, count in zip(chosen.on_axes, self._chunk_shape, self._grid, strict=True):
             places = np.unique(np.arange(one.start, one.stop, one.step, dtype=np.int64) // size)

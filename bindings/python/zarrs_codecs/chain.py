@@ -670,7 +670,8 @@ class Chain:
         >>> Chain(["bytes"], (4,), "uint8").read_from(io.BytesIO(b"abcd"), slice(1, 3))
         array([98, 99], dtype=uint8)
         """
-        return self._read_fetched(Fetched(File(file)), selection, out)
+        source = file if isinstance(file, Source) else File(file)
+        return self._read_fetched(Fetched(source), selection, out)
 
     @_naming
     def _read_fetched(self, fetched: Fetched, selection: Any, out: AnyArray | None) -> AnyArray:
@@ -790,3 +791,8 @@ class Chain:
             count = math.prod(part.shape)
             told_into(elements[at : at + count], call)
             at += count
+
+
+def is_read_whole(chain: Chain) -> bool:
+    """Whether a read of any element of a value, however long it is, takes all of its bytes."""
+    return chain._is_read_whole
