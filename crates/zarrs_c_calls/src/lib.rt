@@ -3,10 +3,10 @@
 //!
 //! Each call begins with a header, the JSON text of a chunk's `shape`, `data_type`, `fill_value`
 //! and `codecs`, or with a chain that was made of one and is kept ([`zarrs_chain_new`]): both forms of
-//! a call are one function of the header that was read. Elements cross in three buffers, masks, offsets and bytes ([`Sizes`]), and a
-//! selection of them as numbers ([`zarrs_read`]). A call returns 0 where all is done, 1 where a
-//! buffer is too short, and else the code of the first error; a call that fails leaves the caller's
-//! buffers and counts as they were.
+//! a call are one function of the header that was read. Elements cross in three buffers, masks,
+//! offsets and bytes ([`Sizes`]), and a selection of them as numbers ([`zarrs_read`]). A call returns
+//! 0 where all is done, 1 where a buffer is too short, and else the code of the first error; a call
+//! that fails leaves the caller's buffers and counts as they were.
 #![tactic(auto)]
 
 mod buffer_handle;
