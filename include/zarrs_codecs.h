@@ -53,8 +53,9 @@
  *
  * What the caller keeps: a pointer is valid for its length, and may be NULL where that is 0; pointers to
  * uint64_t are aligned; a buffer that is written overlaps no other argument; a bool is 0 or 1. Calls keep
- * no state but in a zarrs_chain, so threads may call at once, each with chains of its own; no call is made in a signal handler, nor in the forked child of a
- * process with threads. malloc, realloc and free are the process's.
+ * no state but in a zarrs_chain, so threads may call at once, each with chains of its own; no call is made
+ * in a signal handler, nor in the forked child of a process with threads. malloc, realloc and free are the
+ * process's.
  */
 #ifndef ZARRS_CODECS_H
 #define ZARRS_CODECS_H
@@ -297,8 +298,8 @@ typedef struct zarrs_chain {
  * kept stays. */
 uint32_t zarrs_chain_new(const uint8_t *header, size_t header_len, zarrs_chain *chain);
 
-/* Keeps what chain keeps in other too, which is another one, in place of what that kept: for another thread, which then uses other while
- * this one uses chain, and frees it. No header is read, and both are one in memory. */
+/* Keeps what chain keeps in other too, which is another one, in place of what that kept: for another thread, which
+ * then uses other while this one uses chain, and frees it. No header is read, and both are one in memory. */
 uint32_t zarrs_chain_share(zarrs_chain *chain, zarrs_chain *other);
 
 /* Frees what is kept: chain keeps none then, as at first. */
