@@ -173,7 +173,7 @@ def damaged_shards(draws, say, room):
     say(f"{way}, where inner chunk {place} is {index[place].tolist()}; of a good value it takes {before:.3f} s")
     value = parts + index.tobytes()
     most = 50 * (len(value) + data.nbytes)
-    # which inner chunk it is, Python finds by some dozen calls more, whatever their size
+    # which inner chunk it is, Python finds by some dozens of calls
     with costing(lambda: 20 * max(before, least()) + SECONDS / 5, most, f"{way}, which is refused,"):
         _, error = attempt((Refused,), ways[way], value)
     require(error is not None or way == "read", f"{way} of a damaged value isn't refused")
