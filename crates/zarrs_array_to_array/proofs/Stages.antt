@@ -1,10 +1,11 @@
 -- Readers over the readers of moved chunks.
-use Rattle.std.proofs.Common.{◌≡◌, Bool, true, false, Result, Ok, Err, List, ℕ, refl, sym, ◌∙◌, IfErr, ◌||◌}
+use Rattle.std.proofs.Common.{◌≡◌, Bool, true, false, Option, Result, Ok, Err, List, ℕ, refl, sym, ◌∙◌, IfErr, ◌||◌}
 use Rattle.zarrs_chunk.specs.Answer.{◌>>=◌, AnswersBy, memory, fault, memory_or_fault}
 use Rattle.zarrs_chunk.specs.Selection.{Selection, bounds_of}
 use Rattle.zarrs_chunk.specs.declared.codec_error.CodecError.{CodecError}
 use Rattle.zarrs_chunk.specs.declared.codec_error.CodecError.TheVariants.{Storage}
-use Rattle.zarrs_codec.specs.ArrayReader.{image_is_sure}
+use Rattle.zarrs_codec.specs.ArrayReader.{image_calls, image_is_sure}
+use Rattle.zarrs_codec.specs.Calls.{Calls, MakesKnownReads}
 use Rattle.zarrs_codec.specs.CoordinateMap.{CoordinateMap}
 use Rattle.zarrs_codec.specs.HandleCalls.{NeverFailsIf}
 use Rattle.zarrs_codec.specs.MappedSelection.{image_of}
@@ -24,6 +25,10 @@ passed_answer R r image v f e h = rw e h
 -- a read of the moved chunk is as sure as the read that asks for it
 pub passed_sure : {T : Type 0} (sure : Selection → Bool) (r : Result T CodecError) (image : Result Selection CodecError) (v : Selection) → image ≡ Ok v → NeverFailsIf (sure v) r → NeverFailsIf (image_is_sure sure image) r
 passed_sure sure r image v e h = rw e h
+
+-- a read of the moved chunk makes the calls of the read that asks for it
+pub passed_calls : {C E T : Type 0} (calls : C → Option Calls) (counted : Selection → Option ℕ) (image : Result Selection CodecError) (v : Selection) (before after : C) (r : Result T E) → image ≡ Ok v → MakesKnownReads calls (counted v) before after r → MakesKnownReads calls (image_calls counted image) before after r
+passed_calls calls counted image v before after r e h = rw e h
 
 module _ (coordinates : Result CoordinateMap CodecError) (asked : List ℕ → Selection → Selection) (sizes : List ℕ) (selection : Selection) where
   bounds_first : (cause : CodecError) → bounds_of selection sizes ≡ Err cause → image_of coordinates asked sizes selection ≡ Err cause

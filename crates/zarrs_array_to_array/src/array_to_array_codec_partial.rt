@@ -75,6 +75,13 @@ impl<C: ArrayToArrayCodecTraits, I: ArrayPartialDecoderTraits> ArrayPartialDecod
 
     ghost lent = { λ stage. I.lent (input_of stage) };
 
+    ghost calls = { λ stage. I.calls (input_of stage) };
+
+    ghost use Rattle.zarrs_codec.specs.ArrayReader.{image_calls};
+    ghost use Rattle.zarrs_codec.specs.MappedSelection.{image_of};
+
+    ghost read_calls = { λ stage selection. image_calls (I.read_calls (input_of stage)) (image_of (C.coordinates (codec_of stage) (sizes_of stage)) (C.asked (codec_of stage) (sizes_of stage)) (sizes_of stage) selection) };
+
     ghost held = { λ stage. I.held (input_of stage) };
 
     ghost use Rattle.zarrs_codec.specs.MappedLaws.{mapped_reader-counts};

@@ -74,11 +74,14 @@ abbrev pub Reads : {H : Type 0} → (H → StorageState) → BytesCodecPartial H
 Reads state decoder indexer result =
     ReadsPart (bytes_grammar decoder.codec) (bytes_reads_part decoder.codec) (form_of decoder.shape decoder.data_type decoder.fill_value) (state decoder.handle) (selection_of indexer) result
 
--- an accepted read makes one reading call, or one for each batch of many short runs (`calls` states what the record of a handle is)
+-- how many reading calls a read of these places makes: one, or one for each batch of many short runs
+abbrev pub read_count : {H : Type 0} → (H → StorageState) → BytesCodecPartial H → List ℕ → ℕ
+read_count state decoder places = calls_for_runs (place_size decoder.data_type) (stored_in state decoder) (consecutive_runs places)
+
+-- an accepted read makes so many (`calls` states what the record of a handle is)
 abbrev pub CountsReads : {H T : Type 0} → (H → StorageState) → (H → Option Calls) → BytesCodecPartial H → BytesCodecPartial H → Indexer → Result T CodecError → Type 0
 CountsReads state calls before after indexer result =
-    IfOk (places_of (selection_of indexer) before.shape) (λ places.
-    MakesReads (coder_calls calls) (calls_for_runs (place_size before.data_type) (stored_in state before) (consecutive_runs places)) before after result)
+    IfOk (places_of (selection_of indexer) before.shape) (λ places. MakesReads (coder_calls calls) (read_count state before places) before after result)
 
 -- an accepted read asks for the ranges of its places: one for each run of consecutive places (`asked` states which ranges a handle was asked for)
 abbrev pub AsksReads : {H T : Type 0} → (H → StorageState) → (H → Option (List ByteSpan)) → BytesCodecPartial H → BytesCodecPartial H → Indexer → Result T CodecError → Type 0

@@ -10,7 +10,9 @@ use zarrs_codec::{
 use zarrs_data_type::DataType;
 
 impl<H: BytesPartialDecoderTraits> ArrayPartialDecoderTraits for BytesCodecPartial<H> {
-    ghost use Rattle.zarrs_bytes.specs.BytesCodecPartial.{bytes_form_of, bytes_handle_of, bytes_reader, bytes_writer};
+    ghost use Rattle.zarrs_bytes.specs.BytesCodecPartial.{bytes_form_of, bytes_handle_of, bytes_reader, bytes_writer, coder_calls, read_count};
+    ghost use Rattle.zarrs_chunk.specs.Selection.{places_of};
+    ghost use Rattle.zarrs_codec.specs.Calls.{count_of};
 
     ghost reader = { λ decoder. bytes_reader (bytes_form_of decoder) (H.state (bytes_handle_of decoder)).value (H.state (bytes_handle_of decoder)).sure H.reads_ranges };
 
@@ -19,6 +21,10 @@ impl<H: BytesPartialDecoderTraits> ArrayPartialDecoderTraits for BytesCodecParti
     ghost state = { λ decoder. H.state (bytes_handle_of decoder) };
 
     ghost lent = { λ decoder. H.lent (bytes_handle_of decoder) };
+
+    ghost calls = { coder_calls H.calls };
+
+    ghost read_calls = { λ decoder selection. count_of (read_count H.state decoder) (places_of selection (bytes_form_of decoder).sizes) };
 
     ghost held = { λ decoder. H.held (bytes_handle_of decoder) };
 

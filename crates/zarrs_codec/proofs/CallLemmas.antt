@@ -1,9 +1,9 @@
 -- Records of calls, of some calls after others.
 use Rattle.std.proofs.Common.{◌≡◌, ◌∙◌, ℕ, zero, suc, ◌+◌, true, Option, Some, None, Result, Ok, Err, List, [], ◌++◌, refl, ap, arith}
-use Rattle.std.specs.Prelude.{OnOk}
+use Rattle.std.specs.Prelude.{IfOk, IfSome, OnOk}
 use Rattle.std.proofs.lemmas.List.{append_assoc, append-nil}
 use Rattle.zarrs_codec.specs.ByteSpan.{ByteSpan}
-use Rattle.zarrs_codec.specs.Calls.{Calls, after_asking, after_ranges, after_reads, count_more}
+use Rattle.zarrs_codec.specs.Calls.{Calls, MakesKnownReads, MakesReads, after_asking, after_ranges, after_reads, count_more, count_of}
 use Rattle.zarrs_codec.specs.StorageState.{count_if}
 
 count_more-more : (n m count : ℕ) → count_more n (count_more m count) ≡ count_more (m + n) count
@@ -37,3 +37,13 @@ pub ranges_asked : {E T : Type 0} (r : Result T E) (ranges : List ByteSpan) (bef
 ranges_asked (Ok x) ranges None after is = is
 ranges_asked (Ok x) ranges (Some asked) after is = is
 ranges_asked (Err e) ranges before after is = tt
+
+-- reading calls that are counted by what was found are counted
+pub found_calls : {C E T F P : Type 0} (calls : C → Option Calls) (count : P → ℕ) (found : Result P F) (before after : C) (result : Result T E) → IfOk found (λ it. MakesReads calls (count it) before after result) → MakesKnownReads calls (count_of count found) before after result
+found_calls calls count (Ok it) before after result counted = counted
+found_calls calls count (Err e) before after result counted = tt
+
+-- nothing is stated of a call that fails
+pub failed_calls : {C E T : Type 0} (calls : C → Option Calls) (known : Option ℕ) (before after : C) (e : E) → MakesKnownReads {C} {E} {T} calls known before after (Err e)
+failed_calls calls None before after e = tt
+failed_calls calls (Some n) before after e = tt

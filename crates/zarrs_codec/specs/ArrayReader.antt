@@ -1,6 +1,6 @@
 -- What contracts see of a partial decoder of chunks.
 -- Source: zarrs, `ArrayPartialDecoderTraits`.
-use Rattle.std.specs.Prelude.{◌≡◌, ℕ, Bool, true, ◌&&◌, List, length, Result, Ok, Err}
+use Rattle.std.specs.Prelude.{◌≡◌, ℕ, Bool, true, ◌&&◌, List, length, Option, None, Result, Ok, Err}
 use Rattle.zarrs_chunk.specs.Answer.{◌>>=◌}
 use Rattle.zarrs_chunk.specs.Selection.{Selection, bounds_of, tuples_of}
 use Rattle.zarrs_chunk.specs.declared.codec_error.CodecError.{CodecError}
@@ -22,6 +22,11 @@ pub record ArrayReader : Type 0 where
 abbrev pub image_is_sure : (Selection → Bool) → Result Selection CodecError → Bool
 image_is_sure sure (Ok image) = sure image
 image_is_sure sure (Err _) = true
+
+-- how many reading calls are made for this image of a selection, where that is known
+abbrev pub image_calls : (Selection → Option ℕ) → Result Selection CodecError → Option ℕ
+image_calls calls (Ok image) = calls image
+image_calls calls (Err _) = None
 
 -- The reader of a decoded chunk of these sizes over one of the moved chunk: it answers what that one answers where it is asked for the encoded selection, and is as sure, since it asks for no more.
 abbrev pub mapped_reader : Result CoordinateMap CodecError → (List ℕ → Selection → Selection) → Bool → List ℕ → ArrayReader → ArrayReader

@@ -1,5 +1,5 @@
 -- What a handle that keeps a record of its calls has in it.
-use Rattle.std.specs.Prelude.{◌≡◌, ℕ, zero, suc, true, Option, Some, None, List, ◌++◌, Result, Ok, Err, OnOk}
+use Rattle.std.specs.Prelude.{◌≡◌, ℕ, zero, suc, true, Option, Some, None, IfSome, List, ◌++◌, Result, Ok, Err, OnOk}
 use Rattle.zarrs_codec.specs.ByteSpan.{ByteSpan}
 use Rattle.zarrs_codec.specs.StorageState.{count_if}
 
@@ -64,6 +64,15 @@ after_ranges result ranges (Some asked) = Some (asked_with result ranges asked)
 -- a call that answers has made so many reading calls, and none that writes
 abbrev pub MakesReads : {C E T : Type 0} → (C → Option Calls) → ℕ → C → C → Result T E → Type 0
 MakesReads calls n before after result = OnOk result (calls after ≡ after_reads n (calls before))
+
+-- the count of what was found; none, where nothing was
+abbrev pub count_of : {E P : Type 0} → (P → ℕ) → Result P E → Option ℕ
+count_of count (Ok found) = Some (count found)
+count_of count (Err _) = None
+
+-- a call that answers has made so many reading calls, where it is known how many, and none that writes
+abbrev pub MakesKnownReads : {C E T : Type 0} → (C → Option Calls) → Option ℕ → C → C → Result T E → Type 0
+MakesKnownReads calls known before after result = IfSome known (λ n. MakesReads calls n before after result)
 
 -- a call that answers has made so many reading calls, and one that replaced the bytes of these numbers
 abbrev pub MakesWrite : {C E T : Type 0} → (C → Option Calls) → ℕ → List ℕ → C → C → Result T E → Type 0

@@ -1,16 +1,17 @@
 //! Readers of chunks in part.
-ghost use Rattle.std.specs.Prelude.{◌≡◌, ℕ, List, IfOk, Err, IfErr};
+ghost use Rattle.std.specs.Prelude.{◌≡◌, ℕ, List, Option, None, IfOk, Err, IfErr};
 ghost use Rattle.zarrs_chunk.specs.Indexer.{selection_of};
 ghost use Rattle.zarrs_array_bytes.specs.Tight.{IsTight};
 ghost use Rattle.zarrs_codec.specs.ArrayReader.{ArrayReader, IsCounted};
 ghost use Rattle.zarrs_codec.specs.ArrayWriter.{ArrayWriter, no_writer};
+ghost use Rattle.zarrs_codec.specs.Calls.{Calls, MakesKnownReads};
 ghost use Rattle.zarrs_codec.specs.CodersOverHandles.{OnlyReads};
 ghost use Rattle.zarrs_codec.specs.HandleCalls.{NeverFailsIf, Tells};
 ghost use Rattle.zarrs_codec.specs.Lent.{Lent};
 ghost use Rattle.zarrs_codec.specs.StorageState.{StorageState};
 ghost use Rattle.zarrs_array_bytes.specs.Validity.{Holds};
 ghost use Rattle.zarrs_chunk.specs.Answer.{AnswersBy, memory_or_fault, memory};
-ghost use Rattle.zarrs_chunk.specs.Selection.{bounds_of};
+ghost use Rattle.zarrs_chunk.specs.Selection.{Selection, bounds_of};
 
 use std::alloc::Global;
 use zarrs_array_bytes::ArrayBytes;
@@ -32,6 +33,11 @@ pub trait ArrayPartialDecoderTraits {
     ghost state: { Self → StorageState };
 
     ghost lent: { Self → List Lent };
+
+    // The record of the handle's calls, where it keeps one, and how many reading calls a read of a selection makes that answers. A reader of which this isn't known states nothing of them.
+    ghost calls: { Self → Option Calls } = { λ _. None };
+
+    ghost read_calls: { Self → Selection → Option ℕ } = { λ _ _. None };
 
     // How many bytes are kept in memory.
     ghost held: { Self → ℕ };
@@ -65,6 +71,8 @@ pub trait ArrayPartialDecoderTraits {
         ensures indexer_first { IfErr (bounds_of (selection_of indexer.now) (reader self.old).sizes)
             (λ cause. AnswersBy memory (Holds (reader self.old).type) result (Err cause)) }
         ensures sure { NeverFailsIf ((reader self.old).sure (selection_of indexer.now)) result }
+        ensures counted { MakesKnownReads calls (read_calls self.old (selection_of indexer.now))
+            self.old self.new result }
         ensures tight { IfOk result (IsTight (reader self.old).type) }
         ensures left { OnlyReads state lent reader self.old self.new result }
         ensures writer_kept { writer self.new ≡ writer self.old };

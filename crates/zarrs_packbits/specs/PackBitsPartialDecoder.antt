@@ -71,11 +71,16 @@ PackBitsLeaves state lent before after result =
 abbrev pub decoder_calls : {H : Type 0} → (H → Option Calls) → PackBitsPartialDecoder H → Option Calls
 decoder_calls calls decoder = calls (packbits_handle_of decoder)
 
--- an accepted read makes one reading call; where all bits of whole bytes are kept, as many as of the codec `bytes` (`calls` is the record of a handle)
+-- how many reading calls a read of these places makes: one; where all bits of whole bytes are kept, as many as of the codec `bytes`
+abbrev pub packbits_read_count : {H : Type 0} → (H → StorageState) → PackBitsPartialDecoder H → List ℕ → ℕ
+packbits_read_count state decoder places =
+    reading_calls_of decoder.codec (form_of decoder.shape decoder.data_type decoder.fill_value) (packbits_stored_in state decoder) (consecutive_runs places)
+
+-- an accepted read makes so many (`calls` is the record of a handle)
 abbrev pub PackBitsCountsReads : {H T : Type 0} → (H → StorageState) → (H → Option Calls) → PackBitsPartialDecoder H → PackBitsPartialDecoder H → Indexer → Result T CodecError → Type 0
 PackBitsCountsReads state calls before after indexer result =
     IfOk (places_of (selection_of indexer) before.shape) (λ places.
-    MakesReads (decoder_calls calls) (reading_calls_of before.codec (form_of before.shape before.data_type before.fill_value) (packbits_stored_in state before) (consecutive_runs places)) before after result)
+    MakesReads (decoder_calls calls) (packbits_read_count state before places) before after result)
 
 -- the ranges that a decoder's handle was asked for, where it keeps them
 abbrev pub decoder_asked : {H : Type 0} → (H → Option (List ByteSpan)) → PackBitsPartialDecoder H → Option (List ByteSpan)

@@ -304,13 +304,19 @@ impl<H: BytesPartialDecoderTraits> PackBitsPartialDecoder<H> {
 }
 
 impl<H: BytesPartialDecoderTraits> ArrayPartialDecoderTraits for PackBitsPartialDecoder<H> {
-    ghost use Rattle.zarrs_packbits.specs.PackBitsPartialDecoder.{packbits_form_of, packbits_handle_of, packbits_reader, decoder_state, packbits_stored_in};
+    ghost use Rattle.zarrs_packbits.specs.PackBitsPartialDecoder.{packbits_form_of, packbits_handle_of, packbits_reader, decoder_calls, decoder_state, packbits_read_count, packbits_stored_in};
+    ghost use Rattle.zarrs_chunk.specs.Selection.{places_of};
+    ghost use Rattle.zarrs_codec.specs.Calls.{count_of};
 
     ghost reader = { λ decoder. packbits_reader (packbits_form_of decoder) (packbits_stored_in H.state decoder) (decoder_state H.state decoder).sure H.reads_ranges };
 
     ghost state = { λ decoder. H.state (packbits_handle_of decoder) };
 
     ghost lent = { λ decoder. H.lent (packbits_handle_of decoder) };
+
+    ghost calls = { decoder_calls H.calls };
+
+    ghost read_calls = { λ decoder selection. count_of (packbits_read_count H.state decoder) (places_of selection (packbits_form_of decoder).sizes) };
 
     ghost held = { λ decoder. H.held (packbits_handle_of decoder) };
 

@@ -6,7 +6,8 @@ use Rattle.zarrs_chunk.specs.Answer.{AnswersBy, memory}
 use Rattle.zarrs_codec.specs.ArrayReader.{mapped_reader}
 use Rattle.zarrs_codec.specs.ArrayWriter.{mapped_writer}
 use Rattle.zarrs_codec.specs.MappedSelection.{image_of}
-use Rattle.zarrs_array_to_array.proofs.Stages.{refused_answer, passed_answer, refused_first, passed_first, passed_sure, left_alone}
+use Rattle.zarrs_codec.proofs.CallLemmas.{failed_calls}
+use Rattle.zarrs_array_to_array.proofs.Stages.{refused_answer, passed_answer, refused_first, passed_calls, passed_first, passed_sure, left_alone}
 use Rattle.zarrs_array_to_array.proofs.array_to_array_codec_partial.ArrayToArrayCodecPartialArrayPartialDecoderTraits.partial_decode.Goals as goal
 
 pub returns-in-Ok-clause-answer : goal.returns-in-Ok-clause-answer
@@ -82,3 +83,15 @@ returns-in-Ok-clause-sure g c =
 
 pub returns-in-Err-clause-sure : goal.returns-in-Err-clause-sure
 returns-in-Err-clause-sure g c = λ _. c.in-Err.ensures.answer.no_fault
+
+pub returns-in-Ok-clause-counted : goal.returns-in-Ok-clause-counted
+returns-in-Ok-clause-counted g c =
+    let stage = c.args.self.now in
+    let coordinates = g.C.ArrayToArrayCodecTraits.coordinates stage.codec stage.shape in
+    let asked = g.C.ArrayToArrayCodecTraits.asked stage.codec stage.shape in
+    let counted = g.I.ArrayPartialDecoderTraits.read_calls stage.input in
+    let selection = selection_of c.args.indexer.now in
+    passed_calls _ counted (image_of coordinates asked stage.shape selection) (selection_of c.in-Ok.encoded) _ _ _ c.in-Ok.ensures.answer.is c.partial_decode.ensures.counted
+
+pub returns-in-Err-clause-counted : goal.returns-in-Err-clause-counted
+returns-in-Err-clause-counted g c = failed_calls _ _ _ _ c.in-Err.error
