@@ -16,10 +16,10 @@ use Rattle.zarrs_array_bytes.proofs.ElementLemmas.{length_piece}
 use Rattle.zarrs_array_bytes.proofs.OffsetLemmas.{flat_map-concat}
 use Rattle.zarrs_array_bytes.proofs.Pieces.{AllSized, length-concat, pieces-concat}
 use Rattle.zarrs_array_bytes.proofs.RunLemmas.{pieces_of_run, places_below}
-use Rattle.zarrs_chain.specs.sharding.InnerPlaces.{places_from}
+use Rattle.zarrs_shard_bytes.specs.InnerPlaces.{places_from}
 use Rattle.zarrs_chain.specs.sharding.ShardWalk.{are_item, kept_part}
-use Rattle.zarrs_chain.specs.sharding.ShardingCalls.{Repeats}
-use Rattle.zarrs_chain.proofs.InnerPlaces.{moved_end, range_moved, runs_moved}
+use Rattle.zarrs_shard_bytes.specs.FillElements.{Repeats}
+use Rattle.zarrs_shard_bytes.proofs.InnerPlaces.{moved_end, range_moved, runs_moved}
 
 -- ---- run by run
 

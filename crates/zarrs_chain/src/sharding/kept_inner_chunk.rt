@@ -2,18 +2,19 @@
 ghost use Rattle.std.specs.Prelude.{◌≡◌, ◌+◌, ◌*◌, ◌<◌, ◌≤◌, All, length, true};
 ghost use Rattle.zarrs_chunk.specs.Answer.{Appends};
 ghost use Rattle.zarrs_array_bytes.specs.Pieces.{pieces_at};
-ghost use Rattle.zarrs_chain.specs.sharding.InnerPlaces.{places_from};
-ghost use Rattle.zarrs_chain.specs.sharding.ShardWalk.{KeepsInner, WritesPart, kept_part};
+ghost use Rattle.zarrs_shard_bytes.specs.InnerPlaces.{places_from};
+ghost use Rattle.zarrs_chain.specs.sharding.ShardWalk.{KeepsInner, kept_part};
+ghost use Rattle.zarrs_shard_bytes.specs.WrittenShard.{WritesPart};
 
 use crate::codec_chain::CodecChain;
 use crate::form::Form;
 use crate::representation::taken_form;
-use crate::sharding::fill_elements::repeats;
 use crate::sharding::kept_bytes::keeps_bytes;
-use crate::sharding::written_shard::WrittenShard;
 use std::alloc::{AllocError, Global};
 use zarrs_chunk::CodecError;
 use zarrs_codec::BytesToBytesCodecTraits;
+use zarrs_shard_bytes::fill_elements::repeats;
+use zarrs_shard_bytes::written_shard::WrittenShard;
 
 /// Whether the chain takes such chunks and hands on the bytes of their elements as they are.
 pub(crate) fn keeps_inner<B: BytesToBytesCodecTraits>(

@@ -2,8 +2,9 @@ use Rattle.std.proofs.Common.{◌≡◌, ◌++◌, ◌-◌, ◌∷◌, [], ℕ, 
 use Rattle.std.proofs.lemmas.List.{length-append, take_at}
 use Rattle.zarrs_array_bytes.specs.Pieces.{pieces_at}
 use Rattle.zarrs_chunk.specs.declared.codec_error.CodecError.{CodecError}
-use Rattle.zarrs_chain.specs.sharding.InnerPlaces.{places_from}
-use Rattle.zarrs_chain.specs.sharding.ShardWalk.{kept_part, written_with}
+use Rattle.zarrs_shard_bytes.specs.InnerPlaces.{places_from}
+use Rattle.zarrs_chain.specs.sharding.ShardWalk.{kept_part}
+use Rattle.zarrs_shard_bytes.specs.WrittenShard.{written_with}
 use Rattle.zarrs_chain.proofs.KeptInner.{given_as, kept_none, kept_some, kept_told, places_inside}
 use Rattle.zarrs_chain.proofs.sharding.kept_inner_chunk.write_kept.Goals as goal
 

@@ -1,0 +1,7 @@
+-- Lemmas of shards as bytes.
+pub mod Sizes
+pub mod FillTests
+pub mod InnerPlaces
+pub mod Rows
+pub mod LentRuns
+pub mod Bands
