@@ -61,7 +61,7 @@ taken_normal f inner index shape sizes type fill h =
     let known = from_ok (shard_represented f inner index shape sizes type fill) h in
     (shard_taken shape (codec_normal_element (plain_chain inner).array_to_bytes) (chain_representation f (plain_chain inner)) (chain_representation f (plain_chain index)) sizes type fill known.0 known.1).filled
 
--- ---- fewer elements, and the fill element alone
+-- ---- one element
 
 pub one_room : (type : ElementType) (sizes : List ℕ) → All is_positive sizes → sizes_fit type (product sizes) ≡ Ok tt → sizes_fit type 1 ≡ Ok tt
 one_room type sizes positive h = let one : 1 ≤ product sizes = omega (arith, positive_product sizes positive) in fewer_fit type 1 (product sizes) one h

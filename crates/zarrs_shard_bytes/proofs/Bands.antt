@@ -281,7 +281,7 @@ bands_found {A} found number first (suc (suc n) ∷ shape) (size ∷ sizes) p d 
     behind : (a b : ℕ) → b ≡ 0 → a ≡ a + b
     behind a b e = omega (arith, e)
 
--- ---- one inner chunk
+-- ---- one container more
 
 -- one container more
 pub chunks_on : (type : ElementType) (count : ℕ) (contents more : List Held) (content : Held) → more ≡ contents ++ content ∷ [] → chunks_of type count more ≡ chunks_of type count contents ++ elements type count content ∷ []

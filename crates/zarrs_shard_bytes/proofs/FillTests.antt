@@ -43,6 +43,8 @@ joined_same (x ∷ xs) ys (u ∷ us) vs e =
     let same : length xs ≡ length us = omega (arith, e) in
     ap (λ b. nat_eq x u && b) (joined_same xs ys us vs same) ∙ sym (and_nested (nat_eq x u) (pointwise nat_eq xs us) (pointwise nat_eq ys vs))
 
+-- ---- the parts of containers
+
 -- the parts that are lent, of whose bytes it doesn't matter who owns them
 abbrev pub variable_items : Held → Result (List ℕ × List ℕ) CodecError
 variable_items held = seen (λ parts. (parts.0.items, parts.1)) (variable_part held)

@@ -1,4 +1,4 @@
--- How many elements inner chunks have, and their chunk.
+-- How many elements and axes inner chunks have, and their chunk.
 use Rattle.std.proofs.Common.{◌≡◌, ℕ, zero, suc, ◌+◌, ◌*◌, ◌<◌, ◌≤◌, ◌^◌, nat_lt, Bool, true, false, List, Result, Ok, arith, refl, ◌%◌, nat_eq, [], ◌∷◌, length, ap, ◌∙◌}
 use Rattle.std.specs.List.{All}
 use Rattle.std.proofs.Math.Nat.{mul-le-mul_right}
@@ -32,7 +32,7 @@ inner_smaller shape sizes p positive d =
     let more = at_least (inner_chunk_count shape sizes) (product shape) some in
     omega (arith, more, cut_count shape sizes d)
 
--- ---- fewer elements, and the fill element alone
+-- ---- fewer elements
 
 less_fits : (fewer n size : ℕ) (test : Bool) → nat_lt (n * size) (2 ^ 64) ≡ test → fewer ≤ n → ◌≡◌ {A = Result (Unit {0}) CodecError} (demand test Overflow) (Ok tt) → nat_lt (fewer * size) (2 ^ 64) ≡ true
 less_fits fewer n size true e l h = let more = mul-le-mul_right size l in lt_test (fewer * size) (2 ^ 64) (omega (arith, more, from_lt_test (n * size) (2 ^ 64) e))
@@ -49,13 +49,12 @@ fewer_fit text fewer n l h = rw (less_counted fewer n (nat_lt (n + 1) (2 ^ 64)) 
 fewer_fit bytes fewer n l h = rw (less_counted fewer n (nat_lt (n + 1) (2 ^ 64)) refl l h) refl
 fewer_fit (optional type) fewer n l h = fewer_fit type fewer n l h
 
--- ---- an inner chunk is replaced
+-- ---- what the code counts
 
 pub count_is : (n count : ℕ) → checked_u64 n ≡ Ok n → Ok count ≡ checked_u64 n → count ≡ n
 count_is n count e h = ok_is count n (h ∙ e)
 
--- ---- the index
-
+-- where inner chunks divide a chunk, both have as many axes
 pub same_long : (shape sizes : List ℕ) → is_divided shape sizes ≡ true → length shape ≡ length sizes
 same_long [] [] h = refl
 same_long (part ∷ shape) (size ∷ sizes) h = ap suc (same_long shape sizes (second_true (nat_eq (size % part) 0) (is_divided shape sizes) h))
