@@ -44,6 +44,6 @@ found_calls calls count (Ok it) before after result counted = counted
 found_calls calls count (Err e) before after result counted = tt
 
 -- nothing is stated of a call that fails
-pub failed_calls : {C E T : Type 0} (calls : C → Option Calls) (known : Option ℕ) (before after : C) (e : E) → MakesKnownReads {C} {E} {T} calls known before after (Err e)
-failed_calls calls None before after e = tt
-failed_calls calls (Some n) before after e = tt
+pub failed_calls : {C E : Type 0} (T : Type 0) (calls : C → Option Calls) (known : Option ℕ) (before after : C) (e : E) → MakesKnownReads {T = T} calls known before after (Err e)
+failed_calls T calls None before after e = tt
+failed_calls T calls (Some n) before after e = tt

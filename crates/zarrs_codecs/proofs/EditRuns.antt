@@ -37,3 +37,10 @@ unwritten_left n old mid new e left (inr h) w =
     let one : new.writes ≡ count_if true mid.writes = ap (λ (s : StorageState). s.writes) h in
     let was : mid.writes ≡ count_more n old.writes = ap (λ (s : StorageState). s.writes) left in
     absurd (counts mid.writes (sym one ∙ w ∙ sym was))
+
+-- a writing call that failed behind so many accepted edits is one writing call more
+pub failed_writes : (n : ℕ) (old mid new : StorageState) (e : CodecError) → mid ≡ after_edits n mid.value old → apart_from_value new ≡ after_writing (refused e) mid → new.writes ≡ count_more (n + 1) old.writes
+failed_writes n old mid new e left failed =
+    let one : new.writes ≡ count_if true mid.writes = ap (λ (s : StorageState). s.writes) failed in
+    let was : mid.writes ≡ count_more n old.writes = ap (λ (s : StorageState). s.writes) left in
+    one ∙ ap (λ (k : ℕ). count_if true k) was ∙ one_more n old.writes ∙ ap (λ (k : ℕ). count_more k old.writes) (sym (add-one n))

@@ -1,5 +1,5 @@
 -- Edits of a stored chunk, one after another.
-use Rattle.std.specs.Prelude.{◌≡◌, ℕ, zero, suc, ◌+◌, Bool, true, false, Option, Some, None, IfNone, IfSome, List, [], ◌∷◌, take, Result, Ok, Err, IsOkAnd, All}
+use Rattle.std.specs.Prelude.{◌≡◌, ℕ, zero, suc, ◌+◌, Bool, true, false, Option, Some, None, IfNone, IfSome, is_some, List, [], ◌∷◌, take, Result, Ok, Err, IsOkAnd, All}
 use Rattle.std.specs.Option.{unwrap_or}
 use Rattle.zarrs_chunk.specs.Answer.{◌>>=◌, Excused, fault, memory_or_fault, seen}
 use Rattle.zarrs_chunk.specs.Indexer.{selection_of}
@@ -99,3 +99,8 @@ pub record RunsEdits {B : Type 0} (f : BytesCodecs B) (form : ChunkForm B) (atom
   pub cause : IfSome outcome.refusal (λ e. Excused (excuse_at edits outcome.done e) (all_made (edited_store f form) (take (outcome.done + 1) edits) before.value ≡ Err e))
   pub left : IsOkAnd (all_made (edited_store f form) (take outcome.done edits) before.value) (λ value. LeavesEdits outcome.refusal (after_edits outcome.done value before) after)
   pub kept_if_atomic : atomic ≡ true → all_made (edited_store f form) (take outcome.done edits) before.value ≡ Ok after.value
+
+-- where the handle has sure bytes, a failure that ends a list of edits is that of a writing call, so no call failed that reads the value
+abbrev pub FailsInAWrite : StorageState → StorageState → EditOutcome → Type 0
+FailsInAWrite before after outcome =
+    is_some before.sure ≡ true → IfSome outcome.refusal (λ e. fault e ≡ true → after.writes ≡ count_more (outcome.done + 1) before.writes)

@@ -3,6 +3,7 @@ ghost use Rattle.std.specs.Prelude.{◌≡◌, ◌&&◌, Ok, Err, IfOk, IfErr, I
 ghost use Rattle.std.proofs.Props.{props};
 ghost use Rattle.zarrs_chunk.specs.Indexer.{selection_of};
 ghost use Rattle.zarrs_array_bytes.specs.Tight.{IsTight};
+ghost use Rattle.zarrs_codec.specs.Calls.{after_reads, ok_count};
 ghost use Rattle.zarrs_codec.specs.HandleCalls.{NeverFailsIf, Tells};
 ghost use Rattle.zarrs_chain_meaning.specs.Chain.{chain_reads};
 ghost use Rattle.zarrs_codecs.specs.ChunkRead.{PlansRead, decodes_parts, ReadsStoredChunk, WhereSureBy};
@@ -144,6 +145,8 @@ impl<'a, H: BytesPartialDecoderTraits, B: BytesToBytesCodecTraits> ArrayPartialD
         ensures sure { NeverFailsIf (is_some (H.state (handle_of self.old)).sure) result }
         ensures no_fault_if_cached { NeverFailsIf (is_cached self.old) result }
         ensures alone { is_cached self.old ≡ true → handle_of self.new ≡ handle_of self.old }
+        ensures counted { is_cached self.old ≡ false → H.calls (handle_of self.new)
+            ≡ after_reads (ok_count result) (H.calls (handle_of self.old)) }
         ensures left { OnlyReads (λ it. H.state (handle_of it)) (λ it. H.lent (handle_of it)) decoder_form
             self.old self.new result }
         ensures cache_kept { is_cached self.new ≡ is_cached self.old }

@@ -5,6 +5,7 @@ ghost use Rattle.zarrs_chunk.specs.ChunkShape.{product};
 ghost use Rattle.zarrs_chunk.specs.Indexer.{selection_of};
 ghost use Rattle.zarrs_chunk.specs.Runs.{joined_runs, AreApart, places_in};
 ghost use Rattle.zarrs_array_bytes.specs.Tight.{IsTight};
+ghost use Rattle.zarrs_codec.specs.Calls.{after_reads, ok_count};
 ghost use Rattle.zarrs_codec.specs.HandleCalls.{NeverFailsIf, Tells};
 ghost use Rattle.zarrs_codec.specs.StorageState.{after_reading};
 ghost use Rattle.zarrs_codecs.specs.ChunkRead.{decodes_parts, ReadsStoredChunk, WhereSureBy};
@@ -246,6 +247,8 @@ impl<'a, B: BytesToBytesCodecTraits> ChunkCoder<'a, B> {
             (is_source_stored (reader_source self.now (H.state handle.old).value)) }
         ensures sure { NeverFailsIf (is_some (H.state handle.old).sure) result }
         ensures alone { LeavesAlone self.now handle.old handle.new }
+        ensures counted { is_cache self.now.cache ≡ false
+            → H.calls handle.new ≡ after_reads (ok_count result) (H.calls handle.old) }
         ensures left { H.state handle.new ≡ after_reading result (H.state handle.old) }
         ensures same_reference { H.lent handle.new ≡ H.lent handle.old }
         ensures no_fault_if_cached { NeverFailsIf (is_cache self.now.cache) result }

@@ -4,6 +4,7 @@ ghost use Rattle.zarrs_chunk.specs.Answer.{Answers, fault};
 ghost use Rattle.zarrs_chunk.specs.Indexer.{selection_of};
 ghost use Rattle.zarrs_array_bytes.specs.Tight.{IsTight};
 ghost use Rattle.zarrs_codec.specs.BytesToBytesCodec.{AreBytes};
+ghost use Rattle.zarrs_codec.specs.Calls.{after_reads, ok_count};
 ghost use Rattle.zarrs_codec.specs.HandleCalls.{NeverFailsIf, Tells};
 ghost use Rattle.zarrs_chain_meaning.specs.Chain.{chain_reads, chain_writes};
 ghost use Rattle.zarrs_chain_meaning.specs.Laws.{IsChainOfMappings};
@@ -108,6 +109,8 @@ impl<'a, H: BytesPartialEncoderTraits, B: BytesToBytesCodecTraits> ArrayPartialE
     pub fn exists(&mut self) -> Result<bool, CodecError>
         ensures answer { Tells result (is_some (H.state (encoder_handle self.old)).value) }
         ensures sure { NeverFailsIf (is_some (H.state (encoder_handle self.old)).sure) result }
+        ensures counted { H.calls (encoder_handle self.new)
+            ≡ after_reads (ok_count result) (H.calls (encoder_handle self.old)) }
         ensures left { OnlyReads (λ it. H.state (encoder_handle it)) (λ it. H.lent (encoder_handle it))
             encoder_form self.old self.new result }
     {

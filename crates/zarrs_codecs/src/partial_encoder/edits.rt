@@ -1,6 +1,8 @@
 //! Lists of edits of a chunk.
-ghost use Rattle.std.specs.Prelude.{◌≡◌, ◌≤◌, ◌==◌, is_none, length};
-ghost use Rattle.zarrs_codecs.specs.Edits.{EditHasBytes, RunsEdits};
+ghost use Rattle.std.specs.Prelude.{◌≡◌, ◌≤◌, ◌==◌, is_none, is_some, length, true};
+ghost use Rattle.zarrs_bytes.specs.PartialWrite.{FailsByWriting};
+ghost use Rattle.zarrs_codecs.specs.ChunkRead.{form_in_place};
+ghost use Rattle.zarrs_codecs.specs.Edits.{EditHasBytes, FailsInAWrite, RunsEdits};
 ghost use Rattle.zarrs_codecs.specs.PartialEncoder.{EncoderEdits, encoder_form, encoder_handle};
 ghost use Rattle.zarrs_codec.specs.CodersOverHandles.{OnlyWrites};
 
@@ -38,6 +40,8 @@ fn apply<H: BytesPartialEncoderTraits, B: BytesToBytesCodecTraits>(
     ensures answer { EncoderEdits H.state encoder.old encoder.new edit.now result }
     ensures left { OnlyWrites (λ it. H.state (encoder_handle it)) (λ it. H.lent (encoder_handle it))
         encoder_form H.atomic encoder.old encoder.new result }
+    ensures unread { is_some (form_in_place (encoder_form encoder.old)) ≡ true
+        → FailsByWriting H.state (encoder_handle encoder.old) (encoder_handle encoder.new) result }
     ensures edit_bytes { EditHasBytes edit.now }
 {
     match edit {
@@ -54,7 +58,8 @@ fn apply<H: BytesPartialEncoderTraits, B: BytesToBytesCodecTraits>(
 /// the chunk as the accepted edits leave it, or nothing where the last of them erases. Each
 /// accepted edit makes one writing call. One that is rejected makes none, or the one that rejected
 /// it, and leaves what the accepted ones left, but where that call is rejected and the handle isn't
-/// atomic. It takes no memory of its own.
+/// atomic. Over `bytes` without bytes-to-bytes codecs no edit reads the value. It takes no memory of
+/// its own.
 ///
 /// Errors of an edit are those of `ArrayPartialEncoder::partial_encode`, and of an erase `Storage`
 /// alone. From nothing, or from a value that is written for a chunk, an edit is rejected, a lack of
@@ -71,6 +76,8 @@ pub fn run_edits<H: BytesPartialEncoderTraits, B: BytesToBytesCodecTraits>(
     ensures all_done { is_none result.refusal ≡ (result.done == length edits.now) }
     ensures edits { RunsEdits B.functions (encoder_form encoder.old) H.atomic (H.state
         (encoder_handle encoder.old)) (H.state (encoder_handle encoder.new)) edits.now result }
+    ensures unread { is_some (form_in_place (encoder_form encoder.old)) ≡ true → FailsInAWrite
+        (H.state (encoder_handle encoder.old)) (H.state (encoder_handle encoder.new)) result }
     ensures same_reference { H.lent (encoder_handle encoder.new) ≡ H.lent (encoder_handle encoder.old) }
     ensures form_kept { encoder_form encoder.new ≡ encoder_form encoder.old }
 {

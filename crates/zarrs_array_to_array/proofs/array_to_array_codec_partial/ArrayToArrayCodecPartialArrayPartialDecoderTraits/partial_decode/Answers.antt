@@ -94,4 +94,4 @@ returns-in-Ok-clause-counted g c =
     passed_calls _ counted (image_of coordinates asked stage.shape selection) (selection_of c.in-Ok.encoded) _ _ _ c.in-Ok.ensures.answer.is c.partial_decode.ensures.counted
 
 pub returns-in-Err-clause-counted : goal.returns-in-Err-clause-counted
-returns-in-Err-clause-counted g c = failed_calls _ _ _ _ c.in-Err.error
+returns-in-Err-clause-counted g c = failed_calls Held _ _ _ _ c.in-Err.error

@@ -14,3 +14,6 @@ returns-in-Erase-clause-left g c =
       same_reference = left.same_reference;
       form_kept = left.form_kept;
     }
+
+pub returns-in-Erase-clause-unread : goal.returns-in-Erase-clause-unread
+returns-in-Erase-clause-unread g c = λ in_place sure failed. c.erase.ensures.one_write

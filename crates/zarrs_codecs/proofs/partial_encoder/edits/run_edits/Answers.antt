@@ -1,11 +1,13 @@
-use Rattle.std.proofs.Common.{◌≡◌, ◌<◌, false, length, take, Ok, Err, arith, ap, sym, ◌∙◌, subst}
+use Rattle.std.proofs.Common.{◌≡◌, ◌<◌, false, true, length, take, Ok, Err, is_some, arith, ap, sym, ◌∙◌, subst}
 use Rattle.std.specs.List.{All}
 use Rattle.std.proofs.lemmas.List.{take_all}
 use Rattle.std.proofs.lemmas.List.Elements.{All-more}
 use Rattle.zarrs_codecs.specs.Edits.{edited_store, excuse_at, EditHasBytes, all_made}
 use Rattle.zarrs_codecs.specs.PartialEncoder.{encoder_form, encoder_handle}
 use Rattle.zarrs_codecs.proofs.EditLaws.{edits_accepted, edits_more, edits_written, excuse_is, more_refused}
-use Rattle.zarrs_codecs.proofs.EditRuns.{left_more, refused_left, unwritten_left}
+use Rattle.zarrs_codec.specs.StorageState.{StorageState}
+use Rattle.zarrs_codecs.specs.ChunkRead.{form_in_place}
+use Rattle.zarrs_codecs.proofs.EditRuns.{failed_writes, left_more, refused_left, unwritten_left}
 use Rattle.zarrs_codecs.proofs.PartialReads.{is_readable}
 use Rattle.zarrs_codecs.proofs.partial_encoder.edits.run_edits.Goals as goal
 
@@ -101,3 +103,18 @@ returns-clause-edits g c =
       left = rw inv.ran inv.left;
       kept_if_atomic = λ atomic. inv.ran;
     }
+
+pub returns-in-Err-clause-unread : goal.returns-in-Err-clause-unread
+returns-in-Err-clause-unread g c =
+    let inv = c.loop-edit.invariant in
+    let D = g.H.BytesPartialDecoderTraits in
+    let old = D.state (encoder_handle c.args.encoder.now) in
+    let here = D.state (encoder_handle c.loop-edit.encoder) in
+    let last = D.state (encoder_handle c.apply.new.encoder) in
+    λ in_place sure failed.
+        let kept = subst (λ form. is_some (form_in_place form) ≡ true) (sym inv.form_kept) in_place in
+        let sure_here = subst (λ it. is_some it ≡ true) (sym (ap (λ (s : StorageState). s.sure) inv.left)) sure in
+        failed_writes c.loop-edit.done old here last c.in-Err.refusal inv.left (c.in-Err.ensures.unread kept sure_here failed)
+
+pub returns-clause-unread : goal.returns-clause-unread
+returns-clause-unread g c = λ in_place sure. tt
