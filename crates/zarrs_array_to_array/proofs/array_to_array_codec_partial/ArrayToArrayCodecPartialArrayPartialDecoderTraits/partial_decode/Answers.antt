@@ -3,7 +3,7 @@ use Rattle.zarrs_chunk.specs.Indexer.{selection_of}
 use Rattle.zarrs_array_bytes.specs.Held.{Held}
 use Rattle.zarrs_array_bytes.specs.Validity.{Holds}
 use Rattle.zarrs_chunk.specs.Answer.{AnswersBy, memory}
-use Rattle.zarrs_codec.specs.ArrayReader.{mapped_reader}
+use Rattle.zarrs_codec.specs.ArrayReader.{image_calls, mapped_reader}
 use Rattle.zarrs_codec.specs.ArrayWriter.{mapped_writer}
 use Rattle.zarrs_codec.specs.MappedSelection.{image_of}
 use Rattle.zarrs_codec.proofs.CallLemmas.{failed_calls}
@@ -91,7 +91,13 @@ returns-in-Ok-clause-counted g c =
     let asked = g.C.ArrayToArrayCodecTraits.asked stage.codec stage.shape in
     let counted = g.I.ArrayPartialDecoderTraits.read_calls stage.input in
     let selection = selection_of c.args.indexer.now in
-    passed_calls _ counted (image_of coordinates asked stage.shape selection) (selection_of c.in-Ok.encoded) _ _ _ c.in-Ok.ensures.answer.is c.partial_decode.ensures.counted
+    passed_calls g.I.ArrayPartialDecoderTraits.calls counted (image_of coordinates asked stage.shape selection) (selection_of c.in-Ok.encoded) stage.input c.partial_decode.new.self c.partial_decode.result c.in-Ok.ensures.answer.is c.partial_decode.ensures.counted
 
 pub returns-in-Err-clause-counted : goal.returns-in-Err-clause-counted
-returns-in-Err-clause-counted g c = failed_calls Held _ _ _ _ c.in-Err.error
+returns-in-Err-clause-counted g c =
+    let stage = c.args.self.now in
+    let coordinates = g.C.ArrayToArrayCodecTraits.coordinates stage.codec stage.shape in
+    let asked = g.C.ArrayToArrayCodecTraits.asked stage.codec stage.shape in
+    let counted = g.I.ArrayPartialDecoderTraits.read_calls stage.input in
+    let image = image_of coordinates asked stage.shape (selection_of c.args.indexer.now) in
+    failed_calls Held g.I.ArrayPartialDecoderTraits.calls (image_calls counted image) stage.input stage.input c.in-Err.error

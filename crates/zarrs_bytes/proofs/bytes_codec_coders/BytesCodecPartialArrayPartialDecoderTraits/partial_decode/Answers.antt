@@ -9,4 +9,4 @@ returns-clause-counted g c =
     let decoder = c.args.self.now in
     let calls = coder_calls g.H.BytesPartialDecoderTraits.calls in
     let count = read_count g.H.BytesPartialDecoderTraits.state decoder in
-    found_calls calls count (places_of (selection_of c.args.indexer.now) decoder.shape) _ _ _ c.partial_decode.ensures.counted
+    found_calls calls count (places_of (selection_of c.args.indexer.now) decoder.shape) decoder c.partial_decode.new.self c.partial_decode.result c.partial_decode.ensures.counted
