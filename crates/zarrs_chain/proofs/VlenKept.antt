@@ -33,7 +33,7 @@ use Rattle.zarrs_chain_meaning.proofs.VlenOffsets.{index_holds, elements_long}
 use Rattle.zarrs_bytes.proofs.Coding.{ok}
 use Rattle.zarrs_chain_meaning.proofs.ArraySteps.{err, ok_no_err}
 use Rattle.zarrs_chain_meaning.proofs.NestedEncode.{same_bytes}
-use Rattle.zarrs_shard_bytes.proofs.FillTests.{joined_same}
+use Rattle.zarrs_shard_bytes.proofs.SameBytes.{joined_same}
 use Rattle.zarrs_packbits.specs.NormalForm as packbits
 
 -- ---- the same bytes, element by element and joined

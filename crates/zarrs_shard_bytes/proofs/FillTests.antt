@@ -28,20 +28,7 @@ use Rattle.zarrs_chunk.proofs.Inside.{from_lt_test}
 use Rattle.zarrs_codec.proofs.Fences.{first_true, second_true}
 use Rattle.zarrs_chain_meaning.specs.sharding.Sharding.{is_same_element, is_left_out}
 use Rattle.zarrs_chain_meaning.proofs.ArraySteps.{ok_is, ok_no_err}
-
--- ---- the same bytes, element by element and joined
-
-and_nested : (a b c : Bool) → (a && b) && c ≡ a && (b && c)
-and_nested true b c = refl
-and_nested false b c = refl
-
-pub joined_same : (xs ys us vs : List ℕ) → length xs ≡ length us → pointwise nat_eq (xs ++ ys) (us ++ vs) ≡ pointwise nat_eq xs us && pointwise nat_eq ys vs
-joined_same [] ys [] vs e = refl
-joined_same [] ys (u ∷ us) vs e = absurd (omega (arith, e))
-joined_same (x ∷ xs) ys [] vs e = absurd (omega (arith, e))
-joined_same (x ∷ xs) ys (u ∷ us) vs e =
-    let same : length xs ≡ length us = omega (arith, e) in
-    ap (λ b. nat_eq x u && b) (joined_same xs ys us vs same) ∙ sym (and_nested (nat_eq x u) (pointwise nat_eq xs us) (pointwise nat_eq ys vs))
+use Rattle.zarrs_shard_bytes.proofs.SameBytes.{joined_same}
 
 -- ---- the parts of containers
 

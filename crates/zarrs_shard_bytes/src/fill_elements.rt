@@ -9,11 +9,13 @@ ghost use Rattle.zarrs_array_bytes.specs.Update.{cuts};
 ghost use Rattle.zarrs_data_type.specs.FillValue.{fill_fits, front_of, is_null as is_null_of};
 ghost use Rattle.zarrs_shard_bytes.specs.FillElements.{TellsFill, Repeats};
 
+use crate::same_bytes::is_same;
 use zarrs_array_bytes::ArrayBytes;
 use zarrs_chunk::CodecError;
 use zarrs_data_type::DataType;
 
-/// Whether elements of the item's size are all the item.
+/// Whether elements of the item's size are all the item: the first one is, and each other one is as
+/// the one before it.
 pub fn repeats(bytes: &[u8], item: &[u8]) -> bool
     requires sized { 0 < length item.now }
     ensures value { Repeats item.now bytes.now result }
@@ -22,7 +24,7 @@ pub fn repeats(bytes: &[u8], item: &[u8]) -> bool
     if bytes.len() < size {
         return bytes.is_empty();
     }
-    &bytes[..size] == item && bytes[size..] == bytes[..bytes.len() - size]
+    &bytes[..size] == item && is_same(&bytes[size..], &bytes[..bytes.len() - size])
 }
 
 /// The bytes of the element at a place.

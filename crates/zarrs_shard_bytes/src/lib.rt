@@ -9,5 +9,6 @@ pub mod inner_places;
 pub mod joined_bands;
 pub mod joined_rows;
 mod lent_run;
+mod same_bytes;
 pub mod value_room;
 pub mod written_shard;

@@ -23,7 +23,7 @@ fn are_copies(bytes: &[u8], from: usize, to: usize, count: usize, item: &[u8]) -
 
 /// Whether the `count` elements from `first` on are about all the item: those between the offsets, or,
 /// where there are none, those of the item's size.
-fn run_is_fill(
+fn are_fill(
     bytes: &[u8],
     offsets: Option<&[usize]>,
     first: usize,
@@ -46,24 +46,45 @@ fn run_is_fill(
     }
 }
 
-/// Whether this is so at all runs, each run further on by so many elements.
-fn runs_are_fill(
+/// How many elements of a run are looked at.
+const LOOKED_AT: u64 = 64;
+
+/// Whether this is so of the first elements of one of the runs, which is further on by so many.
+fn run_is_fill(
+    bytes: &[u8],
+    offsets: Option<&[usize]>,
+    start: u64,
+    runs: &[(u64, u64)],
+    index: usize,
+    item: &[u8],
+) -> bool {
+    match runs.get(index) {
+        Some(run) => {
+            let first = start.wrapping_add(run.0) as usize;
+            are_fill(bytes, offsets, first, run.1.min(LOOKED_AT) as usize, item)
+        }
+        None => true,
+    }
+}
+
+/// Whether this is so of the first run, of one in the middle and of the last one. Which inner chunks are
+/// left out is found as they are written, and a value that has more than was guessed grows: so it is
+/// enough that few inner chunks begin, go on and end as blank ones do and aren't, and no blank one is
+/// compared as a whole twice.
+fn seems_blank(
     bytes: &[u8],
     offsets: Option<&[usize]>,
     start: u64,
     runs: &[(u64, u64)],
     item: &[u8],
 ) -> bool {
-    for run in runs {
-        let first = start.wrapping_add(run.0) as usize;
-        if !run_is_fill(bytes, offsets, first, run.1 as usize, item) {
-            return false;
-        }
-    }
-    true
+    let last = runs.len().saturating_sub(1);
+    run_is_fill(bytes, offsets, start, runs, 0, item)
+        && run_is_fill(bytes, offsets, start, runs, last / 2, item)
+        && run_is_fill(bytes, offsets, start, runs, last, item)
 }
 
-/// How many inner chunks have the fill element alone, about. Errors: `OutOfMemory`.
+/// How many inner chunks seem to have the fill element alone. Errors: `OutOfMemory`.
 fn blank_count(
     alloc: Global,
     bytes: &[u8],
@@ -84,7 +105,7 @@ fn blank_count(
     let mut blank = 0usize;
     for number in 0..grid.num_elements()? {
         let start = first_place(sizes, parts, counts, number);
-        if runs_are_fill(bytes, offsets, start, runs.as_slice(), item) {
+        if seems_blank(bytes, offsets, start, runs.as_slice(), item) {
             blank = blank.saturating_add(1);
         }
     }

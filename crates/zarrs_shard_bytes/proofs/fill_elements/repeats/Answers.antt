@@ -11,7 +11,7 @@ returns-then-eq c = record {
       let item = c.args.item.now in
       let size = length item in
       let first : pointwise nat_eq (take size items) item ≡ true = search rules in
-      let second : c.eq-then-eq.result ≡ pointwise nat_eq (drop size items) (take (length items - size) items) = c.eq-then-eq.ensures ∙ ap (λ (xs : List ℕ). pointwise nat_eq xs (take (length items - size) items)) (take_all (length items - size) (drop size items) (omega (arith, length-drop size items))) in
+      let second : c.is_same.result ≡ pointwise nat_eq (drop size items) (take (length items - size) items) = c.is_same.ensures.value ∙ ap (λ (xs : List ℕ). pointwise nat_eq xs (take (length items - size) items)) (take_all (length items - size) (drop size items) (omega (arith, length-drop size items))) in
       second ∙ ap (λ b. b && pointwise nat_eq (drop size items) (take (length items - size) items)) (sym first) ∙ repeated size count item items refl long (omega arith) c.requires.sized;
 }
 
