@@ -3,7 +3,7 @@ use Rattle.std.proofs.Common.{◌≡◌, ℕ, List, [], Ok, Err, refl}
 use Rattle.zarrs_chunk.specs.declared.codec_error.CodecError.{CodecError}
 use Rattle.zarrs_array_bytes.specs.Held.{Held, flen, vlen, masked}
 use Rattle.zarrs_array_bytes.specs.Parts.{fixed_items}
-use Rattle.zarrs_chain.proofs.FillTests.{optional_items, variable_items}
+use Rattle.zarrs_shard_bytes.proofs.FillTests.{optional_items, variable_items}
 use Rattle.zarrs_c_calls.specs.Buffers.{buffers, crossed, masked_buffers}
 
 -- under a mask: with the mask in front

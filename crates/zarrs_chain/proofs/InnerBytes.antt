@@ -27,7 +27,7 @@ use Rattle.zarrs_chain_meaning.specs.sharding.Sharding.{Span, inner_chunk_at, is
 use Rattle.zarrs_chain_meaning.specs.vlen.VlenSteps.{lent_bytes}
 use Rattle.zarrs_chain_meaning.proofs.ArraySteps.{ok_is}
 use Rattle.zarrs_chain_meaning.proofs.VlenOffsets.{fixed_held}
-use Rattle.zarrs_chain.specs.sharding.ShardRows.{chunks_in}
+use Rattle.zarrs_shard_bytes.specs.Rows.{chunks_in}
 use Rattle.zarrs_chain.proofs.ShardDecode.{spans_behind}
 use Rattle.zarrs_chain.proofs.ShardReading.{filled_is}
 use Rattle.zarrs_bytes.specs.PartialWrite.{filled_chunk}

@@ -1,11 +1,11 @@
 -- The bytes of an inner chunk, straight from those of the chunk.
-use Rattle.std.proofs.Common.{◌≡◌, ℕ, zero, suc, ◌+◌, ◌*◌, ◌-◌, ◌<◌, ◌≤◌, ◌++◌, nat_eq, Bool, true, false, Some, None, Result, List, [], ◌∷◌, length, map, take, drop, get_or, arith, refl, ap, sym, subst, ◌∙◌}
+use Rattle.std.proofs.Common.{◌≡◌, ℕ, zero, suc, ◌+◌, ◌*◌, ◌-◌, ◌<◌, ◌≤◌, ◌++◌, ◌&&◌, nat_eq, Bool, true, false, Some, None, Result, List, [], ◌∷◌, length, map, take, drop, get_or, arith, refl, ap, sym, subst, ◌∙◌}
 use Rattle.std.specs.Cmp.Lexicographic.{pointwise}
 use Rattle.std.specs.List.{All, flat_map, list_all, range_with_len, between}
-use Rattle.std.proofs.lemmas.List.{drop_at, length-append, length-map, take_all, map-append}
+use Rattle.std.proofs.lemmas.List.{at_drop_more, length-map, map-append}
 use Rattle.std.proofs.lemmas.List.Concat.{flat_map-append}
-use Rattle.std.proofs.lemmas.List.Elements.{All-append, All-cons, All-head, All-nil, All-tail}
-use Rattle.std.proofs.lemmas.List.Folds.{list_all-map}
+use Rattle.std.proofs.lemmas.List.Elements.{All-cons, All-head, All-nil, All-tail}
+use Rattle.std.proofs.lemmas.List.Folds.{list_all-append, list_all-map}
 use Rattle.zarrs_chunk.specs.Answer.{Gives}
 use Rattle.zarrs_chunk.specs.declared.codec_error.CodecError.{CodecError}
 use Rattle.zarrs_chunk.specs.Runs.{joined_runs}
@@ -16,10 +16,10 @@ use Rattle.zarrs_array_bytes.proofs.ElementLemmas.{length_piece}
 use Rattle.zarrs_array_bytes.proofs.OffsetLemmas.{flat_map-concat}
 use Rattle.zarrs_array_bytes.proofs.Pieces.{AllSized, length-concat, pieces-concat}
 use Rattle.zarrs_array_bytes.proofs.RunLemmas.{pieces_of_run, places_below}
-use Rattle.zarrs_chain.specs.sharding.InnerPlaces.{places_from}
+use Rattle.zarrs_shard_bytes.specs.InnerPlaces.{places_from}
 use Rattle.zarrs_chain.specs.sharding.ShardWalk.{are_item, kept_part}
-use Rattle.zarrs_chain.specs.sharding.ShardingCalls.{Repeats}
-use Rattle.zarrs_chain.proofs.InnerPlaces.{moved_end, range_moved, runs_moved}
+use Rattle.zarrs_shard_bytes.specs.FillElements.{Repeats}
+use Rattle.zarrs_shard_bytes.proofs.InnerPlaces.{moved_end, range_moved, runs_moved}
 
 -- ---- run by run
 
@@ -54,15 +54,6 @@ range_inside size len start (suc count) h =
     let rest : (start + 1 + count) * size ≡ start * size + size + count * size = omega arith in
     All-cons (EndsInside size len) start (range_with_len (start + 1) count) (omega (arith, h, split)) (range_inside size len (start + 1) count (omega (arith, h, split, rest)))
 
-pub places_inside : (size len start : ℕ) (runs : List (ℕ × ℕ)) → All (λ run. (start + (run.0 + run.1)) * size ≤ len) runs → All (EndsInside size len) (places_from start runs)
-places_inside size len start [] h = All-nil (EndsInside size len)
-places_inside size len start (run ∷ runs) h =
-    let first : (start + (run.0 + run.1)) * size ≤ len = All-head (λ (r : ℕ × ℕ). (start + (r.0 + r.1)) * size ≤ len) run runs h in
-    let same : (start + run.0 + run.1) * size ≡ (start + (run.0 + run.1)) * size = omega arith in
-    let front : All (EndsInside size len) (map (λ place. start + place) (range_with_len run.0 run.1)) = subst (All (EndsInside size len)) (sym (range_moved start run.0 run.1)) (range_inside size len (start + run.0) run.1 (omega (arith, first, same))) in
-    subst (All (EndsInside size len)) (sym (map-append (λ place. start + place) (range_with_len run.0 run.1) (joined_runs runs)))
-    (All-append (EndsInside size len) (map (λ place. start + place) (range_with_len run.0 run.1)) (places_from start runs) front (places_inside size len start runs (All-tail (λ (r : ℕ × ℕ). (start + (r.0 + r.1)) * size ≤ len) run runs h)))
-
 pieces_whole : (size : ℕ) (items places : List ℕ) → All (EndsInside size (length items)) places → AllSized size (map (piece size items) places)
 pieces_whole size items [] h = tt
 pieces_whole size items (place ∷ places) h =
@@ -86,14 +77,28 @@ gathered_told item items places told h tells =
     ∙ ap (list_all (λ part. pointwise nat_eq part item)) (gathered_pieces (length item) items places h)
     ∙ list_all-map (λ part. pointwise nat_eq part item) (piece (length item) items) places
 
--- what is found of the bytes behind those that were there
-pub kept_told : (item bytes places old out : List ℕ) (offset : ℕ) (told : Bool) → All (EndsInside (length item) (length bytes)) places → out ≡ old ++ pieces_at (length item) bytes places → offset ≡ length old → Repeats item (take (length out - offset) (drop offset out)) told → told ≡ are_item item bytes places
-kept_told item bytes places old out offset told inside e o tells =
-    let part = pieces_at (length item) bytes places in
-    let behind : drop offset out ≡ part = ap (drop offset) e ∙ drop_at old part offset (sym o) in
-    let count : length part ≤ length out - offset = omega (arith, ap length e, length-append old part, o) in
-    let tail : take (length out - offset) (drop offset out) ≡ part = ap (take (length out - offset)) behind ∙ take_all (length out - offset) part count in
-    gathered_told item bytes places told inside (subst (λ (xs : List ℕ). Repeats item xs told) tail tells)
+-- what is found of the bytes of a run is so of its elements
+run_told : (item bytes : List ℕ) (start count : ℕ) (told : Bool) → (start + count) * length item ≤ length bytes → Repeats item (between (start * length item) (start * length item + count * length item) bytes) told
+    → told ≡ are_item item bytes (range_with_len start count)
+run_told item bytes start count told inside tells =
+    gathered_told item bytes (range_with_len start count) told (range_inside (length item) (length bytes) start count inside)
+    (subst (λ (xs : List ℕ). Repeats item xs told) (sym (pieces_of_run (length item) bytes start count)) tells)
+
+-- the elements of a run and of those behind it
+pub runs_told : (item bytes : List ℕ) (start : ℕ) (runs : List (ℕ × ℕ)) (i : ℕ) (told : Bool) → i < length runs
+    → (start + ((get_or runs i (0, 0)).0 + (get_or runs i (0, 0)).1)) * length item ≤ length bytes
+    → Repeats item (between ((start + (get_or runs i (0, 0)).0) * length item) ((start + (get_or runs i (0, 0)).0) * length item + (get_or runs i (0, 0)).1 * length item) bytes) told
+    → are_item item bytes (places_from start (drop i runs)) ≡ told && are_item item bytes (places_from start (drop (i + 1) runs))
+runs_told item bytes start runs i told below inside tells =
+    let run = get_or runs i (0, 0) in
+    let rest = drop (i + 1) runs in
+    let test = λ (place : ℕ). pointwise nat_eq (piece (length item) bytes place) item in
+    let same : (start + run.0 + run.1) * length item ≡ (start + (run.0 + run.1)) * length item = omega arith in
+    let here = run_told item bytes (start + run.0) run.1 told (omega (arith, inside, same)) tells in
+    at_drop_more (λ (rs : List (ℕ × ℕ)). are_item item bytes (places_from start rs)) runs i (0, 0) below
+    ∙ ap (are_item item bytes) (map-append (λ place. start + place) (range_with_len run.0 run.1) (joined_runs rest) ∙ ap (λ (ps : List ℕ). ps ++ places_from start rest) (range_moved start run.0 run.1))
+    ∙ list_all-append test (range_with_len (start + run.0) run.1) (places_from start rest)
+    ∙ ap (λ b. b && are_item item bytes (places_from start rest)) (sym here)
 
 pub kept_none : (item bytes places : List ℕ) → are_item item bytes places ≡ true → kept_part item bytes places ≡ None
 kept_none item bytes places e = rw e refl

@@ -51,7 +51,7 @@ use Rattle.zarrs_chain.specs.ChainView.{plain_chain}
 use Rattle.zarrs_chain.specs.declared.codec_chain.CodecChain.{CodecChain}
 use Rattle.zarrs_chain.specs.sharding.ShardWalk.{KeepsInner, are_item, inner_part, kept_part}
 use Rattle.zarrs_chain.specs.sharding.ShardingCalls.{KeepsAll}
-use Rattle.zarrs_chain.proofs.FillTests.{fixed_so, fixed_tested, is_item}
+use Rattle.zarrs_shard_bytes.proofs.FillTests.{fixed_so, fixed_tested, is_item}
 use Rattle.zarrs_chain.proofs.KeptBytes.{none_is}
 use Rattle.zarrs_chain.proofs.KeptInner.{EndsInside, gathered_long, gathered_pieces}
 use Rattle.zarrs_chain.proofs.OptionalAt.{ok_of}

@@ -7,15 +7,12 @@ pub mod OptionalAt
 pub mod OptionalRoom
 pub mod KeepsAll
 pub mod NormalForms
-pub mod FillTests
 pub mod LeftOut
 pub mod ShardAt
 pub mod ShardForms
 pub mod ShardIndex
 pub mod ShardEncode
 pub mod ShardDecode
-pub mod ShardRows
-pub mod LentRuns
 pub mod ShardBands
 pub mod ShardRead
 pub mod ShardReading
@@ -35,6 +32,5 @@ pub mod BytesBehind
 pub mod FrontWrites
 pub mod AloneReads
 pub mod KeptBytes
-pub mod InnerPlaces
 pub mod KeptInner
 pub mod KeptParts

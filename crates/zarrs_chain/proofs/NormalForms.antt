@@ -50,7 +50,7 @@ use Rattle.zarrs_chain.specs.declared.optional.optional_codec.OptionalCodec.{Opt
 use Rattle.zarrs_chain.specs.declared.sharding.sharding_codec.ShardingCodec.{ShardingCodec, out-ShardingCodec}
 use Rattle.zarrs_chain.specs.declared.vlen.vlen_codec.VlenCodec.{VlenCodec, out-VlenCodec}
 use Rattle.zarrs_chain.specs.sharding.ShardingCalls.{KeepsAll, is_overflow}
-use Rattle.zarrs_chain.proofs.FillTests.{optional_so}
+use Rattle.zarrs_shard_bytes.proofs.FillTests.{optional_so}
 use Rattle.zarrs_chain.proofs.VlenEncode.{variable_is}
 use Rattle.zarrs_chain.proofs.VlenKept.{map_same}
 

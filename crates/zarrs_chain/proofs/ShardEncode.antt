@@ -24,7 +24,8 @@ use Rattle.zarrs_chain_meaning.proofs.InnerChunks.{inner_chunks_long}
 use Rattle.zarrs_chain_meaning.proofs.ShardNormal.{numbers_long}
 use Rattle.zarrs_chain.specs.ChainView.{plain_chain}
 use Rattle.zarrs_chain.specs.declared.codec_chain.CodecChain.{CodecChain}
-use Rattle.zarrs_chain.specs.sharding.ShardWalk.{inner_part, with_index, written_behind, written_with}
+use Rattle.zarrs_chain.specs.sharding.ShardWalk.{inner_part, written_behind}
+use Rattle.zarrs_shard_bytes.specs.WrittenShard.{with_index, written_with}
 use Rattle.zarrs_chain.specs.sharding.ShardingCalls.{shard_index_part}
 use Rattle.zarrs_chain_meaning.specs.Parts.{for_each}
 

@@ -1,13 +1,12 @@
 -- What is known of a chunk that `sharding_indexed` takes.
-use Rattle.std.proofs.Common.{◌≡◌, ℕ, zero, suc, ◌+◌, ◌*◌, ◌<◌, ◌≤◌, ◌^◌, ◌==◌, nat_lt, Bool, true, false, List, length, Result, Ok, IsOk, arith, refl, sym, subst, ◌∙◌}
+use Rattle.std.proofs.Common.{◌≡◌, ℕ, ◌<◌, ◌≤◌, ◌^◌, ◌==◌, true, List, length, Ok, IsOk, arith, refl, sym, subst, ◌∙◌}
 use Rattle.std.specs.List.{All}
-use Rattle.std.proofs.Math.Nat.{mul-le-mul_right}
 use Rattle.zarrs_chunk.specs.Answer.{checked_u64, demand}
 use Rattle.zarrs_chunk.specs.ChunkShape.{product}
 use Rattle.zarrs_chunk.specs.declared.codec_error.CodecError.{CodecError}
-use Rattle.zarrs_chunk.specs.declared.codec_error.CodecError.TheVariants.{IncompatibleDimensionality, IndivisibleShape, Overflow}
-use Rattle.zarrs_chunk.proofs.Inside.{lt_test, from_lt_test}
-use Rattle.zarrs_data_type.specs.ElementType.{ElementType, fixed, text, bytes, optional, element_size}
+use Rattle.zarrs_chunk.specs.declared.codec_error.CodecError.TheVariants.{IncompatibleDimensionality, IndivisibleShape}
+use Rattle.zarrs_chunk.proofs.Inside.{lt_test}
+use Rattle.zarrs_data_type.specs.ElementType.{ElementType}
 use Rattle.zarrs_data_type.specs.FillValue.{fill_fits}
 use Rattle.zarrs_array_bytes.specs.Validity.{sizes_fit}
 use Rattle.zarrs_codec.specs.BytesToBytesCodec.{BytesCodecs}
@@ -19,7 +18,7 @@ use Rattle.zarrs_bytes.proofs.Coding.{bind_ok, demand_ok, ok}
 use Rattle.zarrs_chain_meaning.proofs.Answered.{from_ok}
 use Rattle.zarrs_chain_meaning.proofs.ArraySteps.{counted_so, err, ok_is, ok_no_err}
 use Rattle.zarrs_chain_meaning.proofs.CodecLaws.{chain_laws}
-use Rattle.zarrs_chain_meaning.proofs.InnerChunks.{is_cut, positive_product}
+use Rattle.zarrs_chain_meaning.proofs.InnerChunks.{positive_product}
 use Rattle.zarrs_chain_meaning.proofs.NestedStages.{is_positive}
 use Rattle.zarrs_chain_meaning.proofs.ShardNormal.{shard_taken}
 use Rattle.zarrs_chain_meaning.proofs.OptionalSteps.{counted_small}
@@ -28,25 +27,10 @@ use Rattle.zarrs_array_to_array.proofs.PlaneRows.{places_are_bytes}
 use Rattle.zarrs_chain.specs.ChainView.{plain_chain}
 use Rattle.zarrs_chain.specs.declared.codec_chain.CodecChain.{CodecChain}
 use Rattle.zarrs_chain.specs.sharding.ShardingCalls.{IsNormalFill, IsShardForm, shard_represented}
+use Rattle.zarrs_shard_bytes.proofs.Sizes.{fewer_fit, inner_smaller}
 
 pub small_counted : (n : ℕ) → n < 2 ^ 64 → checked_u64 n ≡ Ok n
 small_counted n l = rw (lt_test n (2 ^ 64) l) refl
-
--- there is an inner chunk, and it is no larger than the chunk
-pub some_inner_chunk : (shape sizes : List ℕ) → All is_positive shape → All is_positive sizes → is_divided shape sizes ≡ true → 0 < inner_chunk_count shape sizes
-some_inner_chunk shape sizes p positive d =
-    let below = (is_cut shape sizes p d).chunk_below 0 (positive_product sizes positive) in
-    omega (arith, below)
-
-at_least : (count inner : ℕ) → 0 < count → inner ≤ count * inner
-at_least zero inner l = absurd (omega (arith, l))
-at_least (suc count) inner l = omega arith
-
-pub inner_smaller : (shape sizes : List ℕ) → All is_positive shape → All is_positive sizes → is_divided shape sizes ≡ true → product shape ≤ product sizes
-inner_smaller shape sizes p positive d =
-    let some = some_inner_chunk shape sizes p positive d in
-    let more = at_least (inner_chunk_count shape sizes) (product shape) some in
-    omega (arith, more, cut_count shape sizes d)
 
 pub count_smaller : (shape sizes : List ℕ) → All is_positive shape → is_divided shape sizes ≡ true → inner_chunk_count shape sizes ≤ product sizes
 count_smaller shape sizes p d =
@@ -77,22 +61,7 @@ taken_normal f inner index shape sizes type fill h =
     let known = from_ok (shard_represented f inner index shape sizes type fill) h in
     (shard_taken shape (codec_normal_element (plain_chain inner).array_to_bytes) (chain_representation f (plain_chain inner)) (chain_representation f (plain_chain index)) sizes type fill known.0 known.1).filled
 
--- ---- fewer elements, and the fill element alone
-
-less_fits : (fewer n size : ℕ) (test : Bool) → nat_lt (n * size) (2 ^ 64) ≡ test → fewer ≤ n → ◌≡◌ {A = Result (Unit {0}) CodecError} (demand test Overflow) (Ok tt) → nat_lt (fewer * size) (2 ^ 64) ≡ true
-less_fits fewer n size true e l h = let more = mul-le-mul_right size l in lt_test (fewer * size) (2 ^ 64) (omega (arith, more, from_lt_test (n * size) (2 ^ 64) e))
-less_fits fewer n size false e l h = absurd cc
-
-less_counted : (fewer n : ℕ) (test : Bool) → nat_lt (n + 1) (2 ^ 64) ≡ test → fewer ≤ n → ◌≡◌ {A = Result (Unit {0}) CodecError} (demand test Overflow) (Ok tt) → nat_lt (fewer + 1) (2 ^ 64) ≡ true
-less_counted fewer n true e l h = lt_test (fewer + 1) (2 ^ 64) (omega (arith, l, from_lt_test (n + 1) (2 ^ 64) e))
-less_counted fewer n false e l h = absurd cc
-
--- where 64 bits count the bytes of some elements, or their offsets, they count those of fewer
-pub fewer_fit : (type : ElementType) (fewer n : ℕ) → fewer ≤ n → sizes_fit type n ≡ Ok tt → sizes_fit type fewer ≡ Ok tt
-fewer_fit (fixed width components sign) fewer n l h = rw (less_fits fewer n (element_size width components) (nat_lt (n * element_size width components) (2 ^ 64)) refl l h) refl
-fewer_fit text fewer n l h = rw (less_counted fewer n (nat_lt (n + 1) (2 ^ 64)) refl l h) refl
-fewer_fit bytes fewer n l h = rw (less_counted fewer n (nat_lt (n + 1) (2 ^ 64)) refl l h) refl
-fewer_fit (optional type) fewer n l h = fewer_fit type fewer n l h
+-- ---- one element
 
 pub one_room : (type : ElementType) (sizes : List ℕ) → All is_positive sizes → sizes_fit type (product sizes) ≡ Ok tt → sizes_fit type 1 ≡ Ok tt
 one_room type sizes positive h = let one : 1 ≤ product sizes = omega (arith, positive_product sizes positive) in fewer_fit type 1 (product sizes) one h

@@ -1,8 +1,8 @@
 -- The answers of the calls that read a shard.
-use Rattle.std.proofs.Common.{◌≡◌, ℕ, suc, ◌+◌, ◌*◌, ◌%◌, ◌<◌, nat_eq, Bool, true, false, List, [], ◌∷◌, ◌++◌, length, drop, get_or, replicate, Result, Ok, refl, ap, sym, subst, ◌∙◌}
+use Rattle.std.proofs.Common.{◌≡◌, ℕ, ◌+◌, ◌*◌, ◌<◌, nat_eq, Bool, true, false, List, [], ◌∷◌, ◌++◌, length, drop, get_or, replicate, Result, Ok, refl, ap, sym, subst, ◌∙◌}
 use Rattle.std.proofs.lemmas.Bool.{eq-eqb}
 use Rattle.std.proofs.lemmas.List.{length-replicate}
-use Rattle.zarrs_chunk.specs.Answer.{◌>>=◌, AnswersBy, GivesBy, checked_u64, memory, seen}
+use Rattle.zarrs_chunk.specs.Answer.{◌>>=◌, AnswersBy, GivesBy, memory, seen}
 use Rattle.zarrs_chunk.specs.ChunkShape.{product}
 use Rattle.zarrs_chunk.specs.declared.codec_error.CodecError.{CodecError}
 use Rattle.zarrs_data_type.specs.Element.{Chunk, fill_element}
@@ -18,7 +18,6 @@ use Rattle.zarrs_array_bytes.proofs.WriteLemmas.{length-update}
 use Rattle.zarrs_array_to_array.proofs.MappedChunks.{holds_elements}
 use Rattle.zarrs_bytes.proofs.Coding.{ok, bind_ok}
 use Rattle.zarrs_codec.specs.BytesToBytesCodec.{BytesCodecs}
-use Rattle.zarrs_codec.proofs.Fences.{second_true}
 use Rattle.zarrs_chain_meaning.specs.CodecMeaning.{chain_chunk, chain_representation}
 use Rattle.zarrs_chain_meaning.specs.Meaning.{Decoder}
 use Rattle.zarrs_chain_meaning.specs.sharding.InnerChunks.{grid, inner_chunk_places, is_divided, joined_inner_chunks}
@@ -33,11 +32,9 @@ use Rattle.zarrs_chain.specs.sharding.ShardingCalls.{ReadsShard, index_size_of}
 use Rattle.zarrs_chain.specs.sharding.ShardWalk.{ReplacesInner, chunk_behind, chunk_with}
 use Rattle.zarrs_chain.proofs.ShardDecode.{one_read}
 use Rattle.zarrs_chain.proofs.ShardRead.{chunk_replaced, inner_updated, shard_read}
+use Rattle.zarrs_shard_bytes.proofs.Sizes.{same_long}
 
 -- ---- an inner chunk is replaced
-
-pub count_is : (n count : ℕ) → checked_u64 n ≡ Ok n → Ok count ≡ checked_u64 n → count ≡ n
-count_is n count e h = ok_is count n (h ∙ e)
 
 pub inner_replaced : (type : ElementType) (shape sizes places : List ℕ) (number count : ℕ) (held content : Held) (result : Result Held CodecError) → count ≡ product sizes → places ≡ inner_chunk_places shape sizes number → validity type (product sizes) held ≡ Ok tt → validity type (product shape) content ≡ Ok tt
     → GivesBy (Holds type) result (update_at_places type count places held content) → ReplacesInner shape sizes type number held content result
@@ -109,12 +106,6 @@ walk_goes_on decode shape sizes type fill value numbers number span held more al
 
 -- ---- the index
 
-pub same_long : (shape sizes : List ℕ) → is_divided shape sizes ≡ true → length shape ≡ length sizes
-same_long [] [] h = refl
-same_long (part ∷ shape) (size ∷ sizes) h = ap suc (same_long shape sizes (second_true (nat_eq (size % part) 0) (is_divided shape sizes) h))
-same_long [] (size ∷ sizes) h = absurd cc
-same_long (part ∷ shape) [] h = absurd cc
-
 pub grid_given : (shape sizes : List ℕ) → is_divided shape sizes ≡ true → divided_grid shape sizes ≡ Ok (grid shape sizes)
 grid_given shape sizes d =
     let long : nat_eq (length shape) (length sizes) ≡ true = eq-eqb (length shape) (length sizes) (same_long shape sizes d) in
@@ -126,8 +117,6 @@ grid_is shape sizes counts d e = ok_is counts (grid shape sizes) (sym e ∙ grid
 -- the index's size, by the grid that the code has
 pub index_sized : {B : Type 0} (f : BytesCodecs B) (index : CodecChain B) (shape sizes counts : List ℕ) → counts ≡ grid shape sizes → index_size_of f index counts ≡ index_size (chain_representation f (plain_chain index)) shape sizes
 index_sized f index shape sizes counts g = ap (index_size_of f index) g
-
--- ---- what can't be
 
 -- ---- all of a shard
 

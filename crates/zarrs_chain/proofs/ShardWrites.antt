@@ -19,8 +19,9 @@ use Rattle.zarrs_chain_meaning.specs.sharding.Sharding.{index_size}
 use Rattle.zarrs_chain_meaning.proofs.NestedStages.{is_positive}
 use Rattle.zarrs_chain.specs.ChainView.{plain_chain}
 use Rattle.zarrs_chain.specs.declared.codec_chain.CodecChain.{CodecChain}
-use Rattle.zarrs_chain.specs.declared.sharding.written_shard.WrittenShard.{WrittenShard}
-use Rattle.zarrs_chain.specs.sharding.ShardWalk.{inner_part, written_behind, written_seen, written_with}
+use Rattle.zarrs_shard_bytes.specs.declared.written_shard.WrittenShard.{WrittenShard}
+use Rattle.zarrs_chain.specs.sharding.ShardWalk.{inner_part, written_behind}
+use Rattle.zarrs_shard_bytes.specs.WrittenShard.{written_seen, written_with}
 use Rattle.zarrs_chain.specs.sharding.ShardingCalls.{index_size_of}
 use Rattle.zarrs_chain.proofs.ShardEncode.{written_end, written_no_more, written_one_more}
 use Rattle.zarrs_chain.proofs.ShardForms.{count_smaller, small_counted}

@@ -1,6 +1,6 @@
 -- Whether a codec `packbits` gives elements back unchanged.
 use Rattle.zarrs_data_type.specs.Form.{form_of}
-use Rattle.std.proofs.Common.{◌≡◌, ℕ, zero, suc, ◌+◌, ◌*◌, ◌<◌, ◌^◌, nat_eq, ◌&&◌, Bool, true, false, List, [], ◌∷◌, ◌++◌, length, map, take, drop, Some, Result, Ok, Err, IsOk, arith, refl, ap, sym, subst, ◌∙◌}
+use Rattle.std.proofs.Common.{◌≡◌, ℕ, zero, suc, ◌+◌, ◌*◌, ◌<◌, ◌^◌, nat_eq, ◌&&◌, Bool, true, List, [], ◌∷◌, length, map, take, drop, Some, Result, Ok, Err, IsOk, arith, refl, ap, sym, subst, ◌∙◌}
 use Rattle.std.specs.Cmp.Lexicographic.{pointwise}
 use Rattle.std.proofs.lemmas.List.{take-append-drop, length-drop, length-take, length-map, nil_from_length}
 use Rattle.zarrs_chunk.specs.Answer.{Answers, AnswersBy, memory, seen}
@@ -18,7 +18,6 @@ use Rattle.zarrs_array_bytes.specs.Validity.{Holds, validity}
 use Rattle.zarrs_array_bytes.proofs.Pieces.{elements-pieces, pieces-suc}
 use Rattle.zarrs_array_bytes.proofs.ValidLemmas.{both_ok, fixed_fits}
 use Rattle.zarrs_packbits.specs.NormalForm.{normal_chunk}
-use Rattle.zarrs_packbits.specs.NormalForm as packbits
 use Rattle.zarrs_packbits.specs.PackBitsCodec.{PackBitsStands, PackBitsWritten}
 use Rattle.zarrs_packbits.specs.PackBitsSettings.{PackBitsSettings, packed_layout}
 use Rattle.zarrs_packbits.proofs.CodecLaws.{written_stands}
@@ -34,20 +33,10 @@ use Rattle.zarrs_chain_meaning.proofs.VlenOffsets.{index_holds, elements_long}
 use Rattle.zarrs_bytes.proofs.Coding.{ok}
 use Rattle.zarrs_chain_meaning.proofs.ArraySteps.{err, ok_no_err}
 use Rattle.zarrs_chain_meaning.proofs.NestedEncode.{same_bytes}
+use Rattle.zarrs_shard_bytes.proofs.SameBytes.{joined_same}
+use Rattle.zarrs_packbits.specs.NormalForm as packbits
 
 -- ---- the same bytes, element by element and joined
-
-and_nested : (a b c : Bool) → (a && b) && c ≡ a && (b && c)
-and_nested true b c = refl
-and_nested false b c = refl
-
-pub joined_same : (xs ys us vs : List ℕ) → length xs ≡ length us → pointwise nat_eq (xs ++ ys) (us ++ vs) ≡ pointwise nat_eq xs us && pointwise nat_eq ys vs
-joined_same [] ys [] vs e = refl
-joined_same [] ys (u ∷ us) vs e = absurd (omega (arith, e))
-joined_same (x ∷ xs) ys [] vs e = absurd (omega (arith, e))
-joined_same (x ∷ xs) ys (u ∷ us) vs e =
-    let same : length xs ≡ length us = omega (arith, e) in
-    ap (λ b. nat_eq x u && b) (joined_same xs ys us vs same) ∙ sym (and_nested (nat_eq x u) (pointwise nat_eq xs us) (pointwise nat_eq ys vs))
 
 pieces_same : (size count : ℕ) (xs ys : List ℕ) → length xs ≡ count * size → length ys ≡ count * size → is_same_bytes (map plain (pieces size count xs)) (map plain (pieces size count ys)) ≡ pointwise nat_eq xs ys
 pieces_same size zero xs ys a b =

@@ -1,6 +1,5 @@
 -- The codec `sharding_indexed`: chunks divided into inner chunks.
 pub mod ShardingCalls
-pub mod InnerPlaces
 pub mod ShardRows
 pub mod ShardBands
 pub mod BandSizes

@@ -1,14 +1,9 @@
 //! The codec `sharding_indexed`: chunks divided into inner chunks.
 pub(crate) mod chunk_room;
 pub(crate) mod create;
-pub(crate) mod fill_elements;
-pub(crate) mod inner_places;
-pub(crate) mod joined_bands;
-pub(crate) mod joined_rows;
 pub(crate) mod kept_bytes;
 pub(crate) mod kept_inner_chunk;
 pub(crate) mod left_out;
-pub(crate) mod lent_run;
 pub(crate) mod normal_form;
 pub(crate) mod shard_bands;
 pub(crate) mod shard_decode;
@@ -19,5 +14,3 @@ pub(crate) mod shard_rows;
 pub(crate) mod sharding_codec;
 pub(crate) mod sharding_codec_traits;
 pub(crate) mod sharding_parts;
-pub(crate) mod value_room;
-pub(crate) mod written_shard;

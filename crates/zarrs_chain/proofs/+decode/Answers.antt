@@ -4,8 +4,9 @@ use Rattle.std.specs.List.{All, list_all}
 use Rattle.zarrs_array_bytes.specs.Held.{Held, flen, raw_of}
 use Rattle.zarrs_array_bytes.specs.Tight.{IsTight}
 use Rattle.zarrs_chain_meaning.specs.sharding.Sharding.{inner_chunk_at}
-use Rattle.zarrs_chain.specs.sharding.ShardBands.{band_count, band_of, chunks_of, part_elements}
-use Rattle.zarrs_chain.proofs.ShardBands.{BandsTo, band_counted, band_facts, band_form, band_inside, band_long, bands_begin, bands_end, bands_on, bands_refused, blank_cloned, chunks_on, joinable_more}
+use Rattle.zarrs_shard_bytes.specs.Bands.{band_count, band_of, chunks_of, part_elements}
+use Rattle.zarrs_chain.proofs.ShardBands.{BandsTo, band_form, band_inside, band_long, bands_begin, bands_end, bands_on, bands_refused, blank_cloned}
+use Rattle.zarrs_shard_bytes.proofs.Bands.{band_counted, band_facts, chunks_on, joinable_more}
 use Rattle.zarrs_data_type.specs.Element.{Chunk}
 use Rattle.zarrs_chunk.specs.Answer.{◌>>=◌}
 use Rattle.std.proofs.lemmas.List.{length-map}
@@ -50,13 +51,14 @@ use Rattle.zarrs_chain_meaning.specs.sharding.ShardingSettings.{is_index_at_end}
 use Rattle.zarrs_chain.specs.declared.sharding.sharding_codec.ShardingCodec.{out-ShardingCodec}
 use Rattle.zarrs_chain_meaning.proofs.InnerChunks.{is_cut}
 use Rattle.zarrs_chain.proofs.ShardRead.{inner_read, walk_is}
-use Rattle.zarrs_chain.proofs.ShardReading.{count_is, not_stored, one_replaced, shard_answered, walk_begins, walk_goes_on}
-use Rattle.zarrs_chain.specs.sharding.ShardRows.{chunks_in}
+use Rattle.zarrs_chain.proofs.ShardReading.{not_stored, one_replaced, shard_answered, walk_begins, walk_goes_on}
+use Rattle.zarrs_shard_bytes.proofs.Sizes.{count_is}
+use Rattle.zarrs_shard_bytes.specs.Rows.{chunks_in}
 use Rattle.zarrs_chain_meaning.specs.sharding.InnerChunks.{inner_chunk_count, joined_inner_chunks}
 use Rattle.zarrs_array_bytes.specs.Elements.{elements}
 use Rattle.zarrs_chain.proofs.InnerBytes.{content_read, content_whole, blank_read, reads_begin, reads_on, reads_refused, reads_end, chunks_more, halved, long_more, whole_more, chunk_joined, items_there, lent_holds}
-use Rattle.zarrs_chain.proofs.ShardRows.{less_room}
-use Rattle.zarrs_chain.proofs.ShardForms.{inner_smaller}
+use Rattle.zarrs_shard_bytes.proofs.Rows.{less_room}
+use Rattle.zarrs_shard_bytes.proofs.Sizes.{inner_smaller}
 use Rattle.zarrs_data_type.specs.ElementType.{fixed_size_of}
 use Rattle.std.specs.Prelude.{is_none}
 use Rattle.std.specs.declared.borrow.CowSlice.{CowSlice}

@@ -2,10 +2,10 @@ use Rattle.std.proofs.Common.{◌≡◌, All, Ok, length}
 use Rattle.zarrs_array_bytes.specs.Held.{flen, raw_of}
 use Rattle.zarrs_array_bytes.specs.Validity.{validity}
 use Rattle.zarrs_chunk.specs.ChunkShape.{product}
-use Rattle.zarrs_chain.specs.sharding.ShardRows.{chunks_in}
+use Rattle.zarrs_shard_bytes.specs.Rows.{chunks_in}
 use Rattle.zarrs_chain.proofs.InnerBytes.{ReadsTo}
 use Rattle.zarrs_chain.proofs.ShardBands.{BandsTo}
-use Rattle.zarrs_chain.specs.sharding.ShardBands.{band_of, chunks_of}
+use Rattle.zarrs_shard_bytes.specs.Bands.{band_of, chunks_of}
 use Rattle.zarrs_array_bytes.specs.Tight.{IsTight}
 use Rattle.zarrs_chunk.specs.Answer.{◌>>=◌}
 use Rattle.zarrs_chain_meaning.specs.CodecMeaning.{chain_chunk}

@@ -47,14 +47,15 @@ use Rattle.zarrs_chain_meaning.specs.sharding.Sharding.{first_offset}
 use Rattle.zarrs_chain_meaning.specs.sharding.ShardingSettings.{is_index_at_end}
 use Rattle.zarrs_chain.specs.declared.codec_chain.CodecChain.{size-CodecChain}
 use Rattle.zarrs_chain.specs.declared.sharding.sharding_codec.ShardingCodec.{out-ShardingCodec, size-ShardingCodec, size_is-ShardingCodec}
-use Rattle.zarrs_chain.specs.sharding.InnerPlaces.{places_from}
-use Rattle.zarrs_chain.specs.sharding.InnerPlaces.{places_from}
-use Rattle.zarrs_chain.specs.sharding.ShardWalk.{inner_part, kept_part, with_index, written_behind, written_seen, written_with}
+use Rattle.zarrs_shard_bytes.specs.InnerPlaces.{places_from}
+use Rattle.zarrs_shard_bytes.specs.InnerPlaces.{places_from}
+use Rattle.zarrs_chain.specs.sharding.ShardWalk.{inner_part, kept_part, written_behind}
+use Rattle.zarrs_shard_bytes.specs.WrittenShard.{with_index, written_seen, written_with}
 use Rattle.zarrs_chain.specs.sharding.ShardingCalls.{TakesInside, index_size_of, shard_index_part}
 use Rattle.zarrs_chain.proofs.ShardAt.{takes_at as shard_takes_at}
 use Rattle.zarrs_chain.proofs.ShardEncode.{front_there, index_not_written, inner_not_written, numbers_counted, shard_written}
 use Rattle.zarrs_chain.proofs.ShardReading.{grid_is}
-use Rattle.zarrs_chain.proofs.InnerPlaces.{in_grid, is_next, moved_end, runs_moved}
+use Rattle.zarrs_shard_bytes.proofs.InnerPlaces.{in_grid, is_next, moved_end, runs_moved}
 use Rattle.zarrs_chain.proofs.KeptInner.{given_as, places_count, places_there, runs_inside}
 use Rattle.zarrs_chain.proofs.KeptParts.{bytes_long, kept_written, never_other}
 use Rattle.zarrs_chain.proofs.ShardWrites.{behind_last, behind_more, behind_refused, chunks_counted, next_held, next_numbered, next_refused, next_valid, next_written, size_at}

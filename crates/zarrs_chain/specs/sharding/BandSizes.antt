@@ -5,7 +5,7 @@ use Rattle.zarrs_chunk.specs.ChunkShape.{product}
 use Rattle.zarrs_chunk.specs.declared.codec_error.CodecError.{CodecError}
 use Rattle.zarrs_chain_meaning.specs.sharding.InnerChunks.{inner_chunk_count}
 use Rattle.zarrs_chain.specs.declared.sharding.shard_bands.BandSizes.{BandSizes}
-use Rattle.zarrs_chain.specs.sharding.ShardBands.{band_count, band_of}
+use Rattle.zarrs_shard_bytes.specs.Bands.{band_count, band_of}
 
 -- These are the numbers of a chunk of these sizes, divided into inner chunks of this shape.
 pub record AreBandSizes (shape sizes : List ℕ) (numbers : BandSizes) : Type 0 where

@@ -1,5 +1,5 @@
 -- What is read and written of a shard, inner chunk by inner chunk.
-use Rattle.std.specs.Prelude.{ℕ, suc, ◌-◌, ◌<◌, nat_eq, if◌then◌else◌, Bool, true, false, Option, Some, None, List, [], ◌∷◌, ◌++◌, length, drop, Result, Ok, IsOk}
+use Rattle.std.specs.Prelude.{ℕ, suc, ◌<◌, nat_eq, if◌then◌else◌, Bool, true, false, Option, Some, None, List, [], ◌∷◌, length, Result, Ok, IsOk}
 use Rattle.std.specs.Cmp.Lexicographic.{pointwise}
 use Rattle.std.specs.List.{list_all}
 use Rattle.zarrs_array_bytes.specs.Elements.{elements, piece, select}
@@ -21,30 +21,13 @@ use Rattle.zarrs_chain_meaning.specs.KeptBytes.{KeepsBytes}
 use Rattle.zarrs_chain_meaning.specs.Meaning.{Decoder}
 use Rattle.zarrs_chain_meaning.specs.sharding.InnerChunks.{inner_chunk_places, inner_chunks_of, joined_inner_chunks}
 use Rattle.zarrs_chain_meaning.specs.sharding.ShardSteps.{inner_value, inner_chunks_at}
-use Rattle.zarrs_chain_meaning.specs.sharding.Sharding.{Span, missing, is_stored, is_left_out, inner_chunk_at, spans_of}
+use Rattle.zarrs_chain_meaning.specs.sharding.Sharding.{Span, is_stored, is_left_out, inner_chunk_at, spans_of}
 use Rattle.zarrs_chain.specs.ChainView.{plain_chain}
 use Rattle.zarrs_chain.specs.declared.codec_chain.CodecChain.{CodecChain}
-use Rattle.zarrs_chain.specs.declared.sharding.written_shard.WrittenShard.{WrittenShard}
+use Rattle.zarrs_shard_bytes.specs.declared.written_shard.WrittenShard.{WrittenShard}
+use Rattle.zarrs_shard_bytes.specs.WrittenShard.{written_seen, written_with}
 
 -- ---- writing
-
--- what is written so far: the bytes, and the numbers of the index
-abbrev pub written_seen : WrittenShard → (List ℕ × List ℕ)
-written_seen written = (written.bytes.items, written.numbers.items)
-
--- with one inner chunk more, which is left out or has this value
-abbrev pub written_with : (List ℕ × List ℕ) → Option (List ℕ) → (List ℕ × List ℕ)
-written_with so_far None = (so_far.0, so_far.1 ++ missing ∷ missing ∷ [])
-written_with so_far (Some part) = (so_far.0 ++ part, so_far.1 ++ length so_far.0 ∷ length part ∷ [])
-
--- an inner chunk more is written, which is left out or has this value
-abbrev pub WritesPart : WrittenShard → WrittenShard → Option (List ℕ) → Result (Unit {0}) CodecError → Type 0
-WritesPart old new part result = Gives (λ _. written_seen new) result (Ok (written_with (written_seen old) part))
-
--- the bytes from an offset on are listed as the value of an inner chunk
-abbrev pub ListsFrom : WrittenShard → WrittenShard → ℕ → Result (Unit {0}) CodecError → Type 0
-ListsFrom old new offset result =
-    Gives (λ _. written_seen new) result (Ok (old.bytes.items, old.numbers.items ++ offset ∷ (length old.bytes.items - offset) ∷ []))
 
 -- each element at these places, of as many bytes as the item has, is the item
 abbrev pub are_item : List ℕ → List ℕ → List ℕ → Bool
@@ -87,11 +70,6 @@ WritesInnerAt f chain shape form places held old new result =
 abbrev pub WritesAll : {B : Type 0} → BytesCodecs B → CodecChain B → List ℕ → Form → Held → WrittenShard → WrittenShard → Result (Unit {0}) CodecError → Type 0
 WritesAll f chain shape form held old new result =
     Gives (λ _. written_seen new) result (written_behind f chain shape form.type form.fill (inner_chunks_of shape form.sizes (elements form.type (product form.sizes) held)) (written_seen old))
-
--- the index part in the place of the first bytes, or behind all of them
-abbrev pub with_index : Bool → ℕ → List ℕ → List ℕ → List ℕ
-with_index false size bytes part = part ++ drop size bytes
-with_index true size bytes part = bytes ++ part
 
 -- ---- reading
 

@@ -1,21 +1,17 @@
 -- What calls give that are asked of a `sharding_indexed` about chunks, and what its steps give.
-use Rattle.std.specs.Bool.{nat_eq}
-use Rattle.std.specs.Cmp.Lexicographic.{pointwise}
-use Rattle.std.specs.List.{list_all}
-use Rattle.std.specs.Prelude.{◌≡◌, ◌*◌, ◌<◌, ◌^◌, ℕ, Bool, true, false, List, [], ◌∷◌, ◌++◌, length, Result, Ok, IfOk, IsOk, Vec}
+use Rattle.std.specs.Prelude.{◌≡◌, ◌<◌, ◌^◌, ℕ, Bool, true, false, List, [], ◌∷◌, ◌++◌, length, Result, Ok, IfOk, IsOk, Vec}
 use Rattle.std.specs.declared.alloc.Global.{Global}
 use Rattle.std.specs.declared.borrow.CowSlice.{CowSlice}
 use Rattle.zarrs_chunk.specs.Answer.{◌>>=◌, checked_u64, demand, seen, Gives, GivesBy, GivesItems, GivesValue}
 use Rattle.zarrs_chunk.specs.ChunkShape.{product}
 use Rattle.zarrs_chunk.specs.declared.codec_error.CodecError.{CodecError}
 use Rattle.zarrs_chunk.specs.declared.codec_error.CodecError.TheVariants.{OffsetNotKept, Overflow}
-use Rattle.zarrs_data_type.specs.Element.{Chunk, Element, fill_element}
+use Rattle.zarrs_data_type.specs.Element.{Element, fill_element}
 use Rattle.zarrs_data_type.specs.ElementType.{ElementType}
 use Rattle.zarrs_data_type.specs.FillValue.{fill_fits}
 use Rattle.zarrs_data_type.specs.Form.{Form, form_of}
 use Rattle.zarrs_array_bytes.specs.Elements.{elements}
 use Rattle.zarrs_array_bytes.specs.Held.{Held, items_of}
-use Rattle.zarrs_array_bytes.specs.Pieces.{pieces}
 use Rattle.zarrs_array_bytes.specs.Validity.{Holds, sizes_fit}
 use Rattle.zarrs_codec.specs.BytesToBytesCodec.{BytesCodecs}
 use Rattle.zarrs_codec.specs.declared.bytes_representation.BytesRepresentation.{BytesRepresentation}
@@ -109,16 +105,6 @@ is_overflow cause = false
 -- the fill element is its own normal form
 abbrev pub IsNormalFill : {B : Type 0} → ArrayToBytesCodec B → ElementType → List ℕ → Type 0
 IsNormalFill codec type fill = is_kept_as_fill (codec_normal_element (plain_codec codec)) type fill (fill_element type fill) ≡ true
-
--- items of this size, however many, are all the item
-abbrev pub Repeats : List ℕ → List ℕ → Bool → Type 0
-Repeats item items result =
-    (count : ℕ) → length items ≡ count * length item → result ≡ list_all (λ part. pointwise nat_eq part item) (pieces (length item) count items)
-
--- whether each element that a container holds is the fill element
-abbrev pub TellsFill : ElementType → List ℕ → Held → Result Bool CodecError → Type 0
-TellsFill type fill held result =
-    (chunk : Chunk) → Holds type held chunk → result ≡ Ok (is_left_out (λ _ element. element) type fill chunk)
 
 -- whether the fill element is its own normal form
 abbrev pub TellsKeptFill : {B : Type 0} → ArrayToBytesCodec B → ElementType → List ℕ → Result Bool CodecError → Type 0

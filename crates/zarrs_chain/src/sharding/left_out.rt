@@ -5,12 +5,12 @@ ghost use Rattle.zarrs_data_type.specs.FillValue.{fill_fits};
 ghost use Rattle.zarrs_chain.specs.sharding.ShardingCalls.{IsNormalFill, TellsKeptFill, TellsLeftOut};
 
 use crate::array_to_bytes_codec::ArrayToBytesCodec;
-use crate::sharding::fill_elements::are_fill;
 use crate::sharding::normal_form::{keeps_all, normal_elements};
 use std::alloc::Global;
 use zarrs_array_bytes::ArrayBytes;
 use zarrs_chunk::CodecError;
 use zarrs_data_type::{DataType, FillValue};
+use zarrs_shard_bytes::fill_elements::are_fill;
 
 /// Whether the normal form of the fill element is that element.
 pub(crate) fn is_fill_kept<B>(

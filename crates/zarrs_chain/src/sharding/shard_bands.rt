@@ -8,7 +8,8 @@ ghost use Rattle.zarrs_chunk.specs.Answer.{Appends, GivesBy};
 ghost use Rattle.zarrs_chunk.specs.ChunkShape.{product};
 ghost use Rattle.zarrs_chain_meaning.specs.sharding.InnerChunks.{inner_chunk_count, is_divided};
 ghost use Rattle.zarrs_bytes.specs.PartialWrite.{filled_chunk};
-ghost use Rattle.zarrs_chain.specs.sharding.ShardBands.{AreJoinable, Extends, IsBandForm, ReadsBand, ReadsElements, band_of, chunks_of, part_elements};
+ghost use Rattle.zarrs_chain.specs.sharding.ShardBands.{ReadsBand, ReadsElements};
+ghost use Rattle.zarrs_shard_bytes.specs.Bands.{AreJoinable, Extends, IsBandForm, band_of, chunks_of, part_elements};
 ghost use Rattle.zarrs_chain.specs.sharding.BandSizes.{GivesBandSizes};
 ghost use Rattle.zarrs_chain.specs.sharding.ShardWalk.{ReadsAll};
 ghost use Rattle.zarrs_chain.specs.sharding.ShardingCalls.{IsShardForm};
@@ -18,7 +19,6 @@ use crate::codec_chain::CodecChain;
 use crate::decode::chain_decode;
 use crate::form::Form;
 use crate::sharding::chunk_room::{empty_chunk, text_room};
-use crate::sharding::joined_bands::append_band;
 use crate::sharding::shard_decode::has_span;
 use crate::sharding::shard_rows::blank_inner_chunk;
 use std::alloc::{AllocError, Global};
@@ -29,6 +29,7 @@ use zarrs_chain_meaning::sharding::shard_parts::bytes_at;
 use zarrs_chunk::{ChunkShape, CodecError};
 use zarrs_codec::BytesToBytesCodecTraits;
 use zarrs_data_type::DataType;
+use zarrs_shard_bytes::joined_bands::append_band;
 
 /// The elements of an inner chunk: what the value has of it, or `blank` where it isn't stored. Errors:
 /// `InvalidByteRange`; those of the chain.

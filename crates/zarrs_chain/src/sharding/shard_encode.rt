@@ -7,7 +7,7 @@ ghost use Rattle.zarrs_array_bytes.specs.Validity.{validity};
 ghost use Rattle.zarrs_data_type.specs.FillValue.{fill_fits};
 ghost use Rattle.zarrs_chain_meaning.specs.sharding.InnerChunks.{grid as grid_of};
 ghost use Rattle.zarrs_chain.specs.sharding.ShardingCalls.{IsNormalFill, IsShardForm, TakesInside, WritesInside};
-ghost use Rattle.zarrs_chain.specs.sharding.InnerPlaces.{places_from};
+ghost use Rattle.zarrs_shard_bytes.specs.InnerPlaces.{places_from};
 ghost use Rattle.zarrs_chain.specs.sharding.ShardWalk.{KeepsInner, WritesAll, WritesInner, WritesInnerAt};
 ghost use Rattle.zarrs_chain.specs.FormView.{lent_form};
 ghost use Rattle.zarrs_chain_meaning.specs.CallAnswers.{IsTaken};
@@ -17,20 +17,20 @@ ghost use Rattle.zarrs_chain.specs.ChainView.{plain_sharding};
 use crate::codec_chain::CodecChain;
 use crate::encode::{chain_encode, check_elements};
 use crate::form::Form;
-use crate::sharding::inner_places::{first_place, first_runs, moved_runs};
 use crate::sharding::kept_inner_chunk::{keeps_inner, write_kept};
 use crate::sharding::left_out::is_left_out;
 use crate::sharding::shard_form::shard_form;
 use crate::sharding::shard_index::{index_encode, index_size};
 use crate::sharding::sharding_codec::ShardingCodec;
-use crate::sharding::value_room::value_room;
-use crate::sharding::written_shard::{WrittenShard, first_offset, place_index};
 use std::alloc::Global;
 use std::borrow::CowSlice;
 use zarrs_array_bytes::{ArrayBytes, ArrayBytesRaw};
 use zarrs_chain_meaning::sharding::inner_chunks::inner_chunk_grid;
 use zarrs_chunk::{ChunkShape, CodecError};
 use zarrs_codec::BytesToBytesCodecTraits;
+use zarrs_shard_bytes::inner_places::{first_place, first_runs, moved_runs};
+use zarrs_shard_bytes::value_room::value_room;
+use zarrs_shard_bytes::written_shard::{WrittenShard, first_offset, place_index};
 
 /// Writes the inner chunk of this shape that a container holds, unless it is left out. Errors:
 /// those of the chain.

@@ -18,7 +18,6 @@ ghost use Rattle.zarrs_chain.specs.FormView.{lent_form};
 use crate::codec_chain::CodecChain;
 use crate::decode::chain_decode;
 use crate::form::Form;
-use crate::sharding::joined_rows::joined_rows;
 use crate::sharding::shard_decode::has_span;
 use std::alloc::Global;
 use std::borrow::CowSlice;
@@ -26,6 +25,7 @@ use zarrs_array_bytes::{ArrayBytes, ArrayBytesRaw};
 use zarrs_chain_meaning::sharding::shard_parts::bytes_at;
 use zarrs_chunk::{ChunkShape, CodecError};
 use zarrs_codec::BytesToBytesCodecTraits;
+use zarrs_shard_bytes::joined_rows::joined_rows;
 
 /// The bytes of an inner chunk that is stored. Errors: `InvalidByteRange`; those of the chain.
 #[cycle(decode)]

@@ -1,6 +1,6 @@
 use Rattle.std.proofs.Common.{◌≡◌, ◌++◌, take}
 use Rattle.zarrs_array_bytes.specs.Pieces.{pieces_at}
-use Rattle.zarrs_chain.specs.sharding.InnerPlaces.{places_from}
+use Rattle.zarrs_shard_bytes.specs.InnerPlaces.{places_from}
 use Rattle.zarrs_chain.proofs.sharding.kept_inner_chunk.append_runs.Given as goal
 
 abbrev pub invariant-loop-run : goal.invariant-loop-run

@@ -2,9 +2,9 @@ use Rattle.std.proofs.Common.{◌≡◌, ◌++◌, ℕ, List, length, ap, sym, �
 use Rattle.zarrs_chunk.specs.ChunkShape.{shape_of}
 use Rattle.zarrs_array_to_array.proofs.Transposition.{shape_of-positive}
 use Rattle.zarrs_chain_meaning.proofs.ShardGrid.{not_none}
-use Rattle.zarrs_chain.specs.sharding.ShardBands.{band_of}
-use Rattle.zarrs_chain.proofs.ShardBands.{band_positive}
-use Rattle.zarrs_chain.proofs.ShardReading.{same_long}
+use Rattle.zarrs_shard_bytes.specs.Bands.{band_of}
+use Rattle.zarrs_shard_bytes.proofs.Bands.{band_positive}
+use Rattle.zarrs_shard_bytes.proofs.Sizes.{same_long}
 use Rattle.zarrs_chain.proofs.sharding.shard_bands.band_shape.Goals as goal
 
 pub append_band_shape-requires : goal.append_band_shape-requires

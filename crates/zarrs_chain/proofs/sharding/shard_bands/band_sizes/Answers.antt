@@ -6,8 +6,8 @@ use Rattle.zarrs_chunk.specs.Answer.{checked_u64}
 use Rattle.zarrs_chunk.specs.ChunkShape.{product}
 use Rattle.zarrs_chain_meaning.specs.sharding.InnerChunks.{grid, inner_chunk_count}
 use Rattle.zarrs_chain_meaning.proofs.ArraySteps.{ok_is, ok_no_err}
-use Rattle.zarrs_chain.specs.sharding.ShardBands.{band_count}
-use Rattle.zarrs_chain.proofs.ShardBands.{band_facts}
+use Rattle.zarrs_shard_bytes.specs.Bands.{band_count}
+use Rattle.zarrs_shard_bytes.proofs.Bands.{band_facts}
 use Rattle.zarrs_chain.proofs.ShardForms.{small_counted}
 use Rattle.zarrs_chain.proofs.ShardReading.{grid_given, grid_is}
 use Rattle.zarrs_chain.proofs.ShardWrites.{chunks_counted}

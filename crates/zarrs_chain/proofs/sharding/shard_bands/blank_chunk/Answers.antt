@@ -1,7 +1,7 @@
 use Rattle.std.proofs.Common.{◌<◌, subst}
 use Rattle.std.specs.List.{All}
 use Rattle.zarrs_chunk.specs.ChunkShape.{product}
-use Rattle.zarrs_chain.proofs.ShardForms.{fewer_fit, inner_smaller}
+use Rattle.zarrs_shard_bytes.proofs.Sizes.{fewer_fit, inner_smaller}
 use Rattle.zarrs_chain.proofs.sharding.shard_bands.blank_chunk.Goals as goal
 
 pub blank_inner_chunk-requires-clause-room : goal.blank_inner_chunk-requires-clause-room

@@ -7,9 +7,9 @@ use Rattle.zarrs_bytes.proofs.Coding.{ok}
 use Rattle.zarrs_chunk.specs.Answer.{GivesBy}
 use Rattle.zarrs_chunk.specs.ChunkShape.{product}
 use Rattle.zarrs_chain_meaning.specs.sharding.InnerChunks.{is_divided}
-use Rattle.zarrs_chain.specs.sharding.ShardBands.{chunks_of, part_elements}
-use Rattle.zarrs_chain.proofs.ShardBands.{band_divided, behind_same, valid_same}
-use Rattle.zarrs_chain.proofs.ShardReading.{count_is}
+use Rattle.zarrs_shard_bytes.specs.Bands.{chunks_of, part_elements}
+use Rattle.zarrs_shard_bytes.proofs.Bands.{band_divided, behind_same, valid_same}
+use Rattle.zarrs_shard_bytes.proofs.Sizes.{count_is}
 use Rattle.zarrs_chain.proofs.sharding.shard_bands.join_band.Goals as goal
 
 pub append_band-requires-clause-divided : goal.append_band-requires-clause-divided

@@ -1,5 +1,5 @@
 use Rattle.std.proofs.Common.{refl}
-use Rattle.zarrs_chain.proofs.ShardBands.{same_kept}
+use Rattle.zarrs_shard_bytes.proofs.Bands.{same_kept}
 use Rattle.zarrs_chain.proofs.sharding.shard_bands.with_room.Goals as goal
 
 pub returns-then-done-gt0-clause-kept : goal.returns-then-done-gt0-clause-kept

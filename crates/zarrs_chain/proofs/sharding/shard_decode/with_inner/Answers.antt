@@ -3,7 +3,8 @@ use Rattle.zarrs_chunk.specs.ChunkShape.{product}
 use Rattle.zarrs_chunk.specs.Runs.{joined_runs, places_in}
 use Rattle.zarrs_chain_meaning.specs.sharding.InnerChunks.{inner_chunk_places}
 use Rattle.zarrs_chain_meaning.proofs.ArraySteps.{ok_is}
-use Rattle.zarrs_chain.proofs.ShardReading.{count_is, inner_replaced}
+use Rattle.zarrs_chain.proofs.ShardReading.{inner_replaced}
+use Rattle.zarrs_shard_bytes.proofs.Sizes.{count_is}
 use Rattle.zarrs_chain.proofs.sharding.shard_decode.with_inner.Goals as goal
 
 pub returns-clause-answer : goal.returns-clause-answer

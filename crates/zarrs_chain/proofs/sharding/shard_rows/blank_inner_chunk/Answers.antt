@@ -1,5 +1,5 @@
 use Rattle.zarrs_chunk.specs.ChunkShape.{product}
-use Rattle.zarrs_chain.proofs.ShardReading.{count_is}
+use Rattle.zarrs_shard_bytes.proofs.Sizes.{count_is}
 use Rattle.zarrs_chain.proofs.InnerBytes.{blank_given}
 use Rattle.zarrs_chain.proofs.sharding.shard_rows.blank_inner_chunk.Goals as goal
 
