@@ -1,5 +1,5 @@
 -- What has been read ahead, of which the first ranges are asked for.
-use Rattle.std.proofs.Common.{◌≡◌, ℕ, suc, ◌+◌, ◌-◌, ◌<◌, ◌≤◌, ◌^◌, ◌&&◌, ◌||◌, nat_le, nat_eq, min, Bool, true, false, Option, Some, None, List, [], ◌∷◌, ◌++◌, length, take, drop, Ok, arith, refl, ap, sym, subst, ◌∙◌}
+use Rattle.std.proofs.Common.{◌≡◌, ℕ, suc, ◌+◌, ◌-◌, ◌<◌, ◌≤◌, ◌^◌, ◌&&◌, ◌||◌, nat_le, nat_lt, nat_eq, min, Bool, true, false, Option, Some, None, List, [], ◌∷◌, ◌++◌, length, take, drop, Ok, arith, refl, ap, sym, subst, ◌∙◌}
 use Rattle.std.specs.List.{list_all, between, range_with_len}
 use Rattle.std.specs.Cmp.Lexicographic.{pointwise}
 use Rattle.std.specs.Prelude.{is_some}
@@ -12,7 +12,7 @@ use Rattle.std.proofs.Math.Seq.{take-append_seam, drop-append_seam}
 use Rattle.zarrs_codec.proofs.Fences.{first_true, second_true}
 use Rattle.zarrs_codec.specs.ByteRanges.{bytes_in_ranges, range_indices, read_ranges}
 use Rattle.zarrs_codec.specs.ByteSpan.{ByteSpan}
-use Rattle.zarrs_lent_handles.specs.AheadHandle.{end_inside, none_or_stored, bytes_ahead}
+use Rattle.zarrs_lent_handles.specs.AheadHandle.{are_next, bytes_ahead, end_inside, is_same_range, none_or_stored}
 
 abbrev ends_within : List ℕ → ByteSpan → Bool
 ends_within value range = nat_le range.end (length value)
@@ -23,9 +23,6 @@ piece_long value range h =
     omega (arith, l, length-take (range.end - range.start) (drop range.start value), length-drop range.start value)
 
 -- ranges that are the same one by one are the same
-abbrev pub is_same_range : ByteSpan → ByteSpan → Bool
-is_same_range one other = nat_eq one.start other.start && nat_eq one.end other.end
-
 pub ranges_same : (ranges others : List ByteSpan) → pointwise is_same_range ranges others ≡ true → ranges ≡ others
 ranges_same [] [] e = refl
 ranges_same [] (other ∷ others) e = absurd cc
@@ -37,9 +34,9 @@ ranges_same (range ∷ ranges) (other ∷ others) e =
     let rest = ranges_same ranges others (second_true (is_same_range range other) (pointwise is_same_range ranges others) e) in
     λ i. record { start = start i; end = end i } ∷ rest i
 
--- what is behind a number of elements
-pub behind : {X : Type 0} (xs : List X) (n : ℕ) → take (length xs - n) (drop n xs) ≡ drop n xs
-behind xs n = take_all (length xs - n) (drop n xs) (omega (arith, length-drop n xs))
+-- what is behind a number of elements of a list that is seen
+pub behind : {X : Type 0} (xs seen : List X) (n : ℕ) → seen ≡ xs → take (length seen - n) (drop n seen) ≡ drop n xs
+behind xs seen n e = take_all (length seen - n) (drop n seen) (omega (arith, length-drop n seen)) ∙ ap (drop n) e
 
 -- ranges that end inside have as many bytes as numbers
 bytes_long : (value : List ℕ) (ranges : List ByteSpan) → list_all (ends_within value) ranges ≡ true → length (bytes_in_ranges value ranges) ≡ length (range_indices ranges)
@@ -54,6 +51,8 @@ bytes_long value (range ∷ ranges) h =
 
 -- the first ranges are taken, and the others stay
 pub record IsTaken (stored : Option (List ℕ)) (ranges asked : List ByteSpan) (bytes : List ℕ) (len : ℕ) : Type 0 where
+  pub few : length asked ≤ length ranges
+  pub enough : len ≤ length bytes
   pub read : read_ranges stored asked ≡ Ok (Some (take len bytes))
   pub some_left : none_or_stored stored (drop (length asked) ranges) ≡ true
   pub inside_left : end_inside stored (drop (length asked) ranges) ≡ true
@@ -106,17 +105,20 @@ is_taken (Some value) ranges asked bytes len some inside are first any few long 
     let count : len ≡ length (range_indices asked) = omega (arith, own, sum, long, small) in
     let t = taken_of value asked rest bytes len inside' are' count in
     record {
+      few = few;
+      enough = omega (arith, own, sum, long, ap length are');
       read = t.0;
       some_left = any_left (nat_le (length rest) 0);
       inside_left = t.1;
       bytes_left = t.2;
     }
 
--- behind what has been passed by before
-pub is_taken_on : (stored : Option (List ℕ)) (ranges asked : List ByteSpan) (bytes : List ℕ) (next at len : ℕ) → none_or_stored stored (drop next ranges) ≡ true → end_inside stored (drop next ranges) ≡ true → drop at bytes ≡ bytes_ahead stored (drop next ranges)
-    → take (length asked) (drop next ranges) ≡ asked → 0 < length asked → length asked ≤ length (drop next ranges) → len ≡ min (length (range_indices asked)) (2 ^ 64 - 1) → length bytes < 2 ^ 64 → IsTaken stored (drop next ranges) asked (drop at bytes) len
-is_taken_on stored ranges asked bytes next at len some inside are first any few long small =
-    is_taken stored (drop next ranges) asked (drop at bytes) len some inside are first any few long (omega (arith, small, length-drop at bytes))
+-- behind what has been passed by before, as the code sees it
+pub is_taken_on : (stored : Option (List ℕ)) (ranges seen asked : List ByteSpan) (bytes : List ℕ) (next at len : ℕ) → none_or_stored stored (drop next ranges) ≡ true → end_inside stored (drop next ranges) ≡ true → drop at bytes ≡ bytes_ahead stored (drop next ranges)
+    → seen ≡ ranges → take (length asked) (take (length seen - next) (drop next seen)) ≡ asked → 0 < length asked → length asked ≤ length (take (length seen - next) (drop next seen)) → len ≡ min (length (range_indices asked)) (2 ^ 64 - 1) → length bytes < 2 ^ 64 → IsTaken stored (drop next ranges) asked (drop at bytes) len
+is_taken_on stored ranges seen asked bytes next at len some inside are same first any few long small =
+    let rest = behind ranges seen next same in
+    is_taken stored (drop next ranges) asked (drop at bytes) len some inside are (sym (ap (take (length asked)) rest) ∙ first) any (subst (λ (rs : List ByteSpan). length asked ≤ length rs) rest few) long (omega (arith, small, length-drop at bytes))
 
 pub record IsLeft (stored : Option (List ℕ)) (ranges : List ByteSpan) (bytes : List ℕ) (next at : ℕ) : Type 0 where
   pub some : none_or_stored stored (drop next ranges) ≡ true
@@ -135,3 +137,9 @@ is_left stored ranges asked bytes next at len t =
 -- as many elements behind a place as there are
 pub within_on : {X : Type 0} (xs : List X) (n k : ℕ) → n ≤ length xs → k ≤ length (drop n xs) → n + k ≤ length xs
 within_on xs n k l h = omega (arith, l, h, length-drop n xs)
+
+-- ranges, one at least, come first where those that stand first are the same
+pub next_is : (asked ahead : List ByteSpan) → 0 < length asked → are_next asked ahead ≡ pointwise is_same_range (take (length asked) ahead) asked
+next_is asked ahead some =
+    let yes : nat_lt 0 (length asked) ≡ true = grind (arith, nat_tests) in
+    ap (λ (some : Bool). some && pointwise is_same_range (take (length asked) ahead) asked) yes

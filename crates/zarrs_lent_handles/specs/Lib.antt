@@ -8,3 +8,4 @@ pub mod PiecesHandle
 pub mod Rounds
 pub mod SpanHandle
 pub mod AheadHandle
+pub mod ReadAhead

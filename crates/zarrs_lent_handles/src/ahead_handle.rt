@@ -1,9 +1,11 @@
 //! A handle that reads ahead of another handle.
-ghost use Rattle.std.specs.Prelude.{◌≡◌, ◌+◌, ◌<◌, ◌≤◌, ◌^◌, ◌-◌, IfOk, IfSome, Ok, Some, drop, length, min, take, true};
+ghost use Rattle.std.specs.Prelude.{◌≡◌, ◌+◌, ◌<◌, ◌≤◌, ◌^◌, ◌-◌, IfOk, IfSome, List, Ok, Option, Some, drop, length, min, take, true};
 ghost use Rattle.zarrs_codec.specs.ByteRanges.{range_indices, ranges_are_sure, read_ranges};
+ghost use Rattle.zarrs_codec.specs.ByteSpan.{ByteSpan};
+ghost use Rattle.zarrs_codec.specs.Calls.{Calls, after_ranges, after_reads, ok_count};
 ghost use Rattle.zarrs_codec.specs.HandleCalls.{NeverFailsIf};
 ghost use Rattle.zarrs_codec.specs.StorageState.{after_reading};
-ghost use Rattle.zarrs_lent_handles.specs.AheadHandle.{ReadsAhead, end_inside, none_or_stored, bytes_ahead};
+ghost use Rattle.zarrs_lent_handles.specs.AheadHandle.{ReadsAhead, are_next, end_inside, kept_ahead, none_or_stored, bytes_ahead};
 
 use std::alloc::{AllocError, Global};
 use zarrs_chunk::CodecError;
@@ -11,6 +13,15 @@ use zarrs_codec::{ByteRange, BytesPartialDecoderTraits};
 
 /// A storage handle that reads, by one call, what is going to be asked for.
 pub trait ReadAheadTraits: BytesPartialDecoderTraits {
+    // The ranges that have been read ahead and are still kept, in order.
+    ghost ahead: { Self → List ByteSpan };
+
+    // The record of the calls of the handle below, of which it reads, where that one keeps a record.
+    ghost calls_below: { Self → Option Calls };
+
+    // The ranges that the handle below was asked for, where that one keeps them.
+    ghost asked_below: { Self → Option (List ByteSpan) };
+
     /// Reads the ranges' bytes by one call, and keeps them for the calls behind it: those that ask for
     /// the same ranges in the same order ask for nothing more. Errors: `InvalidByteRange` where a
     /// range ends past the value; `OutOfMemory` and `Storage`, which may come before. `Storage` never
@@ -19,6 +30,10 @@ pub trait ReadAheadTraits: BytesPartialDecoderTraits {
         ensures answer { ReadsAhead result (Self.state self.old).value ranges.items }
         ensures sure { NeverFailsIf (ranges_are_sure (Self.state self.old) ranges.items) result }
         ensures left { Self.state self.new ≡ after_reading result (Self.state self.old) }
+        ensures ahead { ahead self.new
+            ≡ kept_ahead result (Self.state self.old).value ranges.items (ahead self.old) }
+        ensures counted { calls_below self.new ≡ after_reads (ok_count result) (calls_below self.old) }
+        ensures asked { asked_below self.new ≡ after_ranges result ranges.items (asked_below self.old) }
         ensures same_reference { Self.lent self.new ≡ Self.lent self.old };
 }
 
@@ -50,6 +65,7 @@ fn ranges_len(ranges: &[ByteRange]) -> usize
 
 /// Whether these ranges, one at least, come first.
 fn come_first(ranges: &[ByteRange], asked: &[ByteRange]) -> bool
+    ensures value { result ≡ are_next asked.now ranges.now }
     ensures some { result ≡ true → 0 < length asked.now }
     ensures within { result ≡ true → length asked.now ≤ length ranges.now }
     ensures first { result ≡ true → take (length asked.now) ranges.now ≡ asked.now }
@@ -59,10 +75,14 @@ fn come_first(ranges: &[ByteRange], asked: &[ByteRange]) -> bool
 }
 
 impl<'a, H: BytesPartialDecoderTraits> AheadHandle<'a, H> {
+    ghost use Rattle.std.specs.Prelude.{[], OnErr, is_some};
+    ghost use Rattle.zarrs_lent_handles.specs.ReadAhead.{ahead_after, ranges_ahead};
+
     /// A handle that has read nothing yet. It takes no memory, and asks for nothing.
     pub fn new(alloc: Global, handle: &'a mut H) -> AheadHandle<'a, H>
         ensures same_reference { result.handle.ghost_name ≡ handle.entry.ghost_name }
         ensures handle { result.handle.now ≡ handle.old }
+        ensures ahead { ranges_ahead result ≡ [] }
     {
         AheadHandle {
             handle,
@@ -90,6 +110,9 @@ impl<'a, H: BytesPartialDecoderTraits> AheadHandle<'a, H> {
         ensures bytes { IfOk result (λ found. IfSome found (λ bytes.
             read_ranges (H.state self.old.handle.now).value asked.now ≡ Ok (Some bytes.items))) }
         ensures handle { self.new.handle ≡ self.old.handle }
+        ensures found { IfOk result (λ found. is_some found ≡ are_next asked.now (ranges_ahead self.old)) }
+        ensures first { OnErr result (are_next asked.now (ranges_ahead self.old) ≡ true) }
+        ensures ahead { ranges_ahead self.new ≡ ahead_after result asked.now (ranges_ahead self.old) }
     {
         let count = asked.len();
         if !come_first(&self.ranges[self.next..], asked) {
@@ -97,9 +120,6 @@ impl<'a, H: BytesPartialDecoderTraits> AheadHandle<'a, H> {
         }
         let len = ranges_len(asked);
         let rest = &self.bytes[self.at..];
-        if rest.len() < len {
-            return Ok(None);
-        }
         let bytes = Vec::from_slice(alloc, &rest[..len])?;
         self.next += count;
         self.at += len;
@@ -109,6 +129,7 @@ impl<'a, H: BytesPartialDecoderTraits> AheadHandle<'a, H> {
     /// Lets go of what has been read ahead, where all of it is taken.
     fn let_go(&mut self, alloc: Global)
         ensures handle { self.new.handle ≡ self.old.handle }
+        ensures ahead { ranges_ahead self.new ≡ ranges_ahead self.old }
     {
         if self.next == self.ranges.len() {
             self.ranges = Vec::new(alloc);
@@ -120,8 +141,11 @@ impl<'a, H: BytesPartialDecoderTraits> AheadHandle<'a, H> {
 }
 
 impl<'a, H: BytesPartialDecoderTraits> BytesPartialDecoderTraits for AheadHandle<'a, H> {
-    ghost use Rattle.std.specs.Prelude.{◌∷◌};
+    ghost use Rattle.std.specs.Prelude.{◌∷◌, false, is_some};
+    ghost use Rattle.zarrs_codec.specs.HandleCalls.{ReadsBytes, Tells};
     ghost use Rattle.zarrs_codec.specs.Lent.{whole_reference};
+    ghost use Rattle.zarrs_codec.specs.StorageState.{value_is_sure, value_size};
+    ghost use Rattle.zarrs_lent_handles.specs.ReadAhead.{TakesAhead, below, lent_below, ranges_ahead};
 
     ghost state = { λ handle. H.state handle.handle.now };
 
@@ -131,11 +155,29 @@ impl<'a, H: BytesPartialDecoderTraits> BytesPartialDecoderTraits for AheadHandle
 
     ghost reads_ranges = { H.reads_ranges };
 
-    fn exists(&mut self) -> Result<bool, CodecError> {
+    fn exists(&mut self) -> Result<bool, CodecError>
+        ensures answer { Tells result (is_some (H.state (below self.old)).value) }
+        ensures sure { NeverFailsIf (is_some (H.state (below self.old)).sure) result }
+        ensures left { H.state (below self.new) ≡ after_reading result (H.state (below self.old)) }
+        ensures ahead { ranges_ahead self.new ≡ ranges_ahead self.old }
+        ensures counted { H.calls (below self.new)
+            ≡ after_reads (ok_count result) (H.calls (below self.old)) }
+        ensures asked { H.asked (below self.new) ≡ H.asked (below self.old) }
+        ensures same_reference { lent_below H.lent self.new ≡ lent_below H.lent self.old }
+    {
         self.handle.exists()
     }
 
-    fn size(&mut self) -> Result<Option<u64>, CodecError> {
+    fn size(&mut self) -> Result<Option<u64>, CodecError>
+        ensures answer { Tells result (value_size (H.state (below self.old)).value) }
+        ensures sure { NeverFailsIf (is_some (H.state (below self.old)).sure) result }
+        ensures left { H.state (below self.new) ≡ after_reading result (H.state (below self.old)) }
+        ensures ahead { ranges_ahead self.new ≡ ranges_ahead self.old }
+        ensures counted { H.calls (below self.new)
+            ≡ after_reads (ok_count result) (H.calls (below self.old)) }
+        ensures asked { H.asked (below self.new) ≡ H.asked (below self.old) }
+        ensures same_reference { lent_below H.lent self.new ≡ lent_below H.lent self.old }
+    {
         self.handle.size()
     }
 
@@ -150,7 +192,20 @@ impl<'a, H: BytesPartialDecoderTraits> BytesPartialDecoderTraits for AheadHandle
         &mut self,
         alloc: Global,
         ranges: &[ByteRange],
-    ) -> Result<Option<Vec<u8>>, CodecError> {
+    ) -> Result<Option<Vec<u8>>, CodecError>
+        ensures answer { ReadsBytes result (read_ranges (H.state (below self.old)).value ranges.now) }
+        ensures sure { NeverFailsIf (ranges_are_sure (H.state (below self.old)) ranges.now) result }
+        ensures left { H.state (below self.new) ≡ after_reading result (H.state (below self.old)) }
+        ensures taken { are_next ranges.now (ranges_ahead self.old) ≡ true
+            → TakesAhead ranges.now self.old self.new result }
+        ensures ahead { are_next ranges.now (ranges_ahead self.old) ≡ false
+            → ranges_ahead self.new ≡ ranges_ahead self.old }
+        ensures counted { are_next ranges.now (ranges_ahead self.old) ≡ false
+            → H.calls (below self.new) ≡ after_reads (ok_count result) (H.calls (below self.old)) }
+        ensures asked { are_next ranges.now (ranges_ahead self.old) ≡ false
+            → H.asked (below self.new) ≡ after_ranges result ranges.now (H.asked (below self.old)) }
+        ensures same_reference { lent_below H.lent self.new ≡ lent_below H.lent self.old }
+    {
         match self.next_bytes(alloc, ranges)? {
             Some(bytes) => {
                 self.let_go(alloc);
@@ -160,7 +215,16 @@ impl<'a, H: BytesPartialDecoderTraits> BytesPartialDecoderTraits for AheadHandle
         }
     }
 
-    fn decode(&mut self, alloc: Global) -> Result<Option<Vec<u8>>, CodecError> {
+    fn decode(&mut self, alloc: Global) -> Result<Option<Vec<u8>>, CodecError>
+        ensures answer { ReadsBytes result (Ok (H.state (below self.old)).value) }
+        ensures sure { NeverFailsIf (value_is_sure (H.state (below self.old))) result }
+        ensures left { H.state (below self.new) ≡ after_reading result (H.state (below self.old)) }
+        ensures ahead { ranges_ahead self.new ≡ ranges_ahead self.old }
+        ensures counted { H.calls (below self.new)
+            ≡ after_reads (ok_count result) (H.calls (below self.old)) }
+        ensures asked { H.asked (below self.new) ≡ H.asked (below self.old) }
+        ensures same_reference { lent_below H.lent self.new ≡ lent_below H.lent self.old }
+    {
         self.handle.decode(alloc)
     }
 
@@ -174,6 +238,14 @@ impl<'a, H: BytesPartialDecoderTraits> BytesPartialDecoderTraits for AheadHandle
 }
 
 impl<'a, H: BytesPartialDecoderTraits> ReadAheadTraits for AheadHandle<'a, H> {
+    ghost use Rattle.zarrs_lent_handles.specs.ReadAhead.{below, ranges_ahead};
+
+    ghost ahead = { λ handle. ranges_ahead handle };
+
+    ghost calls_below = { λ handle. H.calls (below handle) };
+
+    ghost asked_below = { λ handle. H.asked (below handle) };
+
     fn read_ahead(&mut self, alloc: Global, ranges: Vec<ByteRange>) -> Result<(), CodecError> {
         match self.handle.partial_decode_many(alloc, ranges.as_slice())? {
             None => Ok(()),
