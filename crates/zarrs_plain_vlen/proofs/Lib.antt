@@ -7,3 +7,4 @@ pub mod Alike
 pub mod ElementReads
 pub mod IndexOrder
 pub mod OffsetBytes
+pub mod CallCounts

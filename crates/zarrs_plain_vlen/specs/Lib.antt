@@ -6,6 +6,7 @@ pub mod Elements
 pub mod StoredElements
 pub mod VlenRead
 pub mod PlainRead
+pub mod ReadingCalls
 pub mod Laws
 pub use Rattle.zarrs_chunk.specs.Answer
 pub use Rattle.zarrs_array_bytes.specs.Tight

@@ -7,9 +7,11 @@ ghost use Rattle.zarrs_array_bytes.specs.Tight.{IsTight};
 ghost use Rattle.zarrs_array_bytes.specs.Held.{vlen, owned_bytes};
 ghost use Rattle.zarrs_array_bytes.specs.Offsets.{is_offsets, last_of};
 ghost use Rattle.zarrs_codec.specs.ByteRanges.{range_indices};
+ghost use Rattle.zarrs_codec.specs.Calls.{MakesReads};
 ghost use Rattle.zarrs_codec.specs.StorageState.{after_reading};
 ghost use Rattle.zarrs_array_bytes.specs.Cuts.{run_size};
 ghost use Rattle.zarrs_plain_vlen.specs.Elements.{AddsNumbers, joined_size, run_numbers, element_zeros, joined_elements};
+ghost use Rattle.zarrs_plain_vlen.specs.ReadingCalls.{calls_for};
 ghost use Rattle.zarrs_plain_vlen.specs.StoredBytes.{SureAt, stored_bytes};
 ghost use Rattle.zarrs_chain_meaning.specs.vlen.VlenLayout.{span_numbers, span_bytes};
 ghost use Rattle.zarrs_plain_vlen.specs.VlenRead.{element_is_there, element_numbers, elements_read};
@@ -175,7 +177,8 @@ fn ends_of_runs(
     Ok(ends)
 }
 
-/// The bytes of the elements at the runs, read by one call. Errors: `InvalidByteRange`.
+/// The bytes of the elements at the runs, read by one call; by none where they have none. Errors:
+/// `InvalidByteRange`.
 fn read_bytes<H: BytesPartialDecoderTraits>(
     alloc: Global,
     handle: &mut H,
@@ -194,6 +197,8 @@ fn read_bytes<H: BytesPartialDecoderTraits>(
         (run_numbers content.start offsets.now runs.now) result }
     ensures left { H.state handle.new ≡ after_reading result (H.state handle.old) }
     ensures same_reference { H.lent handle.new ≡ H.lent handle.old }
+    ensures counted { MakesReads H.calls (calls_for (run_numbers content.start offsets.now
+        runs.now)) handle.old handle.new result }
 {
     let start = content.start();
     let size = content.end() - start;
@@ -234,6 +239,8 @@ pub(crate) fn read_elements<H: BytesPartialDecoderTraits>(
     ensures sure { SureAt (H.state handle.old) (run_numbers span.start offsets.now runs.now) result }
     ensures left { H.state handle.new ≡ after_reading result (H.state handle.old) }
     ensures same_reference { H.lent handle.new ≡ H.lent handle.old }
+    ensures counted { MakesReads H.calls (calls_for (run_numbers span.start offsets.now
+        runs.now)) handle.old handle.new result }
 {
     let bytes = read_bytes(alloc, handle, offsets, span, runs)?;
     let ends = ends_of_runs(alloc, offsets, runs)?;

@@ -1,6 +1,7 @@
 //! The offsets of a value.
 ghost use Rattle.std.specs.Prelude.{◌≡◌, ◌≤◌, ◌<◌, ◌∷◌, [], true, false, Ok, IfOk, is_some, length, Some};
 ghost use Rattle.zarrs_chunk.specs.Answer.{AnswersValue, Gives, is_fault, memory, GivesBy, memory_or_fault};
+ghost use Rattle.zarrs_codec.specs.Calls.{MakesReads};
 ghost use Rattle.zarrs_codec.specs.StorageState.{after_reading};
 ghost use Rattle.zarrs_chain_meaning.specs.vlen.PlainVlen.{plain_form};
 ghost use Rattle.zarrs_chain_meaning.specs.vlen.VlenSettings.{is_wide};
@@ -122,6 +123,7 @@ pub(crate) fn read_index<H: BytesPartialDecoderTraits>(
     ensures sure { SureAt (H.state handle.old) (span_numbers index) result }
     ensures left { H.state handle.new ≡ after_reading result (H.state handle.old) }
     ensures same_reference { H.lent handle.new ≡ H.lent handle.old }
+    ensures counted { MakesReads H.calls 1 handle.old handle.new result }
 {
     let offsets = count_offsets(count, codec.index_data_type, index.end() - index.start())?;
     let bytes = read_range(alloc, handle, index)?;

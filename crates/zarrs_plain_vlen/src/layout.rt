@@ -1,6 +1,7 @@
 //! Where the parts of a value stand.
 ghost use Rattle.std.specs.Prelude.{◌≡◌, ◌≤◌, ◌+◌, true, false, IfOk, is_some, length};
 ghost use Rattle.zarrs_chunk.specs.Answer.{is_fault, seen, Answers, memory_or_fault};
+ghost use Rattle.zarrs_codec.specs.Calls.{MakesReads};
 ghost use Rattle.zarrs_codec.specs.StorageState.{after_reading};
 ghost use Rattle.zarrs_chain_meaning.specs.vlen.VlenSettings.{is_at_end};
 ghost use Rattle.zarrs_plain_vlen.specs.Layout.{vlen_layout};
@@ -97,6 +98,7 @@ pub(crate) fn read_layout<H: BytesPartialDecoderTraits>(
     ensures sure { SureAt (H.state handle.old) (head_numbers (is_at_end location) size) result }
     ensures left { H.state handle.new ≡ after_reading result (H.state handle.old) }
     ensures same_reference { H.lent handle.new ≡ H.lent handle.old }
+    ensures counted { MakesReads H.calls 1 handle.old handle.new result }
 {
     let head = head_range(size, location)?;
     let bytes = read_range(alloc, handle, head)?;

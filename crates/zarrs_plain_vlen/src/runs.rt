@@ -2,7 +2,9 @@
 ghost use Rattle.std.specs.Prelude.{◌≡◌, ◌≤◌, ◌+◌, true, All, IfOk, IfSome, is_some, length};
 ghost use Rattle.zarrs_data_type.specs.ElementType.{is_variable};
 ghost use Rattle.zarrs_array_bytes.specs.Tight.{IsTight};
+ghost use Rattle.zarrs_codec.specs.Calls.{MakesReads};
 ghost use Rattle.zarrs_codec.specs.StorageState.{after_reading};
+ghost use Rattle.zarrs_plain_vlen.specs.ReadingCalls.{calls_behind_size, stored_vlen_calls};
 ghost use Rattle.zarrs_plain_vlen.specs.StoredBytes.{stored_bytes, SureAt};
 ghost use Rattle.zarrs_plain_vlen.specs.StoredElements.{HoldsStored};
 ghost use Rattle.zarrs_chunk.specs.Answer.{AnswersBy, memory_or_fault};
@@ -43,6 +45,8 @@ fn read_stored<H: BytesPartialDecoderTraits>(
         (stored_bytes (H.state handle.old)) (joined_runs runs.now)) result }
     ensures left { H.state handle.new ≡ after_reading result (H.state handle.old) }
     ensures same_reference { H.lent handle.new ≡ H.lent handle.old }
+    ensures counted { MakesReads H.calls (calls_behind_size (plain_form codec) count
+        (stored_bytes (H.state handle.old)) (joined_runs runs.now)) handle.old handle.new result }
 {
     let layout = read_layout(alloc, handle, size, codec.index_location)?;
     let offsets = read_index(alloc, handle, codec, count, layout.index)?;
@@ -60,6 +64,10 @@ fn read_stored<H: BytesPartialDecoderTraits>(
 /// `InvalidOffsets`; `InvalidByteRange` where an element that isn't empty ends behind the data.
 /// `OutOfMemory` and `Storage` may come at any time, `Storage` never where all bytes that are named
 /// above are sure.
+///
+/// The handle is asked by one reading call for the size, and, where something is stored, by one for the
+/// length of the index, one for the index, and one for the bytes of the elements, none where they have
+/// none.
 pub fn read_runs<H: BytesPartialDecoderTraits>(
     codec: PlainVlen,
     alloc: Global,
@@ -77,6 +85,8 @@ pub fn read_runs<H: BytesPartialDecoderTraits>(
         (H.state handle.old).value (joined_runs runs.now)) result }
     ensures left { H.state handle.new ≡ after_reading result (H.state handle.old) }
     ensures same_reference { H.lent handle.new ≡ H.lent handle.old }
+    ensures counted { MakesReads H.calls (stored_vlen_calls (plain_form codec) count
+        (H.state handle.old).value (joined_runs runs.now)) handle.old handle.new result }
 {
     match handle.size()? {
         None => Ok(None),

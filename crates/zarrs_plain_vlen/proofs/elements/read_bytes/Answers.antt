@@ -11,6 +11,10 @@ use Rattle.zarrs_chain_meaning.proofs.ArraySteps.{ok_is}
 use Rattle.zarrs_plain_vlen.specs.Elements.{element_zeros}
 use Rattle.zarrs_plain_vlen.specs.VlenRead.{element_numbers}
 use Rattle.zarrs_plain_vlen.proofs.ElementReads.{unread, all_there, ranges_inside, read, read_long}
+use Rattle.std.specs.Prelude.{OnOk}
+use Rattle.zarrs_codec.specs.Calls.{after_reads}
+use Rattle.zarrs_plain_vlen.specs.ReadingCalls.{calls_for}
+use Rattle.zarrs_plain_vlen.proofs.CallCounts.{calls_for_bytes}
 use Rattle.zarrs_plain_vlen.proofs.elements.read_bytes.Goals as goal
 
 pub returns-then-not-are_there-clause-answer : goal.returns-then-not-are_there-clause-answer
@@ -71,3 +75,13 @@ returns-clause-lengths g c =
     let long = read_long value content c.args.offsets.now runs size sized ordered c.requires.inside c.in_ok-ranges.ranges.items there numbers c.in_ok-ranges.ensures.filled in
     found_from memory_or_fault (λ bytes. bytes.items) c.read_inside.result (ok (bytes_in_ranges value c.as_slice.result.now)) (λ (items : List ℕ). length items ≡ length (flat_map (element_zeros c.args.offsets.now) (joined_runs runs))) c.read_inside.ensures.answer
     (λ items e. ap length (sym (ok_is (bytes_in_ranges value c.as_slice.result.now) items e) ∙ ap (λ (rs : List ByteSpan). bytes_in_ranges value rs) c.as_slice.ensures.value) ∙ long)
+
+pub returns-clause-counted : goal.returns-clause-counted
+returns-clause-counted g c =
+    let D = g.H.BytesPartialDecoderTraits in
+    let content = c.args.content in
+    let runs = c.args.runs.now in
+    let ranges = c.in_ok-ranges.ranges.items in
+    let numbers : range_indices ranges ≡ element_numbers content.start c.args.offsets.now (joined_runs runs) = c.in_ok-ranges.ensures.numbers ∙ ap (λ (s : ℕ). element_numbers s c.args.offsets.now (joined_runs runs)) c.start-start.ensures.value in
+    let all = ap (λ (rs : List ByteSpan). calls_for rs) c.as_slice.ensures.value ∙ calls_for_bytes ranges c.in_ok-ranges.ensures.filled ∙ ap (λ (ns : List ℕ). calls_for ns) numbers in
+    subst (λ (n : ℕ). OnOk c.read_inside.result (D.calls c.read_inside.new.handle ≡ after_reads n (D.calls c.args.handle.now))) all c.read_inside.ensures.counted

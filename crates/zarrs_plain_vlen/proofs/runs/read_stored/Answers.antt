@@ -9,6 +9,7 @@ use Rattle.zarrs_chain_meaning.specs.vlen.PlainVlen.{plain_form}
 use Rattle.zarrs_chain_meaning.specs.vlen.VlenLayout.{span_bytes, span_numbers}
 use Rattle.zarrs_plain_vlen.specs.VlenRead.{elements_read, offsets_read}
 use Rattle.zarrs_plain_vlen.proofs.StoredReads.{read_unindexed, read_indexed, sure_index, runs_known}
+use Rattle.zarrs_plain_vlen.proofs.CallCounts.{value_counted}
 use Rattle.zarrs_plain_vlen.proofs.runs.read_stored.Goals as goal
 
 pub returns-in_err-offsets-clause-answer : goal.returns-in_err-offsets-clause-answer
@@ -56,3 +57,13 @@ returns-clause-answer g c =
     (ap (λ (v : List ℕ). elements_read offsets (span_bytes v layout.content) places) later
     ∙ sym (read_indexed form c.args.count value places (vlen_layout layout) offsets c.in_ok-layout.ensures.answer read))
     c.read_elements.ensures.answer
+
+pub returns-clause-counted : goal.returns-clause-counted
+returns-clause-counted g c =
+    let D = g.H.BytesPartialDecoderTraits in
+    let form = plain_form c.args.codec in
+    let value = value_or_empty (D.state c.args.handle.now).value in
+    let layout = c.in_ok-layout.layout in
+    let same = ap (λ (s : StorageState). value_or_empty s.value) c.in_ok-layout.ensures.left in
+    let read = ap (λ (v : List ℕ). offsets_read form c.args.count (span_bytes v layout.index)) (sym same) ∙ c.in_ok-offsets.ensures.answer in
+    value_counted form c.args.count value (joined_runs c.args.runs.now) c.read_elements.result (vlen_layout layout) c.in_ok-offsets.offsets (D.calls c.args.handle.now) (D.calls c.read_layout.new.handle) (D.calls c.read_index.new.handle) (D.calls c.read_elements.new.handle) c.in_ok-layout.ensures.answer read c.in_ok-layout.ensures.counted c.in_ok-offsets.ensures.counted c.read_elements.ensures.counted
