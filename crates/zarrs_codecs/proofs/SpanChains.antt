@@ -33,6 +33,8 @@ use Rattle.zarrs_codecs.specs.CodecPart.{codec_read, codec_rests_on}
 use Rattle.zarrs_codecs.specs.PlaceLaws.{SameMembers, rests_through}
 use Rattle.zarrs_codecs.specs.SpanReads.{chain_read, chain_rests, held_state, moved_read, moved_rests, outer_rests, seen_state, span_parts, StandsIn}
 use Rattle.zarrs_array_regions.specs.WindowLaws.{region_places}
+use Rattle.zarrs_codecs.specs.TakenChain.{inner_form, moved_sizes, moved_taken}
+use Rattle.zarrs_codecs.specs.declared.sharding.taken_chain.TakenChain.{TakenChain}
 use Rattle.zarrs_codecs.specs.declared.sharding.value_span.ValueSpan.{ValueSpan}
 use Rattle.zarrs_data_type.specs.ElementType.{ElementType}
 use Rattle.zarrs_lent_handles.specs.SpanHandle.{span_state}
@@ -100,12 +102,12 @@ pub record StoredChunk {B : Type 0} (f : BytesCodecs B) (form : ChunkForm B) (en
   pub value : List ℕ
   pub value_is : state.value ≡ Some value
 
--- what stands in a span; the sizes are borrowed
-pub stored_chunk : {B : Type 0} (f : BytesCodecs B) (form : ChunkForm B) (encoded : List ℕ) (r : BytesRepresentation) (span : ValueSpan) (state : StorageState) (lengths : List ℕ) → All IsMapping form.chain.array_to_array → lengths ≡ form.sizes → All (λ size. 0 < size) lengths
-    → taken_form f form.chain form.sizes form.type form.fill ≡ Ok (encoded, r) → StandsIn span state → StoredChunk f form encoded r (seen_state span state)
-stored_chunk f form encoded r span state lengths mappings same positive taken stands =
+-- what stands in a span, where the chain was taken
+pub taken_stored : {B : Type 0} {b : _} (taken : TakenChain B b) (span : ValueSpan) (state : StorageState) → All IsMapping (inner_form taken).chain.array_to_array → StandsIn span state
+    → StoredChunk b.functions (inner_form taken) (moved_sizes taken) (moved_taken taken).1 (seen_state span state)
+taken_stored taken span state mappings stands =
     let there = stands_value span state stands in
-    record { mappings = mappings; positive = subst (All (λ size. 0 < size)) same positive; taken = taken; value = there.value; value_is = there.is }
+    record { mappings = mappings; positive = taken.positive; taken = taken.takes; value = there.value; value_is = there.is }
 
 module _ {B : Type 0} {f : BytesCodecs B} {form : ChunkForm B} {encoded : List ℕ} {r : BytesRepresentation} {state : StorageState} (it : StoredChunk f form encoded r state) where
   abbrev pub readable : IsReadable f form.chain form.sizes form.type form.fill encoded r
