@@ -15,9 +15,7 @@ use Rattle.zarrs_array_regions.specs.Windows.{last_window, window_of, window_pla
 use Rattle.zarrs_array_to_array.specs.ArrayToArrayCodec.{IsMapping}
 use Rattle.zarrs_bytes.proofs.Coding.{bind_ok, demand_ok, ok}
 use Rattle.zarrs_chain_meaning.proofs.ArraySteps.{ok_is, ok_no_err}
-use Rattle.zarrs_chain_meaning.specs.Chain.{taken_form}
 use Rattle.zarrs_chain_meaning.specs.ChunkForm.{ChunkForm}
-use Rattle.zarrs_chunk.specs.ChunkShape.{product}
 use Rattle.zarrs_chunk.specs.Region.{Region}
 use Rattle.zarrs_chunk.specs.Selection.{Selection, places_of}
 use Rattle.zarrs_codecs.proofs.PlaceWrites.{memory_too}
@@ -32,7 +30,6 @@ use Rattle.zarrs_codec.specs.ByteRanges.{bytes_in_ranges, range_indices, ranges_
 use Rattle.zarrs_codec.specs.ByteSpan.{ByteSpan}
 use Rattle.zarrs_codec.specs.BytesToBytesCodec.{BytesCodecs}
 use Rattle.zarrs_codec.specs.StorageState.{StorageState, are_sure, value_indices}
-use Rattle.zarrs_codec.specs.declared.bytes_representation.BytesRepresentation.{BytesRepresentation}
 use Rattle.zarrs_codecs.proofs.GroupedReads.{first_sure, span_sure as inner_sure}
 use Rattle.zarrs_codecs.proofs.LawfulPart.{part_laws}
 use Rattle.zarrs_codecs.proofs.PartialReads.{IsReadable, is_readable}
@@ -42,7 +39,7 @@ use Rattle.zarrs_codecs.specs.ChunkRead.{are_given_sure, asks_in_part, encoded_p
 use Rattle.zarrs_codecs.specs.CodecPart.{codec_rests_on}
 use Rattle.zarrs_codecs.specs.JointReads.{AddsRanges, AddsSpan, AreGroupRanges, AreRestedOn, RestMoved, all_pass, end_within}
 use Rattle.zarrs_codecs.specs.ShardRead.{groups_rest, span_rests}
-use Rattle.zarrs_codecs.specs.SpanReads.{StandsIn, chain_rests, held_state, inner_span, moved_rests, outer_rests, seen_state, span_held, span_parts, stored_groups_rest, taken_rests}
+use Rattle.zarrs_codecs.specs.SpanReads.{StandsIn, held_state, inner_span, moved_rests, outer_rests, seen_state, span_held, span_parts, stored_groups_rest, taken_rests}
 use Rattle.zarrs_codecs.specs.TakenChain.{inner_form, moved_sizes, moved_taken}
 use Rattle.zarrs_codecs.specs.declared.sharding.taken_chain.TakenChain.{TakenChain}
 use Rattle.zarrs_codecs.specs.declared.sharding.value_span.ValueSpan.{ValueSpan}
@@ -59,21 +56,23 @@ use Rattle.zarrs_shard_runs.specs.declared.grouped_runs.InnerRuns.{InnerRuns}
 abbrev kept_state : List ℕ → (ℕ → Bool) → StorageState
 kept_state value test = record { value = Some value; sure = Some test; faults = 0; failure = None; writes = 0; accepted_writes = 0 }
 
--- such a chunk, of which this value is stored
-abbrev stored_as : {B : Type 0} (f : BytesCodecs B) (form : ChunkForm B) (encoded : List ℕ) (r : BytesRepresentation) → All IsMapping form.chain.array_to_array → All (λ size. 0 < size) form.sizes → taken_form f form.chain form.sizes form.type form.fill ≡ Ok (encoded, r)
-    → (value : List ℕ) (test : ℕ → Bool) → StoredChunk f form encoded r (kept_state value test)
-stored_as f form encoded r mappings positive taken value test = record { mappings = mappings; positive = positive; taken = taken; value = value; value_is = refl }
+-- a chain that was taken, where this value is stored
+abbrev stored_as : {B : Type 0} {b : _} (taken : TakenChain B b) → All IsMapping (inner_form taken).chain.array_to_array → (value : List ℕ) (test : ℕ → Bool) → StoredChunk b.functions (inner_form taken) (moved_sizes taken) (moved_taken taken).1 (kept_state value test)
+stored_as taken mappings value test = record { mappings = mappings; positive = taken.positive; counted = taken.counted; taken = taken.takes; value = value; value_is = refl }
 
--- a chain that isn't read in part rests on all bytes
-chain_wholly : {B : Type 0} (f : BytesCodecs B) (form : ChunkForm B) (encoded : List ℕ) (r : BytesRepresentation) → All IsMapping form.chain.array_to_array → All (λ size. 0 < size) form.sizes → taken_form f form.chain form.sizes form.type form.fill ≡ Ok (encoded, r)
-    → asks_in_part form.chain.bytes_to_bytes form.chain.array_to_bytes ≡ false → (value : List ℕ) (test : ℕ → Bool) (places : List ℕ) → chain_rests f form.chain form.sizes form.type form.fill (Some value) places ≡ Ok (value_indices (Some value))
-chain_wholly {B} f form encoded r mappings positive taken whole value test places = chain_rests_moved it places ∙ by form.chain.bytes_to_bytes whole
+-- one that isn't read in part rests on all bytes
+chain_wholly : {B : Type 0} {b : _} (taken : TakenChain B b) → All IsMapping (inner_form taken).chain.array_to_array → asks_in_part (inner_form taken).chain.bytes_to_bytes (inner_form taken).chain.array_to_bytes ≡ false → (value : List ℕ) (test : ℕ → Bool) (places : List ℕ)
+    → taken_rests taken (inner_form taken).sizes (inner_form taken).type (inner_form taken).fill (Some value) places ≡ Ok (value_indices (Some value))
+chain_wholly {B} {b} taken mappings whole value test places = chain_rests_moved it places ∙ by form.chain.bytes_to_bytes whole
   where
-    it : StoredChunk f form encoded r (kept_state value test)
-    it = stored_as f form encoded r mappings positive taken value test
+    form : ChunkForm B
+    form = inner_form taken
 
-    by : (codecs : List B) → asks_in_part codecs form.chain.array_to_bytes ≡ false → outer_rests codecs (codec_rests_on f form.chain.array_to_bytes) encoded form.type form.fill (Some value) (map (readable it).map_is.to places) ≡ Ok (value_indices (Some value))
-    by [] e = (part_laws form.chain.array_to_bytes).rests_wholly f encoded form.type form.fill (Some value) (map (readable it).map_is.to places) e
+    it : StoredChunk b.functions form (moved_sizes taken) (moved_taken taken).1 (kept_state value test)
+    it = stored_as taken mappings value test
+
+    by : (codecs : List B) → asks_in_part codecs form.chain.array_to_bytes ≡ false → outer_rests codecs (codec_rests_on b.functions form.chain.array_to_bytes) (moved_sizes taken) form.type form.fill (Some value) (map (readable it).map_is.to places) ≡ Ok (value_indices (Some value))
+    by [] e = (part_laws form.chain.array_to_bytes).rests_wholly b.functions (moved_sizes taken) form.type form.fill (Some value) (map (readable it).map_is.to places) e
     by (codec ∷ codecs) e = refl
 
 pub is_whole : (test : Bool) → true ≡ not test → test ≡ false
@@ -82,8 +81,8 @@ is_whole false e = refl
 
 pub rested_wholly : {B : Type 0} {b : _} (taken : TakenChain B b) → All IsMapping (inner_form taken).chain.array_to_array → asks_in_part (inner_form taken).chain.bytes_to_bytes (inner_form taken).chain.array_to_bytes ≡ false → (len : ℕ) (places : List ℕ) (ranges : List ByteSpan)
     → ranges ≡ record { start = 0; end = len } ∷ [] → AreRestedOn taken len places ranges
-rested_wholly {b = b} taken mappings whole len places ranges are = λ value test long given.
-    let all : list_all test (range_with_len 0 (length value)) ≡ true = ap (are_given_sure (Some test)) (sym (chain_wholly b.functions (inner_form taken) (moved_sizes taken) (moved_taken taken).1 mappings taken.positive taken.takes whole value test places)) ∙ given in
+rested_wholly taken mappings whole len places ranges are = λ value test long given.
+    let all : list_all test (range_with_len 0 (length value)) ≡ true = ap (are_given_sure (Some test)) (sym (chain_wholly taken mappings whole value test places)) ∙ given in
     let count : len - 0 ≡ length value = omega (arith, long) in
     ap (all_pass test) are ∙ ap (list_all test) (append-nil (range_with_len 0 (len - 0))) ∙ ap (λ (n : ℕ). list_all test (range_with_len 0 n)) count ∙ all
 
@@ -154,7 +153,7 @@ module _ {B : Type 0} {b : _} (taken : TakenChain B b) (mappings : All IsMapping
   h = taken_readable taken mappings
 
   abbrev chunk : (value : List ℕ) (test : ℕ → Bool) → StoredChunk f form (moved_sizes taken) (moved_taken taken).1 (kept_state value test)
-  chunk = stored_as f form (moved_sizes taken) (moved_taken taken).1 mappings taken.positive taken.takes
+  chunk = stored_as taken mappings
 
   abbrev Moves : List ℕ → Type 0
   Moves moved = RestMoved taken places moved
@@ -180,7 +179,7 @@ module _ {B : Type 0} {b : _} (taken : TakenChain B b) (mappings : All IsMapping
 
     to_window : (moved : List ℕ) → ok (window_places (last_window form.chain.array_to_array (window_of form.sizes region))) ≡ ok moved → Moves moved
     to_window moved at = λ value test given.
-        window_sure (chunk value test) taken.counted region kept.inside kept.kept moved at
+        window_sure (chunk value test) region kept.inside kept.kept moved at
         (ap (are_given_sure (Some test)) (chain_rests_moved (chunk value test) (region_places form.sizes region))
         ∙ ap (λ (ps : List ℕ). are_given_sure (Some test) (moved_rests f form.chain (moved_sizes taken) form.type form.fill (Some value) ps)) same
         ∙ to_moved value test given)

@@ -1,7 +1,6 @@
 -- A chain that was taken for the inner chunks of a shard reads what the shard's codec reads of them.
-use Rattle.std.proofs.Common.{◌≡◌, true, ℕ, List, map, get_or, Result, ap, sym, subst}
+use Rattle.std.proofs.Common.{◌≡◌, true, ℕ, List, map, Result, ap, sym, subst}
 use Rattle.zarrs_array_bytes.specs.Held.{Held}
-use Rattle.zarrs_chain.specs.ChainView.{plain_codec}
 use Rattle.zarrs_chain_meaning.specs.ChunkForm.{ChunkForm}
 use Rattle.zarrs_chain_meaning.specs.sharding.Sharding.{Span, spans_of}
 use Rattle.zarrs_chunk.specs.declared.codec_error.CodecError.{CodecError}

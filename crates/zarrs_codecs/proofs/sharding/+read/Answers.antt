@@ -6,7 +6,6 @@ use Rattle.zarrs_array_to_array.specs.Mapping.{mapping_of}
 use Rattle.zarrs_bytes.proofs.Coding.{ok}
 use Rattle.zarrs_chain.specs.ChainView.{plain_chain, plain_codec, plain_sharding}
 use Rattle.zarrs_chain_meaning.proofs.ArraySteps.{ok_is, ok_no_err}
-use Rattle.zarrs_chain_meaning.specs.ChunkForm.{ChunkForm}
 use Rattle.zarrs_chunk.specs.Answer.{AnswersBy, memory, is_fault}
 use Rattle.zarrs_chunk.specs.ChunkShape.{product}
 use Rattle.zarrs_chunk.specs.Indexer.{selection_of}
@@ -17,7 +16,6 @@ use Rattle.zarrs_codecs.proofs.RegionReads.{runs_at}
 use Rattle.zarrs_codecs.proofs.SpanChains.{held_sure, window_answered, window_refused, window_sure, window_valid, taken_stored, readable, places_gone, read_moved, sure_moved, read_alone, window_taken, window_type_taken}
 use Rattle.zarrs_chain_meaning.specs.sharding.Sharding.{is_stored, spans_of}
 use Rattle.std.specs.Prelude.{IsOkAnd, ◌^◌}
-use Rattle.zarrs_chain_meaning.proofs.OptionalSteps.{counted_small}
 use Rattle.zarrs_chain_meaning.specs.CodecMeaning.{codec_representation}
 use Rattle.zarrs_codecs.proofs.GroupWalks.{WalkedTo, walk_ends}
 use Rattle.zarrs_codecs.specs.KeptIndex.{IsIndex}
@@ -31,7 +29,6 @@ use Rattle.zarrs_chain_meaning.specs.sharding.InnerChunks.{inner_chunk_count}
 use Rattle.zarrs_codecs.specs.ChunkRead.{AnswersRuns, are_given_sure}
 use Rattle.zarrs_codecs.specs.SpanReads.{AreInnerRuns, StandsIn, chain_read, chain_rests, stored_groups_read, stored_groups_rest, seen_state}
 use Rattle.zarrs_data_type.specs.Element.{Chunk}
-use Rattle.zarrs_data_type.specs.Form.{form_of}
 use Rattle.std.proofs.lemmas.Bool.Decides.{nat_tests}
 use Rattle.zarrs_codecs.proofs.TakenChains.{groups_rested, inner_depth, inner_groups, inner_sizes}
 use Rattle.zarrs_codecs.specs.TakenChain.{inner_form}
@@ -45,9 +42,8 @@ use Rattle.zarrs_codecs.specs.CodecPart.{rests_where}
 
 pub inner_reads::chain_in_span-returns-clause-answer : goal.inner_reads::chain_in_span-returns-clause-answer
 inner_reads::chain_in_span-returns-clause-answer g t c =
-    let taken = c.args.taken.now in
-    let form = inner_form taken in
-    let it = taken_stored taken c.args.span.now (g.H.BytesPartialDecoderTraits.state c.args.handle.now) c.chain_is_sound.ensures.mappings.mappings c.requires.stands in
+    let form = inner_form c.args.taken.now in
+    let it = taken_stored c.args.taken.now c.args.span.now (g.H.BytesPartialDecoderTraits.state c.args.handle.now) c.chain_is_sound.ensures.mappings.mappings c.requires.stands in
     let empty : length c.array_to_array_codecs.result.now ≡ 0 = grind (arith, nat_tests) in
     let none = nil_from_length c.array_to_array_codecs.result.now empty in
     let arrays : form.chain.array_to_array ≡ [] = sym c.array_to_array_codecs.ensures.value ∙ ap (λ codecs. map mapping_of codecs) none in
@@ -69,8 +65,7 @@ inner_reads::indexed_in_span-returns-in-Some-clause-reads g t c places at =
 
 pub inner_reads::indexed_in_span-returns-in_err-runs-clause-reads : goal.inner_reads::indexed_in_span-returns-in_err-runs-clause-reads
 inner_reads::indexed_in_span-returns-in_err-runs-clause-reads g t c places at =
-    let taken = c.args.taken.now in
-    let it = taken_stored taken c.args.span.now (g.H.BytesPartialDecoderTraits.state c.args.handle.now) c.chain_is_sound.ensures.mappings.mappings c.requires.stands in
+    let it = taken_stored c.args.taken.now c.args.span.now (g.H.BytesPartialDecoderTraits.state c.args.handle.now) c.chain_is_sound.ensures.mappings.mappings c.requires.stands in
     let p = err_from_is_err_and c.from_residual.result c.from_residual.ensures.1 in
     rw (p.1, p.2) (
       (λ unexcused. absurd (ok_no_err _ c.in_err-runs.field-0.0 (places_gone it (map mapping_of c.array_to_array_codecs-codecs.result.now) (selection_of c.args.indexer.now) places (Err c.in_err-runs.field-0.0) c.array_to_array_codecs-codecs.ensures.value at c.in_err-runs.ensures.answer.is (memory_too c.in_err-runs.field-0.0 unexcused)))),
@@ -79,9 +74,8 @@ inner_reads::indexed_in_span-returns-in_err-runs-clause-reads g t c places at =
 
 pub inner_reads::indexed_in_span-returns-clause-reads : goal.inner_reads::indexed_in_span-returns-clause-reads
 inner_reads::indexed_in_span-returns-clause-reads g t c places at =
-    let taken = c.args.taken.now in
-    let form = inner_form taken in
-    let it = taken_stored taken c.args.span.now (g.H.BytesPartialDecoderTraits.state c.args.handle.now) c.chain_is_sound.ensures.mappings.mappings c.requires.stands in
+    let form = inner_form c.args.taken.now in
+    let it = taken_stored c.args.taken.now c.args.span.now (g.H.BytesPartialDecoderTraits.state c.args.handle.now) c.chain_is_sound.ensures.mappings.mappings c.requires.stands in
     let moved : map (readable it).map_is.to places ≡ joined_runs c.deref.result.now =
     ok_is _ _ (places_gone it (map mapping_of c.array_to_array_codecs-codecs.result.now) (selection_of c.args.indexer.now) places (Ok c.in_ok-runs.runs) c.array_to_array_codecs-codecs.ensures.value at c.in_ok-runs.ensures.answer.is) ∙ ap joined_runs (sym c.deref.ensures.value) in (
       subst (λ (x : Result Chunk CodecError). AnswersRuns form.type x c.moved_in_span.result) (sym (read_moved it places (joined_runs c.deref.result.now) moved)) c.moved_in_span.ensures.answer,
@@ -90,58 +84,51 @@ inner_reads::indexed_in_span-returns-clause-reads g t c places at =
 
 pub inner_reads::region_in_span-region_runs-requires : goal.inner_reads::region_in_span-region_runs-requires
 inner_reads::region_in_span-region_runs-requires g t c =
-    let taken = c.args.taken.now in
-    let form = inner_form taken in
-    let it = taken_stored taken c.args.span.now (g.H.BytesPartialDecoderTraits.state c.args.handle.now) c.chain_is_sound.ensures.mappings.mappings c.requires.stands in
-    record { region = subst (λ cs. TakesRegion cs form.sizes c.args.region.now) (sym c.array_to_array_codecs-codecs.ensures.value) (window_taken it taken.counted c.args.region.now c.requires.inside c.requires.region_kept) }
+    let form = inner_form c.args.taken.now in
+    let it = taken_stored c.args.taken.now c.args.span.now (g.H.BytesPartialDecoderTraits.state c.args.handle.now) c.chain_is_sound.ensures.mappings.mappings c.requires.stands in
+    record { region = subst (λ cs. TakesRegion cs form.sizes c.args.region.now) (sym c.array_to_array_codecs-codecs.ensures.value) (window_taken it c.args.region.now c.requires.inside c.requires.region_kept) }
 
 pub inner_reads::region_in_span-returns-in_err-held-clause-answer : goal.inner_reads::region_in_span-returns-in_err-held-clause-answer
 inner_reads::region_in_span-returns-in_err-held-clause-answer g t c =
-    let taken = c.args.taken.now in
-    let form = inner_form taken in
-    let it = taken_stored taken c.args.span.now (g.H.BytesPartialDecoderTraits.state c.args.handle.now) c.chain_is_sound.ensures.mappings.mappings c.requires.stands in
+    let form = inner_form c.args.taken.now in
+    let it = taken_stored c.args.taken.now c.args.span.now (g.H.BytesPartialDecoderTraits.state c.args.handle.now) c.chain_is_sound.ensures.mappings.mappings c.requires.stands in
     let at = runs_at form.chain.array_to_array (map mapping_of c.array_to_array_codecs-codecs.result.now) (window_of form.sizes c.args.region.now) c.in_ok-runs.runs.items c.deref.result.now c.array_to_array_codecs-codecs.ensures.value ((c.in_ok-runs.ensures {u = tt}).places.is) c.deref.ensures.value in
     let p = err_from_is_err_and c.from_residual-in_err-held.result c.from_residual-in_err-held.ensures.1 in
-    rw (p.1, p.2) (window_refused it taken.counted c.args.region.now c.requires.inside c.requires.region_kept (joined_runs c.deref.result.now) c.in_err-held.field-0.0 at c.in_err-held.ensures.answer)
+    rw (p.1, p.2) (window_refused it c.args.region.now c.requires.inside c.requires.region_kept (joined_runs c.deref.result.now) c.in_err-held.field-0.0 at c.in_err-held.ensures.answer)
 
 pub inner_reads::region_in_span-returns-in_err-held-clause-sure : goal.inner_reads::region_in_span-returns-in_err-held-clause-sure
 inner_reads::region_in_span-returns-in_err-held-clause-sure g t c =
-    let taken = c.args.taken.now in
-    let form = inner_form taken in
-    let it = taken_stored taken c.args.span.now (g.H.BytesPartialDecoderTraits.state c.args.handle.now) c.chain_is_sound.ensures.mappings.mappings c.requires.stands in
+    let form = inner_form c.args.taken.now in
+    let it = taken_stored c.args.taken.now c.args.span.now (g.H.BytesPartialDecoderTraits.state c.args.handle.now) c.chain_is_sound.ensures.mappings.mappings c.requires.stands in
     let at = runs_at form.chain.array_to_array (map mapping_of c.array_to_array_codecs-codecs.result.now) (window_of form.sizes c.args.region.now) c.in_ok-runs.runs.items c.deref.result.now c.array_to_array_codecs-codecs.ensures.value ((c.in_ok-runs.ensures {u = tt}).places.is) c.deref.ensures.value in
     let p = err_from_is_err_and c.from_residual-in_err-held.result c.from_residual-in_err-held.ensures.1 in
-    λ s. rw (p.1, p.2) (c.in_err-held.ensures.sure (window_sure it taken.counted c.args.region.now c.requires.inside c.requires.region_kept (joined_runs c.deref.result.now) at s))
+    λ s. rw (p.1, p.2) (c.in_err-held.ensures.sure (window_sure it c.args.region.now c.requires.inside c.requires.region_kept (joined_runs c.deref.result.now) at s))
 
 pub inner_reads::region_in_span-decoded_window-requires-clause-region : goal.inner_reads::region_in_span-decoded_window-requires-clause-region
 inner_reads::region_in_span-decoded_window-requires-clause-region g t c =
-    let taken = c.args.taken.now in
-    let form = inner_form taken in
-    let it = taken_stored taken c.args.span.now (g.H.BytesPartialDecoderTraits.state c.args.handle.now) c.chain_is_sound.ensures.mappings.mappings c.requires.stands in
-    subst (λ cs. TakesRegion cs form.sizes c.args.region.now) (sym c.array_to_array_codecs-codecs.ensures.value) (window_taken it taken.counted c.args.region.now c.requires.inside c.requires.region_kept)
+    let form = inner_form c.args.taken.now in
+    let it = taken_stored c.args.taken.now c.args.span.now (g.H.BytesPartialDecoderTraits.state c.args.handle.now) c.chain_is_sound.ensures.mappings.mappings c.requires.stands in
+    subst (λ cs. TakesRegion cs form.sizes c.args.region.now) (sym c.array_to_array_codecs-codecs.ensures.value) (window_taken it c.args.region.now c.requires.inside c.requires.region_kept)
 
 pub inner_reads::region_in_span-decoded_window-requires-clause-takes : goal.inner_reads::region_in_span-decoded_window-requires-clause-takes
 inner_reads::region_in_span-decoded_window-requires-clause-takes g t c =
-    let taken = c.args.taken.now in
-    let form = inner_form taken in
-    let it = taken_stored taken c.args.span.now (g.H.BytesPartialDecoderTraits.state c.args.handle.now) c.chain_is_sound.ensures.mappings.mappings c.requires.stands in
-    subst (λ cs. TakeType cs form.type) (sym c.array_to_array_codecs-codecs.ensures.value) (window_type_taken it taken.counted c.args.region.now c.requires.inside c.requires.region_kept)
+    let form = inner_form c.args.taken.now in
+    let it = taken_stored c.args.taken.now c.args.span.now (g.H.BytesPartialDecoderTraits.state c.args.handle.now) c.chain_is_sound.ensures.mappings.mappings c.requires.stands in
+    subst (λ cs. TakeType cs form.type) (sym c.array_to_array_codecs-codecs.ensures.value) (window_type_taken it c.args.region.now c.requires.inside c.requires.region_kept)
 
 pub inner_reads::region_in_span-decoded_window-requires-clause-valid : goal.inner_reads::region_in_span-decoded_window-requires-clause-valid
 inner_reads::region_in_span-decoded_window-requires-clause-valid g t c =
-    let taken = c.args.taken.now in
-    let form = inner_form taken in
-    let it = taken_stored taken c.args.span.now (g.H.BytesPartialDecoderTraits.state c.args.handle.now) c.chain_is_sound.ensures.mappings.mappings c.requires.stands in
+    let form = inner_form c.args.taken.now in
+    let it = taken_stored c.args.taken.now c.args.span.now (g.H.BytesPartialDecoderTraits.state c.args.handle.now) c.chain_is_sound.ensures.mappings.mappings c.requires.stands in
     let at = runs_at form.chain.array_to_array (map mapping_of c.array_to_array_codecs-codecs.result.now) (window_of form.sizes c.args.region.now) c.in_ok-runs.runs.items c.deref.result.now c.array_to_array_codecs-codecs.ensures.value ((c.in_ok-runs.ensures {u = tt}).places.is) c.deref.ensures.value in
-    window_valid it taken.counted c.args.region.now c.requires.inside c.requires.region_kept (joined_runs c.deref.result.now) c.in_ok-held.held at ((c.in_ok-held.ensures {u = tt}).answer)
+    window_valid it c.args.region.now c.requires.inside c.requires.region_kept (joined_runs c.deref.result.now) c.in_ok-held.held at ((c.in_ok-held.ensures {u = tt}).answer)
 
 pub inner_reads::region_in_span-returns-clause-answer : goal.inner_reads::region_in_span-returns-clause-answer
 inner_reads::region_in_span-returns-clause-answer g t c =
-    let taken = c.args.taken.now in
-    let form = inner_form taken in
-    let it = taken_stored taken c.args.span.now (g.H.BytesPartialDecoderTraits.state c.args.handle.now) c.chain_is_sound.ensures.mappings.mappings c.requires.stands in
+    let form = inner_form c.args.taken.now in
+    let it = taken_stored c.args.taken.now c.args.span.now (g.H.BytesPartialDecoderTraits.state c.args.handle.now) c.chain_is_sound.ensures.mappings.mappings c.requires.stands in
     let at = runs_at form.chain.array_to_array (map mapping_of c.array_to_array_codecs-codecs.result.now) (window_of form.sizes c.args.region.now) c.in_ok-runs.runs.items c.deref.result.now c.array_to_array_codecs-codecs.ensures.value ((c.in_ok-runs.ensures {u = tt}).places.is) c.deref.ensures.value in
-    window_answered it taken.counted c.args.region.now c.requires.inside c.requires.region_kept (joined_runs c.deref.result.now) c.in_ok-held.held c.decoded_window.result at ((c.in_ok-held.ensures {u = tt}).answer)
+    window_answered it c.args.region.now c.requires.inside c.requires.region_kept (joined_runs c.deref.result.now) c.in_ok-held.held c.decoded_window.result at ((c.in_ok-held.ensures {u = tt}).answer)
     (subst (λ cs. AnswersBy memory (Holds form.type) c.decoded_window.result (ok (decoded_of cs form.type (window_of form.sizes c.args.region.now) c.in_ok-held.held))) c.array_to_array_codecs-codecs.ensures.value c.decoded_window.ensures.decoded.is)
 
 pub shard_runs::read_group-returns-clause-answer : goal.shard_runs::read_group-returns-clause-answer
@@ -209,9 +196,8 @@ shard_runs::shard_by_index-returns-in_err-taken-clause-answer g t c =
 
 pub inner_reads::indexed_in_span-moved_in_span-requires : goal.inner_reads::indexed_in_span-moved_in_span-requires
 inner_reads::indexed_in_span-moved_in_span-requires g t c κs within =
-    let taken = c.args.taken.now in
-    let form = inner_form taken in
-    let it = taken_stored taken c.args.span.now (g.H.BytesPartialDecoderTraits.state c.args.handle.now) c.chain_is_sound.ensures.mappings.mappings c.requires.stands in
+    let form = inner_form c.args.taken.now in
+    let it = taken_stored c.args.taken.now c.args.span.now (g.H.BytesPartialDecoderTraits.state c.args.handle.now) c.chain_is_sound.ensures.mappings.mappings c.requires.stands in
     let filled = subst AreFilled (sym c.deref.ensures.value) ((c.in_ok-runs.ensures {u = tt}).filled) in
     let inside = subst (λ n. EndWithin n c.deref.result.now) (sym (readable it).count) (subst (EndWithin (product form.sizes)) (sym c.deref.ensures.value) ((c.in_ok-runs.ensures {u = tt}).below)) in
     let few = subst (λ rs. length (joined_runs rs) < 2 ^ 64) (sym c.deref.ensures.value) ((c.in_ok-runs.ensures {u = tt}).count) in
@@ -219,9 +205,8 @@ inner_reads::indexed_in_span-moved_in_span-requires g t c κs within =
 
 pub inner_reads::region_in_span-moved_in_span-requires : goal.inner_reads::region_in_span-moved_in_span-requires
 inner_reads::region_in_span-moved_in_span-requires g t c κs within =
-    let taken = c.args.taken.now in
-    let form = inner_form taken in
-    let it = taken_stored taken c.args.span.now (g.H.BytesPartialDecoderTraits.state c.args.handle.now) c.chain_is_sound.ensures.mappings.mappings c.requires.stands in
+    let form = inner_form c.args.taken.now in
+    let it = taken_stored c.args.taken.now c.args.span.now (g.H.BytesPartialDecoderTraits.state c.args.handle.now) c.chain_is_sound.ensures.mappings.mappings c.requires.stands in
     let filled = subst AreFilled (sym c.deref.ensures.value) ((c.in_ok-runs.ensures {u = tt}).filled) in
     let inside = subst (λ n. EndWithin n c.deref.result.now) (sym (readable it).count) (subst (EndWithin (product form.sizes)) (sym c.deref.ensures.value) ((c.in_ok-runs.ensures {u = tt}).below)) in
     let few = subst (λ rs. length (joined_runs rs) < 2 ^ 64) (sym c.deref.ensures.value) ((c.in_ok-runs.ensures {u = tt}).count) in
