@@ -226,16 +226,16 @@ pub shard_runs::read_alone-read_group-requires : goal.shard_runs::read_alone-rea
 shard_runs::read_alone-read_group-requires g t c κs within =
     let form = inner_form c.args.taken.now in
     let it = is_alone form.sizes c.args.numbers.now c.args.groups.now c.index-groups-0.result c.requires.one c.index-groups-0.is c.requires.groups c.requires.numbers in
-    let filled = subst AreFilled (sym c.as_slice-runs.ensures.value) it.filled in
-    let below = subst (EndWithin (product form.sizes)) (sym c.as_slice-runs.ensures.value) it.inside in
-    let few = alone_few it c.as_slice-runs.result.now c.as_slice-runs.ensures.value in
+    let filled = subst AreFilled (sym c.as_slice.ensures.value) it.filled in
+    let below = subst (EndWithin (product form.sizes)) (sym c.as_slice.ensures.value) it.inside in
+    let few = alone_few it c.as_slice.result.now c.as_slice.ensures.value in
     search (rules, filled, below, few)
 
 pub shard_runs::read_alone-returns-clause-answer : goal.shard_runs::read_alone-returns-clause-answer
 shard_runs::read_alone-returns-clause-answer g t c =
     let form = inner_form c.args.taken.now in
     let it = is_alone form.sizes c.args.numbers.now c.args.groups.now c.index-groups-0.result c.requires.one c.index-groups-0.is c.requires.groups c.requires.numbers in
-    alone_answered it c.as_slice-runs.result.now c.as_slice-runs.ensures.value (chain_read g.B.BytesToBytesCodecTraits.functions form.chain) form.type form.fill
+    alone_answered it c.as_slice.result.now c.as_slice.ensures.value (chain_read g.B.BytesToBytesCodecTraits.functions form.chain) form.type form.fill
     (seen_state c.args.span.now (g.H.BytesPartialDecoderTraits.state c.args.handle.now)).value c.read_group.result c.read_group.ensures.answer
 
 pub shard_runs::read_alone-returns-clause-sure : goal.shard_runs::read_alone-returns-clause-sure
@@ -243,7 +243,7 @@ shard_runs::read_alone-returns-clause-sure g t c =
     let form = inner_form c.args.taken.now in
     let it = is_alone form.sizes c.args.numbers.now c.args.groups.now c.index-groups-0.result c.requires.one c.index-groups-0.is c.requires.groups c.requires.numbers in
     let state = seen_state c.args.span.now (g.H.BytesPartialDecoderTraits.state c.args.handle.now) in
-    λ s. c.read_group.ensures.sure (alone_sure it c.as_slice-runs.result.now c.as_slice-runs.ensures.value (chain_rests g.B.BytesToBytesCodecTraits.functions form.chain) form.type form.fill state.value state.sure s)
+    λ s. c.read_group.ensures.sure (alone_sure it c.as_slice.result.now c.as_slice.ensures.value (chain_rests g.B.BytesToBytesCodecTraits.functions form.chain) form.type form.fill state.value state.sure s)
 
 pub shard_runs::read_groups-read_group-requires : goal.shard_runs::read_groups-read_group-requires
 shard_runs::read_groups-read_group-requires g t c κs within =
