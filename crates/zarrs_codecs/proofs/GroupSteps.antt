@@ -20,7 +20,9 @@ use Rattle.zarrs_codecs.specs.ChunkRead.{are_given_sure}
 use Rattle.zarrs_codecs.specs.PartRead.{PlaceReader}
 use Rattle.zarrs_codecs.specs.PlaceLaws.{Resting}
 use Rattle.zarrs_codecs.specs.ShardRead.{groups_rest, span_read}
-use Rattle.zarrs_codecs.specs.SpanReads.{AreInnerRuns, StandsIn, chain_read, chain_rests, seen_state, stored_groups_read, stored_span_read, stored_span_rests}
+use Rattle.zarrs_codecs.specs.SpanReads.{AreInnerRuns, StandsIn, chain_read, chain_rests, seen_state, stored_groups_read, stored_span_read, stored_span_rests, taken_read}
+use Rattle.zarrs_codecs.specs.TakenChain.{inner_form}
+use Rattle.zarrs_codecs.specs.declared.sharding.taken_chain.TakenChain.{TakenChain}
 use Rattle.zarrs_codecs.specs.declared.sharding.value_span.ValueSpan.{ValueSpan}
 use Rattle.zarrs_data_type.specs.Element.{Chunk}
 use Rattle.zarrs_data_type.specs.ElementType.{ElementType}
@@ -37,10 +39,10 @@ pub record AtGroup {B : Type 0} (f : BytesCodecs B) (chain : PlainChain B) (shap
   pub runs : AreInnerRuns shape (length (spans_of numbers)) groups
   pub at : get_or (spans_of numbers) it.number (0, 0) ≡ (get_or numbers (it.number * 2) 0, get_or numbers (it.number * 2 + 1) 0)
 
-pub at_group : {B : Type 0} (f : BytesCodecs B) (chain : PlainChain B) (shape : List ℕ) (type : ElementType) (fill numbers : List ℕ) (groups : List InnerRuns) (index : ℕ) (joined : Held) (count : ℕ) (it : InnerRuns) (span : ValueSpan) (handle now : StorageState) → StandsIn span handle → now ≡ handle
-    → ((value : List ℕ) → (seen_state span handle).value ≡ Some value → WalkedTo (chain_read f chain) shape type fill value (spans_of numbers) groups index joined count) → index < length groups → it ≡ get_or groups index it → AreInnerRuns shape (length (spans_of numbers)) groups → length numbers ≡ length (spans_of numbers) * 2
-    → AtGroup f chain shape type fill numbers groups index joined count it (seen_state span handle) (seen_state span now)
-at_group f chain shape type fill numbers groups index joined count it span handle now stands same walk under is runs long =
+pub at_group : {B : Type 0} {b : _} (taken : TakenChain B b) (numbers : List ℕ) (groups : List InnerRuns) (index : ℕ) (joined : Held) (count : ℕ) (it : InnerRuns) (span : ValueSpan) (handle now : StorageState) → StandsIn span handle → now ≡ handle
+    → ((value : List ℕ) → (seen_state span handle).value ≡ Some value → WalkedTo (taken_read taken) (inner_form taken).sizes (inner_form taken).type (inner_form taken).fill value (spans_of numbers) groups index joined count) → index < length groups → it ≡ get_or groups index it → AreInnerRuns (inner_form taken).sizes (length (spans_of numbers)) groups → length numbers ≡ length (spans_of numbers) * 2
+    → AtGroup b.functions (inner_form taken).chain (inner_form taken).sizes (inner_form taken).type (inner_form taken).fill numbers groups index joined count it (seen_state span handle) (seen_state span now)
+at_group taken numbers groups index joined count it span handle now stands same walk under is runs long =
     let there = stands_value span handle stands in
     let next = next_at groups index it under is in
     let inside : it.number < length (spans_of numbers) = next_is (λ it. it.number < length (spans_of numbers)) groups index it (drop (index + 1) groups) next runs.there in

@@ -41,6 +41,7 @@ pub mod WholeSpans
 pub mod ShardParts
 pub mod GroupedShards
 pub mod JointReads
+pub mod TakenChains
 pub mod StoredIndex
 pub mod GroupSteps
 pub mod AloneGroup

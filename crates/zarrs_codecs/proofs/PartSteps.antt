@@ -23,7 +23,9 @@ use Rattle.zarrs_codecs.proofs.SpanSeen.{stands_value}
 use Rattle.zarrs_codecs.specs.BoxReads.{AreShardParts, IsShardPart, blank_box, part_group, inner_part_read, parts_read}
 use Rattle.zarrs_codecs.specs.ChunkRead.{are_given_sure}
 use Rattle.zarrs_codecs.specs.ShardRead.{groups_rest}
-use Rattle.zarrs_codecs.specs.SpanReads.{StandsIn, chain_read, chain_rests, seen_state, stored_span_read, stored_span_rests}
+use Rattle.zarrs_codecs.specs.SpanReads.{StandsIn, chain_read, chain_rests, seen_state, stored_span_read, stored_span_rests, taken_read}
+use Rattle.zarrs_codecs.specs.TakenChain.{inner_form}
+use Rattle.zarrs_codecs.specs.declared.sharding.taken_chain.TakenChain.{TakenChain}
 use Rattle.zarrs_codecs.specs.declared.sharding.value_span.ValueSpan.{ValueSpan}
 use Rattle.zarrs_data_type.specs.Element.{Chunk}
 use Rattle.zarrs_data_type.specs.ElementType.{ElementType}
@@ -43,10 +45,10 @@ pub own_part : {shape grid lengths : List ℕ} {parts : List ChunkPart} (index :
 own_part {shape} {grid} {lengths} {parts} index it under is are =
     All-head (IsShardPart shape grid lengths) it (drop (index + 1) parts) (subst (All (IsShardPart shape grid lengths)) (next_part parts index it under is) (All-drop (IsShardPart shape grid lengths) index parts are.each))
 
-pub at_part : {B : Type 0} (f : BytesCodecs B) (chain : PlainChain B) (shape : List ℕ) (type : ElementType) (fill numbers grid lengths : List ℕ) (parts : List ChunkPart) (index : ℕ) (held : Held) (it : ChunkPart) (place : Span) (span : ValueSpan) (handle now : StorageState) → StandsIn span handle → now ≡ handle
-    → ((value : List ℕ) → (seen_state span handle).value ≡ Some value → PutTo (chain_read f chain) shape type fill value (spans_of numbers) grid lengths parts (blank_box type fill lengths) index held) → index < length parts → it ≡ get_or parts index it → AreShardParts shape grid lengths parts
-    → place ≡ get_or (spans_of numbers) (row_major grid it.chunk.items) (0, 0) → AtPart f chain shape type fill numbers grid lengths parts index held it place (seen_state span handle) (seen_state span now)
-at_part f chain shape type fill numbers grid lengths parts index held it place span handle now stands same walk under is are at =
+pub at_part : {B : Type 0} {b : _} (taken : TakenChain B b) (numbers grid lengths : List ℕ) (parts : List ChunkPart) (index : ℕ) (held : Held) (it : ChunkPart) (place : Span) (span : ValueSpan) (handle now : StorageState) → StandsIn span handle → now ≡ handle
+    → ((value : List ℕ) → (seen_state span handle).value ≡ Some value → PutTo (taken_read taken) (inner_form taken).sizes (inner_form taken).type (inner_form taken).fill value (spans_of numbers) grid lengths parts (blank_box (inner_form taken).type (inner_form taken).fill lengths) index held) → index < length parts → it ≡ get_or parts index it → AreShardParts (inner_form taken).sizes grid lengths parts
+    → place ≡ get_or (spans_of numbers) (row_major grid it.chunk.items) (0, 0) → AtPart b.functions (inner_form taken).chain (inner_form taken).sizes (inner_form taken).type (inner_form taken).fill numbers grid lengths parts index held it place (seen_state span handle) (seen_state span now)
+at_part taken numbers grid lengths parts index held it place span handle now stands same walk under is are at =
     let there = stands_value span handle stands in
     record {
       value = there.value;

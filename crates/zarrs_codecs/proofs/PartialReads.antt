@@ -48,6 +48,11 @@ pub record IsReadable {B : Type 0} (f : BytesCodecs B) (chain : PlainChain B) (s
   pub measured : codec_representation f chain.array_to_bytes encoded type fill ≡ Ok r
   pub positive : All (λ size. 0 < size) encoded
 
+pub codec_measured : {B : Type 0} (f : BytesCodecs B) (chain : PlainChain B) (sizes : List ℕ) (type : ElementType) (fill encoded : List ℕ) (r : BytesRepresentation) → taken_form f chain sizes type fill ≡ Ok (encoded, r) → codec_representation f chain.array_to_bytes encoded type fill ≡ Ok r
+codec_measured f chain sizes type fill encoded r e =
+    let t = is_taken f chain sizes type fill (encoded, r) e in
+    subst (λ s. codec_representation f chain.array_to_bytes s type fill ≡ Ok r) t.encoded_is t.measured
+
 pub is_readable : {B : Type 0} (f : BytesCodecs B) (chain : PlainChain B) (sizes : List ℕ) (type : ElementType) (fill encoded : List ℕ) (r : BytesRepresentation) → All IsMapping chain.array_to_array → All (λ size. 0 < size) sizes
     → taken_form f chain sizes type fill ≡ Ok (encoded, r) → IsReadable f chain sizes type fill encoded r
 is_readable f chain sizes type fill encoded r mappings positive e =
@@ -59,7 +64,7 @@ is_readable f chain sizes type fill encoded r mappings positive e =
       is_map = h;
       encoded_is = t.encoded_is;
       count = ap product (sym t.encoded_is) ∙ h.count;
-      measured = subst (λ s. codec_representation f chain.array_to_bytes s type fill ≡ Ok r) t.encoded_is t.measured;
+      measured = codec_measured f chain sizes type fill encoded r e;
       positive = subst (All (λ size. 0 < size)) t.encoded_is (h.positive positive);
     }
 

@@ -33,6 +33,8 @@ use Rattle.zarrs_codecs.specs.CodecPart.{codec_read, codec_rests_on}
 use Rattle.zarrs_codecs.specs.PlaceLaws.{SameMembers, rests_through}
 use Rattle.zarrs_codecs.specs.SpanReads.{chain_read, chain_rests, held_state, moved_read, moved_rests, outer_rests, seen_state, span_parts, StandsIn}
 use Rattle.zarrs_array_regions.specs.WindowLaws.{region_places}
+use Rattle.zarrs_codecs.specs.TakenChain.{inner_form, moved_sizes, moved_taken}
+use Rattle.zarrs_codecs.specs.declared.sharding.taken_chain.TakenChain.{TakenChain}
 use Rattle.zarrs_codecs.specs.declared.sharding.value_span.ValueSpan.{ValueSpan}
 use Rattle.zarrs_data_type.specs.ElementType.{ElementType}
 use Rattle.zarrs_lent_handles.specs.SpanHandle.{span_state}
@@ -92,20 +94,21 @@ selected_go type arrays sizes places selection m a b = rw (a, b) refl
 
 -- ---- through array-to-array codecs
 
--- A chain takes such a chunk, no size of which is zero, and something is stored.
+-- A chain takes such a chunk, no size of which is zero and whose elements 64 bits count, and something is stored.
 pub record StoredChunk {B : Type 0} (f : BytesCodecs B) (form : ChunkForm B) (encoded : List ℕ) (r : BytesRepresentation) (state : StorageState) : Type 0 where
   pub mappings : All IsMapping form.chain.array_to_array
   pub positive : All (λ size. 0 < size) form.sizes
+  pub counted : product form.sizes < 2 ^ 64
   pub taken : taken_form f form.chain form.sizes form.type form.fill ≡ Ok (encoded, r)
   pub value : List ℕ
   pub value_is : state.value ≡ Some value
 
--- what stands in a span; the sizes are borrowed
-pub stored_chunk : {B : Type 0} (f : BytesCodecs B) (form : ChunkForm B) (encoded : List ℕ) (r : BytesRepresentation) (span : ValueSpan) (state : StorageState) (lengths : List ℕ) → All IsMapping form.chain.array_to_array → lengths ≡ form.sizes → All (λ size. 0 < size) lengths
-    → taken_form f form.chain form.sizes form.type form.fill ≡ Ok (encoded, r) → StandsIn span state → StoredChunk f form encoded r (seen_state span state)
-stored_chunk f form encoded r span state lengths mappings same positive taken stands =
+-- what stands in a span, where the chain was taken
+pub taken_stored : {B : Type 0} {b : _} (taken : TakenChain B b) (span : ValueSpan) (state : StorageState) → All IsMapping (inner_form taken).chain.array_to_array → StandsIn span state
+    → StoredChunk b.functions (inner_form taken) (moved_sizes taken) (moved_taken taken).1 (seen_state span state)
+taken_stored taken span state mappings stands =
     let there = stands_value span state stands in
-    record { mappings = mappings; positive = subst (All (λ size. 0 < size)) same positive; taken = taken; value = there.value; value_is = there.is }
+    record { mappings = mappings; positive = taken.positive; counted = taken.counted; taken = taken.takes; value = there.value; value_is = there.is }
 
 module _ {B : Type 0} {f : BytesCodecs B} {form : ChunkForm B} {encoded : List ℕ} {r : BytesRepresentation} {state : StorageState} (it : StoredChunk f form encoded r state) where
   abbrev pub readable : IsReadable f form.chain form.sizes form.type form.fill encoded r
@@ -187,38 +190,38 @@ moved_same {B} f chain encoded type fill stored sure ps qs same = by chain.bytes
 
 -- ---- regions
 
-module _ {B : Type 0} {f : BytesCodecs B} {form : ChunkForm B} {encoded : List ℕ} {r : BytesRepresentation} {state : StorageState} (it : StoredChunk f form encoded r state) (counted : product form.sizes < 2 ^ 64) (region : Region) (inside : is_box_inside form.sizes region.starts region.lengths ≡ true) (kept : keeps_regions form.chain.array_to_array ≡ true) where
+module _ {B : Type 0} {f : BytesCodecs B} {form : ChunkForm B} {encoded : List ℕ} {r : BytesRepresentation} {state : StorageState} (it : StoredChunk f form encoded r state) (region : Region) (inside : is_box_inside form.sizes region.starts region.lengths ≡ true) (kept : keeps_regions form.chain.array_to_array ≡ true) where
   abbrev source : Source
   source = bytes_above (length form.chain.bytes_to_bytes) state.value
 
   region_is : source_read f form encoded r source (subset region) ≡ chain_read f form.chain form.sizes form.type form.fill state.value (region_places form.sizes region)
   region_is =
-      ap (λ (x : Result (List ℕ) CodecError). x >>= source_places f form.chain encoded form.type form.fill r source) (region_goes f form encoded r (readable it) it.mappings it.positive counted region inside kept)
+      ap (λ (x : Result (List ℕ) CodecError). x >>= source_places f form.chain encoded form.type form.fill r source) (region_goes f form encoded r (readable it) it.mappings it.positive it.counted region inside kept)
       ∙ sym (chain_moved it (region_places form.sizes region))
 
   pub window_taken : TakesRegion form.chain.array_to_array form.sizes region
-  window_taken = takes_region f form encoded r (readable it) it.mappings it.positive counted region inside kept
+  window_taken = takes_region f form encoded r (readable it) it.mappings it.positive it.counted region inside kept
 
   pub window_type_taken : TakeType form.chain.array_to_array form.type
-  window_type_taken = takes_type f form encoded r (readable it) it.mappings it.positive counted region inside kept
+  window_type_taken = takes_type f form encoded r (readable it) it.mappings it.positive it.counted region inside kept
 
   pub window_refused : (places : List ℕ) (e : CodecError) → ok (window_places (last_window form.chain.array_to_array (window_of form.sizes region))) ≡ ok places
       → AnswersBy {T = Held} memory_or_fault (Holds form.type) (Err e) (moved_read f form.chain encoded form.type form.fill r state.value places)
       → AnswersBy {T = Held} memory_or_fault (Holds form.type) (Err e) (chain_read f form.chain form.sizes form.type form.fill state.value (region_places form.sizes region))
-  window_refused places e at answer = λ unexcused. sym region_is ∙ region_refused f form encoded r (readable it) it.mappings it.positive counted region inside kept source places e at answer unexcused
+  window_refused places e at answer = λ unexcused. sym region_is ∙ region_refused f form encoded r (readable it) it.mappings it.positive it.counted region inside kept source places e at answer unexcused
 
   pub window_valid : (places : List ℕ) (held : Held) → ok (window_places (last_window form.chain.array_to_array (window_of form.sizes region))) ≡ ok places → IsOkAnd (moved_read f form.chain encoded form.type form.fill r state.value places) (Holds form.type held)
       → validity form.type (product region.lengths) held ≡ Ok tt
-  window_valid places held at answer = region_valid f form encoded r (readable it) it.mappings it.positive counted region inside kept source places held at answer
+  window_valid places held at answer = region_valid f form encoded r (readable it) it.mappings it.positive it.counted region inside kept source places held at answer
 
   pub window_answered : (places : List ℕ) (held : Held) (result : Result Held CodecError) → ok (window_places (last_window form.chain.array_to_array (window_of form.sizes region))) ≡ ok places → IsOkAnd (moved_read f form.chain encoded form.type form.fill r state.value places) (Holds form.type held)
       → AnswersBy memory (Holds form.type) result (ok (decoded_of form.chain.array_to_array form.type (window_of form.sizes region) held)) → AnswersBy memory_or_fault (Holds form.type) result (chain_read f form.chain form.sizes form.type form.fill state.value (region_places form.sizes region))
-  window_answered places held result at answer d = subst (AnswersBy memory_or_fault (Holds form.type) result) region_is (region_answered f form encoded r (readable it) it.mappings it.positive counted region inside kept source places held result at answer d)
+  window_answered places held result at answer d = subst (AnswersBy memory_or_fault (Holds form.type) result) region_is (region_answered f form encoded r (readable it) it.mappings it.positive it.counted region inside kept source places held result at answer d)
 
   pub window_sure : (places : List ℕ) → ok (window_places (last_window form.chain.array_to_array (window_of form.sizes region))) ≡ ok places
       → are_given_sure state.sure (chain_rests f form.chain form.sizes form.type form.fill state.value (region_places form.sizes region)) ≡ true → are_given_sure state.sure (moved_rests f form.chain encoded form.type form.fill state.value places) ≡ true
   window_sure places at s =
       ap (λ (ps : List ℕ). are_given_sure state.sure (moved_rests f form.chain encoded form.type form.fill state.value ps)) (sym (ok_is (window_places (last_window form.chain.array_to_array (window_of form.sizes region))) places at))
-      ∙ sym (moved_same f form.chain encoded form.type form.fill state.value state.sure (map (readable it).map_is.to (region_places form.sizes region)) (window_places (last_window form.chain.array_to_array (window_of form.sizes region))) (region_members f form encoded r (readable it) it.mappings it.positive counted region inside kept))
+      ∙ sym (moved_same f form.chain encoded form.type form.fill state.value state.sure (map (readable it).map_is.to (region_places form.sizes region)) (window_places (last_window form.chain.array_to_array (window_of form.sizes region))) (region_members f form encoded r (readable it) it.mappings it.positive it.counted region inside kept))
       ∙ ap (are_given_sure state.sure) (sym (chain_rests_moved it (region_places form.sizes region)))
       ∙ s

@@ -6,22 +6,20 @@ use Rattle.zarrs_array_bytes.specs.Held.{Held}
 use Rattle.zarrs_array_bytes.specs.Update.{update}
 use Rattle.zarrs_array_bytes.specs.Validity.{Holds}
 use Rattle.zarrs_array_regions.specs.WindowLaws.{region_places}
-use Rattle.zarrs_chain.specs.ChainView.{plain_chain}
-use Rattle.zarrs_chain.specs.declared.codec_chain.CodecChain.{CodecChain}
 use Rattle.zarrs_chain_meaning.specs.sharding.Sharding.{Span, spans_of}
 use Rattle.zarrs_chunk.specs.Answer.{◌>>=◌, GivesBy}
 use Rattle.zarrs_chunk.specs.ChunkShape.{product}
 use Rattle.zarrs_chunk.specs.Region.{Region}
 use Rattle.zarrs_chunk.specs.Tuples.{is_box_inside, is_tuple_inside, row_major}
 use Rattle.zarrs_chunk.specs.declared.codec_error.CodecError.{CodecError}
-use Rattle.zarrs_codec.specs.BytesToBytesCodec.{BytesCodecs}
 use Rattle.zarrs_codec.specs.StorageState.{StorageState}
 use Rattle.zarrs_codecs.specs.ChunkRead.{AnswersRuns}
 use Rattle.zarrs_codecs.specs.PartRead.{PlaceReader}
-use Rattle.zarrs_codecs.specs.SpanReads.{SureWhere, chain_read, chain_rests, stored_groups_rest, stored_span_read}
+use Rattle.zarrs_codecs.specs.SpanReads.{SureWhere, stored_groups_rest, stored_span_read, taken_read, taken_rests}
+use Rattle.zarrs_codecs.specs.TakenChain.{inner_form}
+use Rattle.zarrs_codecs.specs.declared.sharding.taken_chain.TakenChain.{TakenChain}
 use Rattle.zarrs_data_type.specs.Element.{Chunk, fill_element}
 use Rattle.zarrs_data_type.specs.ElementType.{ElementType}
-use Rattle.zarrs_data_type.specs.Form.{Form}
 use Rattle.zarrs_grid.specs.declared.chunk_part.ChunkPart.{ChunkPart}
 
 -- ---- parts
@@ -69,11 +67,12 @@ PutsPart type lengths part held content result =
     GivesBy (Holds type) result (Ok (update (elements type (product lengths) held) (region_places lengths part) (elements type (product part.lengths) content)))
 
 -- a container of the elements of a box of these lengths is given, read part by part by the numbers of the index; or the first error
-abbrev pub ReadsParts : {B : Type 0} → BytesCodecs B → CodecChain B → Form → StorageState → List ℕ → List ℕ → List ℕ → List ChunkPart → Result Held CodecError → Type 0
-ReadsParts f chain form before numbers grid lengths parts result =
-    AnswersRuns form.type (parts_read (chain_read f (plain_chain chain)) form.sizes form.type form.fill before.value (spans_of numbers) grid lengths parts (blank_box form.type form.fill lengths)) result
+abbrev pub ReadsParts : {B : Type 0} {b : _} → TakenChain B b → StorageState → List ℕ → List ℕ → List ℕ → List ChunkPart → Result Held CodecError → Type 0
+ReadsParts taken before numbers grid lengths parts result =
+    AnswersRuns (inner_form taken).type
+    (parts_read (taken_read taken) (inner_form taken).sizes (inner_form taken).type (inner_form taken).fill before.value (spans_of numbers) grid lengths parts (blank_box (inner_form taken).type (inner_form taken).fill lengths)) result
 
 -- no failure of the handle comes where the bytes are sure that the parts rest on
-abbrev pub SureParts : {B T : Type 0} → BytesCodecs B → CodecChain B → Form → StorageState → List ℕ → List ℕ → List ChunkPart → Result T CodecError → Type 0
-SureParts f chain form before numbers grid parts result =
-    SureWhere before (stored_groups_rest (chain_rests f (plain_chain chain)) form.sizes form.type form.fill before.value (spans_of numbers) (map (part_group form.sizes grid) parts)) result
+abbrev pub SureParts : {B T : Type 0} {b : _} → TakenChain B b → StorageState → List ℕ → List ℕ → List ChunkPart → Result T CodecError → Type 0
+SureParts taken before numbers grid parts result =
+    SureWhere before (stored_groups_rest (taken_rests taken) (inner_form taken).sizes (inner_form taken).type (inner_form taken).fill before.value (spans_of numbers) (map (part_group (inner_form taken).sizes grid) parts)) result

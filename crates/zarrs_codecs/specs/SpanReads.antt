@@ -16,18 +16,20 @@ use Rattle.zarrs_array_regions.specs.WindowLaws.{region_places}
 use Rattle.zarrs_chain.specs.ChainView.{plain_chain}
 use Rattle.zarrs_chain.specs.declared.codec_chain.CodecChain.{CodecChain}
 use Rattle.zarrs_chain.specs.sharding.ShardingCalls.{index_size_of}
-use Rattle.zarrs_chain_meaning.specs.CodecMeaning.{PlainCodec, PlainChain, meaning, codec_representation, chain_representation, chain_chunk}
+use Rattle.zarrs_chain_meaning.specs.CodecMeaning.{PlainCodec, PlainChain, meaning, chain_representation, chain_chunk}
 use Rattle.zarrs_chain_meaning.specs.sharding.InnerChunks.{grid}
 use Rattle.zarrs_chain_meaning.specs.sharding.Sharding.{Span, is_stored, spans_of, spans_in}
 use Rattle.zarrs_codec.specs.BytesToBytesCodec.{BytesCodecs}
 use Rattle.zarrs_codec.specs.StorageState.{StorageState, are_sure, value_indices}
 use Rattle.zarrs_codec.specs.declared.bytes_representation.BytesRepresentation.{BytesRepresentation}
-use Rattle.zarrs_codecs.specs.ChunkRead.{AnswersRuns, are_given_sure, form_taken}
+use Rattle.zarrs_codecs.specs.ChunkRead.{AnswersRuns, are_given_sure}
 use Rattle.zarrs_codecs.specs.ChunkSource.{bytes_above, source_places}
 use Rattle.zarrs_codecs.specs.CodecPart.{codec_read, codec_rests_on, rests_where}
 use Rattle.zarrs_codecs.specs.PartRead.{PlaceReader}
 use Rattle.zarrs_codecs.specs.PlaceLaws.{Resting, read_through, rests_through}
 use Rattle.zarrs_codecs.specs.ShardRead.{span_read, groups_read, index_bytes_at, span_rests, groups_rest}
+use Rattle.zarrs_codecs.specs.TakenChain.{inner_form, moved_sizes, moved_taken}
+use Rattle.zarrs_codecs.specs.declared.sharding.taken_chain.TakenChain.{TakenChain}
 use Rattle.zarrs_codecs.specs.declared.sharding.value_span.ValueSpan.{ValueSpan}
 use Rattle.zarrs_data_type.specs.Element.{Chunk}
 use Rattle.zarrs_data_type.specs.ElementType.{ElementType}
@@ -145,35 +147,35 @@ outer_rests (codec ∷ codecs) rests = λ sizes type fill stored places. Ok (val
 abbrev pub moved_rests : {B : Type 0} → BytesCodecs B → PlainChain B → Resting
 moved_rests f chain = outer_rests chain.bytes_to_bytes (codec_rests_on f chain.array_to_bytes)
 
--- the chain takes chunks of this form, and its array-to-bytes codec gets chunks of this shape, whose values have so many bytes
-abbrev pub TakesForm : {B : Type 0} → BytesCodecs B → CodecChain B → Form → List ℕ → BytesRepresentation → Type 0
-TakesForm f chain form encoded r = form_taken f chain form ≡ Ok (encoded, r)
+-- what the chain that was taken reads of places
+abbrev pub taken_read : {B : Type 0} {b : _} → TakenChain B b → PlaceReader
+taken_read {b = b} taken = chain_read b.functions (inner_form taken).chain
 
--- the chain's array-to-bytes codec takes chunks of this form, whose values have so many bytes
-abbrev pub CodecMeasures : {B : Type 0} → BytesCodecs B → CodecChain B → Form → BytesRepresentation → Type 0
-CodecMeasures f chain form r = codec_representation f (plain_chain chain).array_to_bytes form.sizes form.type form.fill ≡ Ok r
+-- and what that rests on
+abbrev pub taken_rests : {B : Type 0} {b : _} → TakenChain B b → Resting
+taken_rests {b = b} taken = chain_rests b.functions (inner_form taken).chain
 
--- ---- what calls give, of chunks of a form
+-- ---- what calls give, of the chunks that a chain was taken for
 
 -- the elements at places, through the chain
-abbrev pub ReadsChain : {B : Type 0} → BytesCodecs B → CodecChain B → Form → StorageState → List ℕ → Result Held CodecError → Type 0
-ReadsChain f chain form before places result =
-    AnswersRuns form.type (chain_read f (plain_chain chain) form.sizes form.type form.fill before.value places) result
+abbrev pub ReadsChain : {B : Type 0} {b : _} → TakenChain B b → StorageState → List ℕ → Result Held CodecError → Type 0
+ReadsChain taken before places result =
+    AnswersRuns (inner_form taken).type (taken_read taken (inner_form taken).sizes (inner_form taken).type (inner_form taken).fill before.value places) result
 
--- the elements at places of the chunk that the chain's array-to-bytes codec gets, which has this form
-abbrev pub ReadsMoved : {B : Type 0} → BytesCodecs B → CodecChain B → BytesRepresentation → Form → StorageState → List ℕ → Result Held CodecError → Type 0
-ReadsMoved f chain r form before places result =
-    AnswersRuns form.type (moved_read f (plain_chain chain) form.sizes form.type form.fill r before.value places) result
+-- the elements at places of the chunk that the chain's array-to-bytes codec gets
+abbrev pub ReadsMoved : {B : Type 0} {b : _} → TakenChain B b → StorageState → List ℕ → Result Held CodecError → Type 0
+ReadsMoved {b = b} taken before places result =
+    AnswersRuns (inner_form taken).type (moved_read b.functions (inner_form taken).chain (moved_sizes taken) (inner_form taken).type (inner_form taken).fill (moved_taken taken).1 before.value places) result
 
--- the elements at places of the inner chunk at a span of what is stored, whose chain this is
-abbrev pub ReadsSpan : {B : Type 0} → BytesCodecs B → CodecChain B → Form → StorageState → Span → List ℕ → Result Held CodecError → Type 0
-ReadsSpan f chain form before span places result =
-    AnswersRuns form.type (stored_span_read (chain_read f (plain_chain chain)) form.sizes form.type form.fill before.value span places) result
+-- the elements at places of the inner chunk at a span of what is stored
+abbrev pub ReadsSpan : {B : Type 0} {b : _} → TakenChain B b → StorageState → Span → List ℕ → Result Held CodecError → Type 0
+ReadsSpan taken before span places result =
+    AnswersRuns (inner_form taken).type (stored_span_read (taken_read taken) (inner_form taken).sizes (inner_form taken).type (inner_form taken).fill before.value span places) result
 
 -- the elements at the places of groups of inner chunks, by the numbers of the index
-abbrev pub ReadsGroups : {B : Type 0} → BytesCodecs B → CodecChain B → Form → StorageState → List ℕ → List InnerRuns → Result Held CodecError → Type 0
-ReadsGroups f chain form before numbers groups result =
-    AnswersRuns form.type (stored_groups_read (chain_read f (plain_chain chain)) form.sizes form.type form.fill before.value (spans_of numbers) (map group groups)) result
+abbrev pub ReadsGroups : {B : Type 0} {b : _} → TakenChain B b → StorageState → List ℕ → List InnerRuns → Result Held CodecError → Type 0
+ReadsGroups taken before numbers groups result =
+    AnswersRuns (inner_form taken).type (stored_groups_read (taken_read taken) (inner_form taken).sizes (inner_form taken).type (inner_form taken).fill before.value (spans_of numbers) (map group groups)) result
 
 -- no failure of the handle comes where these bytes are sure
 abbrev pub SureWhere : {T : Type 0} → StorageState → Result (List ℕ) CodecError → Result T CodecError → Type 0
@@ -184,13 +186,19 @@ abbrev pub SurePlaces : {T : Type 0} → Resting → Form → StorageState → L
 SurePlaces rests form before places result = SureWhere before (rests form.sizes form.type form.fill before.value places) result
 
 -- through the chain
-abbrev pub SureChain : {B T : Type 0} → BytesCodecs B → CodecChain B → Form → StorageState → List ℕ → Result T CodecError → Type 0
-SureChain f chain form before places result = SurePlaces (chain_rests f (plain_chain chain)) form before places result
+abbrev pub SureChain : {B T : Type 0} {b : _} → TakenChain B b → StorageState → List ℕ → Result T CodecError → Type 0
+SureChain taken before places result =
+    SureWhere before (taken_rests taken (inner_form taken).sizes (inner_form taken).type (inner_form taken).fill before.value places) result
+
+-- of the chunk that the chain's array-to-bytes codec gets
+abbrev pub SureMoved : {B T : Type 0} {b : _} → TakenChain B b → StorageState → List ℕ → Result T CodecError → Type 0
+SureMoved {b = b} taken before places result =
+    SureWhere before (moved_rests b.functions (inner_form taken).chain (moved_sizes taken) (inner_form taken).type (inner_form taken).fill before.value places) result
 
 -- the elements that a selection selects, through the chain, and no failure where the bytes are sure that this rests on
-abbrev pub ReadsIndexed : {B : Type 0} → BytesCodecs B → CodecChain B → Form → StorageState → Selection → Result Held CodecError → Type 0
-ReadsIndexed f chain form before selection result =
-    (places : List ℕ) → places_of selection form.sizes ≡ Ok places → ReadsChain f chain form before places result × SureChain f chain form before places result
+abbrev pub ReadsIndexed : {B : Type 0} {b : _} → TakenChain B b → StorageState → Selection → Result Held CodecError → Type 0
+ReadsIndexed taken before selection result =
+    (places : List ℕ) → places_of selection (inner_form taken).sizes ≡ Ok places → ReadsChain taken before places result × SureChain taken before places result
 
 -- the elements of a box of a chunk that a codec takes
 abbrev pub ReadsBox : {B : Type 0} → BytesCodecs B → PlainCodec B → Form → StorageState → Region → Result Held CodecError → Type 0
@@ -202,14 +210,14 @@ abbrev pub SureBox : {B T : Type 0} → BytesCodecs B → PlainCodec B → Form 
 SureBox f codec form before region result = SurePlaces (rests_where true f codec) form before (region_places form.sizes region) result
 
 -- of the inner chunk at a span
-abbrev pub SureSpan : {B T : Type 0} → BytesCodecs B → CodecChain B → Form → StorageState → Span → List ℕ → Result T CodecError → Type 0
-SureSpan f chain form before span places result =
-    SureWhere before (stored_span_rests (chain_rests f (plain_chain chain)) form.sizes form.type form.fill before.value span places) result
+abbrev pub SureSpan : {B T : Type 0} {b : _} → TakenChain B b → StorageState → Span → List ℕ → Result T CodecError → Type 0
+SureSpan taken before span places result =
+    SureWhere before (stored_span_rests (taken_rests taken) (inner_form taken).sizes (inner_form taken).type (inner_form taken).fill before.value span places) result
 
 -- of groups of inner chunks
-abbrev pub SureGroups : {B T : Type 0} → BytesCodecs B → CodecChain B → Form → StorageState → List ℕ → List InnerRuns → Result T CodecError → Type 0
-SureGroups f chain form before numbers groups result =
-    SureWhere before (stored_groups_rest (chain_rests f (plain_chain chain)) form.sizes form.type form.fill before.value (spans_of numbers) (map group groups)) result
+abbrev pub SureGroups : {B T : Type 0} {b : _} → TakenChain B b → StorageState → List ℕ → List InnerRuns → Result T CodecError → Type 0
+SureGroups taken before numbers groups result =
+    SureWhere before (stored_groups_rest (taken_rests taken) (inner_form taken).sizes (inner_form taken).type (inner_form taken).fill before.value (spans_of numbers) (map group groups)) result
 
 -- of so many elements those in this order are given, or all as they are
 abbrev pub PutsInOrder : ElementType → ℕ → Held → Option (Vec (ℕ × ℕ) Global) → Result Held CodecError → Type 0

@@ -9,5 +9,6 @@ mod part_reads;
 pub(crate) mod shard_index;
 pub(crate) mod shard_runs;
 mod span_bytes;
+mod taken_chain;
 mod taken_parts;
 mod value_span;

@@ -13,24 +13,25 @@ ghost use Rattle.zarrs_chunk.specs.Tuples.{is_box_inside};
 ghost use Rattle.zarrs_codec.specs.StorageState.{after_reading};
 ghost use Rattle.zarrs_codecs.specs.ChunkRead.{TakenBy};
 ghost use Rattle.zarrs_codecs.specs.KeptIndex.{IsIndex, codec_index, index_seen};
-ghost use Rattle.zarrs_codecs.specs.SpanReads.{ReadsBox, ReadsChain, ReadsSpan, StandsIn, SureBox, SureChain, SureSpan, TakesForm, seen_state};
-ghost use Rattle.zarrs_data_type.specs.FillValue.{fill_fits};
+ghost use Rattle.zarrs_codecs.specs.SpanReads.{ReadsBox, ReadsChain, ReadsSpan, StandsIn, SureBox, SureChain, SureSpan, seen_state};
+ghost use Rattle.zarrs_codecs.specs.TakenChain.{inner_form};
 
 use crate::partial_decoder::fill_runs::fill_runs;
 use crate::sharding::inner_reads::{indexed_in_span, region_in_span};
 use crate::sharding::part_reads::read_parts;
 use crate::sharding::shard_index::ShardIndex;
 use crate::sharding::shard_runs::shard_by_index;
+use crate::sharding::taken_chain::TakenChain;
 use crate::sharding::taken_parts::taken_parts;
 use crate::sharding::value_span::ValueSpan;
 use std::alloc::Global;
 use zarrs_array_bytes::ArrayBytes;
 use zarrs_array_regions::{keeps_regions, region_runs};
-use zarrs_chain::stages::{Form, ShardingParts, has_span, taken_form};
-use zarrs_chain::{CodecChain, ShardingCodec};
+use zarrs_chain::ShardingCodec;
+use zarrs_chain::stages::{Form, ShardingParts, has_span};
 use zarrs_chain_meaning::sharding::inner_chunks::inner_chunk_grid;
 use zarrs_chunk::{ArraySubset, ChunkShape, CodecError, Indexer};
-use zarrs_codec::{BytesPartialDecoderTraits, BytesRepresentation, BytesToBytesCodecTraits};
+use zarrs_codec::{BytesPartialDecoderTraits, BytesToBytesCodecTraits};
 use zarrs_grid::plan_region;
 use zarrs_lent_handles::{AheadHandle, ReadAheadTraits};
 use zarrs_shard_runs::inner_box;
@@ -66,71 +67,57 @@ fn box_shape(alloc: Global, region: &ArraySubset) -> Result<ChunkShape, CodecErr
 /// The box goes through the array-to-array codecs as a box, where they keep regions.
 fn chain_box<H: ReadAheadTraits, B: BytesToBytesCodecTraits>(
     alloc: Global,
-    chain: &CodecChain<B>,
+    taken: &TakenChain<'_, B>,
     handle: &mut H,
     span: &ValueSpan<'_>,
-    form: Form<'_>,
-    encoded: &ChunkShape,
-    measured: &BytesRepresentation,
     region: &ArraySubset,
 ) -> Result<ArrayBytes<'static>, CodecError>
-    requires takes { TakesForm B.functions chain.now (lent_form form) encoded.now measured.now }
-    requires counted { product form.shape.now < 2 ^ 64 }
     requires stands { StandsIn span.now (H.state handle.old) }
-    requires inside { is_box_inside form.shape.now region.now.starts region.now.lengths ≡ true }
+    requires inside { is_box_inside (inner_form taken.now).sizes region.now.starts
+        region.now.lengths ≡ true }
     requires filled { 0 < product region.now.lengths }
-    ensures answer { ReadsChain B.functions chain.now (lent_form form.entry) (seen_state span.now
-        (H.state handle.old)) (region_places form.entry.shape.now region.now) result }
-    ensures tight { IfOk result (IsTight form.entry.data_type.now) }
-    ensures sure { SureChain B.functions chain.now (lent_form form.entry) (seen_state span.now
-        (H.state handle.old)) (region_places form.entry.shape.now region.now) result }
+    ensures answer { ReadsChain taken.now (seen_state span.now (H.state handle.old))
+        (region_places (inner_form taken.now).sizes region.now) result }
+    ensures tight { IfOk result (IsTight (inner_form taken.now).type) }
+    ensures sure { SureChain taken.now (seen_state span.now (H.state handle.old))
+        (region_places (inner_form taken.now).sizes region.now) result }
     ensures left { H.state handle.new ≡ after_reading result (H.state handle.old) }
     ensures same_reference { H.lent handle.new ≡ H.lent handle.old }
 {
-    if keeps_regions(chain.array_to_array_codecs()) {
-        return region_in_span(alloc, chain, handle, span, form, encoded, measured, region);
+    if keeps_regions(taken.chain.array_to_array_codecs()) {
+        return region_in_span(alloc, taken, handle, span, region);
     }
     let own = region.clone()?;
-    let indexer = Indexer::Subset(own);
-    indexed_in_span(
-        alloc, chain, handle, span, form, encoded, measured, &indexer,
-    )
+    indexed_in_span(alloc, taken, handle, span, &Indexer::Subset(own))
 }
 
 /// The elements of a box of the inner chunk of these two numbers of the index.
 pub(crate) fn read_inner_box<H: ReadAheadTraits, B: BytesToBytesCodecTraits>(
     alloc: Global,
-    chain: &CodecChain<B>,
+    taken: &TakenChain<'_, B>,
     handle: &mut H,
     span: &ValueSpan<'_>,
     place: (usize, usize),
-    form: Form<'_>,
-    encoded: &ChunkShape,
-    measured: &BytesRepresentation,
     region: &ArraySubset,
 ) -> Result<ArrayBytes<'static>, CodecError>
-    requires takes { TakesForm B.functions chain.now (lent_form form) encoded.now measured.now }
-    requires counted { product form.shape.now < 2 ^ 64 }
-    requires filling { fill_fits form.data_type.now form.fill_value.now ≡ true }
     requires stands { StandsIn span.now (H.state handle.old) }
-    requires inside { is_box_inside form.shape.now region.now.starts region.now.lengths ≡ true }
+    requires inside { is_box_inside (inner_form taken.now).sizes region.now.starts
+        region.now.lengths ≡ true }
     requires filled { 0 < product region.now.lengths }
-    ensures answer { ReadsSpan B.functions chain.now (lent_form form.entry) (seen_state span.now
-        (H.state handle.old)) place (region_places form.entry.shape.now region.now) result }
-    ensures tight { IfOk result (IsTight form.entry.data_type.now) }
-    ensures sure { SureSpan B.functions chain.now (lent_form form.entry) (seen_state span.now
-        (H.state handle.old)) place (region_places form.entry.shape.now region.now) result }
+    ensures answer { ReadsSpan taken.now (seen_state span.now (H.state handle.old)) place
+        (region_places (inner_form taken.now).sizes region.now) result }
+    ensures tight { IfOk result (IsTight (inner_form taken.now).type) }
+    ensures sure { SureSpan taken.now (seen_state span.now (H.state handle.old)) place
+        (region_places (inner_form taken.now).sizes region.now) result }
     ensures left { H.state handle.new ≡ after_reading result (H.state handle.old) }
     ensures same_reference { H.lent handle.new ≡ H.lent handle.old }
 {
     if !has_span(place) {
-        let runs = box_runs(alloc, form.shape, region)?;
-        return fill_runs(alloc, form.data_type, form.fill_value, &runs);
+        let runs = box_runs(alloc, taken.form.shape, region)?;
+        return fill_runs(alloc, taken.form.data_type, taken.form.fill_value, &runs);
     }
     let inside = span.inside(place.0 as u64, place.1 as u64)?;
-    chain_box(
-        alloc, chain, handle, &inside, form, encoded, measured, region,
-    )
+    chain_box(alloc, taken, handle, &inside, region)
 }
 
 /// The two numbers of an index for the inner chunk of this number.
@@ -176,23 +163,20 @@ fn box_by_parts<H: ReadAheadTraits, B: BytesToBytesCodecTraits>(
         index_codecs: _,
         is_index_at_end: _,
     } = taken_parts(codec, form);
-    inner.as_slice();
     if form.data_type.fixed_size().is_none() {
         let runs = box_runs(alloc, form.shape, region)?;
         return shard_by_index(alloc, codec, handle, span, numbers, form, &runs);
     }
-    let (encoded, measured) = taken_form(alloc, chain, inner, form.data_type, form.fill_value)?;
-    let grid = inner_chunk_grid(alloc, form.shape, inner)?;
-    let lengths = box_shape(alloc, region)?;
-    let parts = plan_region(alloc, inner, region)?;
     let inside = Form {
         shape: inner,
         ..form
     };
+    let taken = TakenChain::new(alloc, chain, inside)?;
+    let grid = inner_chunk_grid(alloc, form.shape, inner)?;
+    let lengths = box_shape(alloc, region)?;
+    let parts = plan_region(alloc, inner, region)?;
     let parts = parts.as_slice();
-    read_parts(
-        alloc, chain, handle, span, numbers, &grid, &lengths, parts, inside, &encoded, &measured,
-    )
+    read_parts(alloc, &taken, handle, span, numbers, &grid, &lengths, parts)
 }
 
 /// The elements of a box that has some, of a chunk that the codec takes, whose value stands in a span,
@@ -228,27 +212,16 @@ fn box_in_span<H: ReadAheadTraits, B: BytesToBytesCodecTraits>(
         index_codecs: _,
         is_index_at_end: _,
     } = taken_parts(codec, form);
-    inner.as_slice();
-    let Some(found) = inner_box(alloc, inner, form.shape, region)? else {
-        return box_by_parts(alloc, codec, handle, span, numbers, form, region);
-    };
-    let (encoded, measured) = taken_form(alloc, chain, inner, form.data_type, form.fill_value)?;
-    let place = place_of(numbers, found.number);
     let inside = Form {
         shape: inner,
         ..form
     };
-    read_inner_box(
-        alloc,
-        chain,
-        handle,
-        span,
-        place,
-        inside,
-        &encoded,
-        &measured,
-        &found.region,
-    )
+    let Some(found) = inner_box(alloc, inner, form.shape, region)? else {
+        return box_by_parts(alloc, codec, handle, span, numbers, form, region);
+    };
+    let taken = TakenChain::new(alloc, chain, inside)?;
+    let place = place_of(numbers, found.number);
+    read_inner_box(alloc, &taken, handle, span, place, &found.region)
 }
 
 /// The elements of a box that has some, of a chunk that the codec takes, over a handle that keeps its

@@ -2,7 +2,7 @@
 ghost use Rattle.std.specs.Prelude.{◌≡◌, ◌<◌, ◌^◌, IfOk, length, true};
 ghost use Rattle.zarrs_array_bytes.specs.Tight.{IsTight};
 ghost use Rattle.zarrs_array_regions.specs.KeptRegions.{keeps_regions};
-ghost use Rattle.zarrs_chain.specs.ChainView.{plain_chain, plain_codec};
+ghost use Rattle.zarrs_chain.specs.ChainView.{plain_codec};
 ghost use Rattle.zarrs_chunk.specs.ChunkShape.{product};
 ghost use Rattle.zarrs_chunk.specs.Indexer.{selection_of};
 ghost use Rattle.zarrs_chunk.specs.Runs.{AreFilled, EndWithin, joined_runs};
@@ -11,21 +11,23 @@ ghost use Rattle.zarrs_codec.specs.StorageState.{after_reading};
 ghost use Rattle.zarrs_chain.specs.FormView.{lent_form};
 ghost use Rattle.zarrs_codecs.specs.ChunkRead.{ChunkReadsRuns, TakenBy};
 ghost use Rattle.zarrs_codecs.specs.CodecPart.{codec_rests_on};
-ghost use Rattle.zarrs_codecs.specs.SpanReads.{CodecMeasures, ReadsChain, ReadsIndexed, ReadsMoved, StandsIn, SureChain, SurePlaces, TakesForm, moved_rests, seen_state};
+ghost use Rattle.zarrs_codecs.specs.SpanReads.{ReadsChain, ReadsIndexed, ReadsMoved, StandsIn, SureChain, SureMoved, SurePlaces, seen_state};
+ghost use Rattle.zarrs_codecs.specs.TakenChain.{inner_form, moved_sizes};
 ghost use Rattle.zarrs_array_regions.specs.WindowLaws.{region_places};
 
 use crate::partial_decoder::encoded_runs::encoded_runs;
 use crate::sharding::leaf_reads::leaf_runs;
 use crate::sharding::shard_runs::shard_in_span;
 use crate::sharding::span_bytes::span_bytes;
+use crate::sharding::taken_chain::TakenChain;
 use crate::sharding::value_span::ValueSpan;
 use std::alloc::Global;
 use zarrs_array_bytes::ArrayBytes;
 use zarrs_array_regions::{decoded_window, kept_region, region_runs};
+use zarrs_chain::ArrayToBytesCodec;
 use zarrs_chain::stages::{Form, chain_is_sound, decode_bytes};
-use zarrs_chain::{ArrayToBytesCodec, CodecChain};
-use zarrs_chunk::{ArraySubset, ChunkShape, CodecError, Indexer};
-use zarrs_codec::{BytesRepresentation, BytesToBytesCodecTraits};
+use zarrs_chunk::{ArraySubset, CodecError, Indexer};
+use zarrs_codec::BytesToBytesCodecTraits;
 use zarrs_lent_handles::ReadAheadTraits;
 use zarrs_shard_runs::runs_indexer;
 
@@ -68,34 +70,31 @@ fn codec_in_span<H: ReadAheadTraits, B: BytesToBytesCodecTraits>(
 #[cycle(read)]
 fn moved_in_span<H: ReadAheadTraits, B: BytesToBytesCodecTraits>(
     alloc: Global,
-    chain: &CodecChain<B>,
+    taken: &TakenChain<'_, B>,
     handle: &mut H,
     span: &ValueSpan<'_>,
-    form: Form<'_>,
-    measured: &BytesRepresentation,
     runs: &[(u64, u64)],
 ) -> Result<ArrayBytes<'static>, CodecError>
-    requires measured { CodecMeasures B.functions chain.now (lent_form form) measured.now }
-    requires counted { product form.shape.now < 2 ^ 64 }
     requires stands { StandsIn span.now (H.state handle.old) }
     requires filled { AreFilled runs.now }
-    requires below { EndWithin (product form.shape.now) runs.now }
+    requires below { EndWithin (product (moved_sizes taken.now)) runs.now }
     requires count { length (joined_runs runs.now) < 2 ^ 64 }
-    ensures answer { ReadsMoved B.functions chain.now measured.now (lent_form form.entry)
-        (seen_state span.now (H.state handle.old)) (joined_runs runs.now) result }
-    ensures tight { IfOk result (IsTight form.entry.data_type.now) }
-    ensures sure { SurePlaces (moved_rests B.functions (plain_chain chain.now)) (lent_form
-        form.entry) (seen_state span.now (H.state handle.old)) (joined_runs runs.now) result }
+    ensures answer { ReadsMoved taken.now (seen_state span.now (H.state handle.old))
+        (joined_runs runs.now) result }
+    ensures tight { IfOk result (IsTight (inner_form taken.now).type) }
+    ensures sure { SureMoved taken.now (seen_state span.now (H.state handle.old))
+        (joined_runs runs.now) result }
     ensures left { H.state handle.new ≡ after_reading result (H.state handle.old) }
     ensures same_reference { H.lent handle.new ≡ H.lent handle.old }
 {
-    let codec = chain.array_to_bytes_codec();
-    if chain.bytes_to_bytes_codecs().is_empty() {
+    let codec = taken.chain.array_to_bytes_codec();
+    let form = taken.moved_form();
+    if taken.chain.bytes_to_bytes_codecs().is_empty() {
         return codec_in_span(alloc, codec, handle, span, form, runs);
     }
     let value = span_bytes(alloc, handle, span)?;
-    let codecs = chain.bytes_to_bytes_codecs();
-    let below = decode_bytes(alloc, codecs, measured, value)?;
+    let codecs = taken.chain.bytes_to_bytes_codecs();
+    let below = decode_bytes(alloc, codecs, &taken.measured, value)?;
     let inside = ValueSpan::of_bytes(below.as_slice());
     codec_in_span(alloc, codec, handle, &inside, form, runs)
 }
@@ -105,48 +104,36 @@ fn moved_in_span<H: ReadAheadTraits, B: BytesToBytesCodecTraits>(
 #[cycle(read)]
 pub(crate) fn region_in_span<H: ReadAheadTraits, B: BytesToBytesCodecTraits>(
     alloc: Global,
-    chain: &CodecChain<B>,
+    taken: &TakenChain<'_, B>,
     handle: &mut H,
     span: &ValueSpan<'_>,
-    form: Form<'_>,
-    encoded: &ChunkShape,
-    measured: &BytesRepresentation,
     region: &ArraySubset,
 ) -> Result<ArrayBytes<'static>, CodecError>
-    requires takes { TakesForm B.functions chain.now (lent_form form) encoded.now measured.now }
-    requires counted { product form.shape.now < 2 ^ 64 }
     requires stands { StandsIn span.now (H.state handle.old) }
-    requires inside { is_box_inside form.shape.now region.now.starts region.now.lengths ≡ true }
+    requires inside { is_box_inside (inner_form taken.now).sizes region.now.starts
+        region.now.lengths ≡ true }
     requires filled { 0 < product region.now.lengths }
-    requires region_kept { keeps_regions (plain_chain chain.now).array_to_array ≡ true }
-    ensures answer { ReadsChain B.functions chain.now (lent_form form.entry) (seen_state span.now
-        (H.state handle.old)) (region_places form.entry.shape.now region.now) result }
-    ensures tight { IfOk result (IsTight form.entry.data_type.now) }
-    ensures sure { SureChain B.functions chain.now (lent_form form.entry) (seen_state span.now
-        (H.state handle.old)) (region_places form.entry.shape.now region.now) result }
+    requires region_kept { keeps_regions (inner_form taken.now).chain.array_to_array ≡ true }
+    ensures answer { ReadsChain taken.now (seen_state span.now (H.state handle.old))
+        (region_places (inner_form taken.now).sizes region.now) result }
+    ensures tight { IfOk result (IsTight (inner_form taken.now).type) }
+    ensures sure { SureChain taken.now (seen_state span.now (H.state handle.old))
+        (region_places (inner_form taken.now).sizes region.now) result }
     ensures left { H.state handle.new ≡ after_reading result (H.state handle.old) }
     ensures same_reference { H.lent handle.new ≡ H.lent handle.old }
 {
-    chain_is_sound(chain);
-    form.shape.as_slice();
-    let codecs = chain.array_to_array_codecs();
-    let moved = Form {
-        shape: encoded,
-        ..form
-    };
+    chain_is_sound(taken.chain);
+    let codecs = taken.chain.array_to_array_codecs();
+    let Form {
+        shape,
+        data_type,
+        fill_value,
+    } = taken.form;
     let held = {
-        let runs = region_runs(alloc, codecs, form.shape, region)?;
-        moved_in_span(alloc, chain, handle, span, moved, measured, &runs)?
+        let runs = region_runs(alloc, codecs, shape, region)?;
+        moved_in_span(alloc, taken, handle, span, &runs)?
     };
-    decoded_window(
-        alloc,
-        codecs,
-        form.shape,
-        region,
-        held,
-        form.data_type,
-        form.fill_value,
-    )
+    decoded_window(alloc, codecs, shape, region, held, data_type, fill_value)
 }
 
 /// The elements that an indexer selects, in its order, of a chunk that the chain takes, whose value
@@ -154,35 +141,26 @@ pub(crate) fn region_in_span<H: ReadAheadTraits, B: BytesToBytesCodecTraits>(
 #[cycle(read)]
 pub(crate) fn indexed_in_span<H: ReadAheadTraits, B: BytesToBytesCodecTraits>(
     alloc: Global,
-    chain: &CodecChain<B>,
+    taken: &TakenChain<'_, B>,
     handle: &mut H,
     span: &ValueSpan<'_>,
-    form: Form<'_>,
-    encoded: &ChunkShape,
-    measured: &BytesRepresentation,
     indexer: &Indexer,
 ) -> Result<ArrayBytes<'static>, CodecError>
-    requires takes { TakesForm B.functions chain.now (lent_form form) encoded.now measured.now }
-    requires counted { product form.shape.now < 2 ^ 64 }
     requires stands { StandsIn span.now (H.state handle.old) }
-    ensures reads { ReadsIndexed B.functions chain.now (lent_form form.entry) (seen_state span.now
-        (H.state handle.old)) (selection_of indexer.now) result }
-    ensures tight { IfOk result (IsTight form.entry.data_type.now) }
+    ensures reads { ReadsIndexed taken.now (seen_state span.now (H.state handle.old))
+        (selection_of indexer.now) result }
+    ensures tight { IfOk result (IsTight (inner_form taken.now).type) }
     ensures left { H.state handle.new ≡ after_reading result (H.state handle.old) }
     ensures same_reference { H.lent handle.new ≡ H.lent handle.old }
 {
-    chain_is_sound(chain);
-    form.shape.as_slice();
-    let codecs = chain.array_to_array_codecs();
-    if let Some(region) = kept_region(codecs, form.shape, indexer) {
-        return region_in_span(alloc, chain, handle, span, form, encoded, measured, region);
+    chain_is_sound(taken.chain);
+    let codecs = taken.chain.array_to_array_codecs();
+    let shape = taken.form.shape;
+    if let Some(region) = kept_region(codecs, shape, indexer) {
+        return region_in_span(alloc, taken, handle, span, region);
     }
-    let moved = Form {
-        shape: encoded,
-        ..form
-    };
-    let runs = encoded_runs(alloc, codecs, form.shape, indexer)?;
-    moved_in_span(alloc, chain, handle, span, moved, measured, &runs)
+    let runs = encoded_runs(alloc, codecs, shape, indexer)?;
+    moved_in_span(alloc, taken, handle, span, &runs)
 }
 
 /// The elements at the places of these runs of a chunk that the chain takes, whose value stands in a
@@ -190,39 +168,27 @@ pub(crate) fn indexed_in_span<H: ReadAheadTraits, B: BytesToBytesCodecTraits>(
 #[cycle(read)]
 pub(crate) fn chain_in_span<H: ReadAheadTraits, B: BytesToBytesCodecTraits>(
     alloc: Global,
-    chain: &CodecChain<B>,
+    taken: &TakenChain<'_, B>,
     handle: &mut H,
     span: &ValueSpan<'_>,
-    form: Form<'_>,
-    encoded: &ChunkShape,
-    measured: &BytesRepresentation,
     runs: &[(u64, u64)],
 ) -> Result<ArrayBytes<'static>, CodecError>
-    requires takes { TakesForm B.functions chain.now (lent_form form) encoded.now measured.now }
-    requires counted { product form.shape.now < 2 ^ 64 }
     requires stands { StandsIn span.now (H.state handle.old) }
     requires filled { AreFilled runs.now }
-    requires below { EndWithin (product form.shape.now) runs.now }
+    requires below { EndWithin (product (inner_form taken.now).sizes) runs.now }
     requires count { length (joined_runs runs.now) < 2 ^ 64 }
-    ensures answer { ReadsChain B.functions chain.now (lent_form form.entry) (seen_state span.now
-        (H.state handle.old)) (joined_runs runs.now) result }
-    ensures tight { IfOk result (IsTight form.entry.data_type.now) }
-    ensures sure { SureChain B.functions chain.now (lent_form form.entry) (seen_state span.now
-        (H.state handle.old)) (joined_runs runs.now) result }
+    ensures answer { ReadsChain taken.now (seen_state span.now (H.state handle.old))
+        (joined_runs runs.now) result }
+    ensures tight { IfOk result (IsTight (inner_form taken.now).type) }
+    ensures sure { SureChain taken.now (seen_state span.now (H.state handle.old))
+        (joined_runs runs.now) result }
     ensures left { H.state handle.new ≡ after_reading result (H.state handle.old) }
     ensures same_reference { H.lent handle.new ≡ H.lent handle.old }
 {
-    if !chain.array_to_array_codecs().is_empty() {
-        let indexer = runs_indexer(alloc, form.shape, runs)?;
-        return indexed_in_span(
-            alloc, chain, handle, span, form, encoded, measured, &indexer,
-        );
+    if !taken.chain.array_to_array_codecs().is_empty() {
+        let indexer = runs_indexer(alloc, taken.form.shape, runs)?;
+        return indexed_in_span(alloc, taken, handle, span, &indexer);
     }
-    chain_is_sound(chain);
-    form.shape.as_slice();
-    let moved = Form {
-        shape: encoded,
-        ..form
-    };
-    moved_in_span(alloc, chain, handle, span, moved, measured, runs)
+    chain_is_sound(taken.chain);
+    moved_in_span(alloc, taken, handle, span, runs)
 }

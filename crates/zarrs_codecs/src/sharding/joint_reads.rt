@@ -10,18 +10,20 @@ ghost use Rattle.zarrs_chain.specs.FormView.{lent_form};
 ghost use Rattle.zarrs_codecs.specs.ChunkRead.{TakenBy, asks_in_part};
 ghost use Rattle.zarrs_codecs.specs.CodecPart.{codec_plans};
 ghost use Rattle.zarrs_codecs.specs.JointReads.{AddsRanges, AddsSpan, AreGroupRanges, AreRestedOn, PlacesRest, RestMoved, end_within};
-ghost use Rattle.zarrs_codecs.specs.SpanReads.{AreInnerRuns, StandsIn, SureGroups, TakesForm, seen_state};
+ghost use Rattle.zarrs_codecs.specs.SpanReads.{AreInnerRuns, StandsIn, SureGroups, seen_state};
+ghost use Rattle.zarrs_codecs.specs.TakenChain.{inner_form, moved_sizes};
 ghost use Rattle.zarrs_lent_handles.specs.SpanHandle.{moved_ranges};
 
 use crate::partial_decoder::codec_read::plans_reads;
 use crate::partial_decoder::encoded_runs::encoded_runs;
+use crate::sharding::taken_chain::TakenChain;
 use crate::sharding::value_span::ValueSpan;
 use std::alloc::{AllocError, Global};
 use zarrs_array_regions::{kept_region, region_runs};
 use zarrs_chain::stages::{Form, chain_is_sound, has_span};
 use zarrs_chain::{ArrayToBytesCodec, CodecChain};
-use zarrs_chunk::{ChunkShape, CodecError};
-use zarrs_codec::{ByteRange, BytesRepresentation, BytesToBytesCodecTraits, CodecTraits, room_for};
+use zarrs_chunk::CodecError;
+use zarrs_codec::{ByteRange, BytesToBytesCodecTraits, CodecTraits, room_for};
 use zarrs_lent_handles::ReadAheadTraits;
 use zarrs_shard_runs::{InnerRuns, runs_indexer};
 
@@ -59,36 +61,31 @@ fn whole_range(alloc: Global, len: u64) -> Result<Vec<ByteRange>, AllocError>
 /// in the order in which they are read there.
 fn moved_runs<B: BytesToBytesCodecTraits>(
     alloc: Global,
-    chain: &CodecChain<B>,
-    form: Form<'_>,
-    encoded: &ChunkShape,
-    measured: &BytesRepresentation,
+    taken: &TakenChain<'_, B>,
     runs: &[(u64, u64)],
 ) -> Result<Vec<(u64, u64)>, CodecError>
-    requires takes { TakesForm B.functions chain.now (lent_form form) encoded.now measured.now }
-    requires counted { product form.shape.now < 2 ^ 64 }
     requires filled { AreFilled runs.now }
-    requires below { EndWithin (product form.shape.now) runs.now }
+    requires below { EndWithin (product (inner_form taken.now).sizes) runs.now }
     requires count { length (joined_runs runs.now) < 2 ^ 64 }
     ensures filled { IfOk result (λ moved. AreFilled moved.items) }
-    ensures below { IfOk result (λ moved. EndWithin (product encoded.now) moved.items) }
-    ensures rested { IfOk result (λ moved. RestMoved B.functions (plain_chain chain.now) (lent_form
-        form.entry) encoded.now (joined_runs runs.now) (joined_runs moved.items)) }
+    ensures below { IfOk result (λ moved. EndWithin (product (moved_sizes taken.now)) moved.items) }
+    ensures rested { IfOk result
+        (λ moved. RestMoved taken.now (joined_runs runs.now) (joined_runs moved.items)) }
     ensures refused { IfErr result (λ error. memory_or_fault error ≡ true) }
     ensures no_fault { is_fault result ≡ false }
 {
-    chain_is_sound(chain);
-    form.shape.as_slice();
-    let codecs = chain.array_to_array_codecs();
+    chain_is_sound(taken.chain);
+    let codecs = taken.chain.array_to_array_codecs();
     if codecs.is_empty() {
         let own = Vec::from_slice(alloc, runs)?;
         return Ok(own);
     }
-    let indexer = runs_indexer(alloc, form.shape, runs)?;
-    if let Some(region) = kept_region(codecs, form.shape, &indexer) {
-        return region_runs(alloc, codecs, form.shape, region);
+    let shape = taken.form.shape;
+    let indexer = runs_indexer(alloc, shape, runs)?;
+    if let Some(region) = kept_region(codecs, shape, &indexer) {
+        return region_runs(alloc, codecs, shape, region);
     }
-    encoded_runs(alloc, codecs, form.shape, &indexer)
+    encoded_runs(alloc, codecs, shape, &indexer)
 }
 
 /// The ranges of the bytes of these runs' places, one for each run, as a read asks for them. Errors:
@@ -124,38 +121,28 @@ fn place_ranges<B: BytesToBytesCodecTraits>(
 /// it is known before: all of it, or the bytes of the places.
 fn chunk_ranges<B: BytesToBytesCodecTraits>(
     alloc: Global,
-    chain: &CodecChain<B>,
+    taken: &TakenChain<'_, B>,
     len: u64,
-    form: Form<'_>,
-    encoded: &ChunkShape,
-    measured: &BytesRepresentation,
     runs: &[(u64, u64)],
 ) -> Result<Option<Vec<ByteRange>>, CodecError>
-    requires takes { TakesForm B.functions chain.now (lent_form form) encoded.now measured.now }
-    requires counted { product form.shape.now < 2 ^ 64 }
     requires filled { AreFilled runs.now }
-    requires below { EndWithin (product form.shape.now) runs.now }
+    requires below { EndWithin (product (inner_form taken.now).sizes) runs.now }
     requires count { length (joined_runs runs.now) < 2 ^ 64 }
-    ensures rested { IfOk result (λ found. IfSome found (λ ranges. AreRestedOn B.functions
-        (plain_chain chain.now) (lent_form form.entry) len (joined_runs runs.now) ranges.items)) }
+    ensures rested { IfOk result (λ found. IfSome found
+        (λ ranges. AreRestedOn taken.now len (joined_runs runs.now) ranges.items)) }
     ensures refused { IfErr result (λ error. memory_or_fault error ≡ true) }
     ensures no_fault { is_fault result ≡ false }
 {
-    chain_is_sound(chain);
-    form.shape.as_slice();
-    if is_read_whole(chain) {
+    chain_is_sound(taken.chain);
+    if is_read_whole(taken.chain) {
         return Ok(Some(whole_range(alloc, len)?));
     }
-    let codec = chain.array_to_bytes_codec();
+    let codec = taken.chain.array_to_bytes_codec();
     if !plans_reads(codec) {
         return Ok(None);
     }
-    let moved = moved_runs(alloc, chain, form, encoded, measured, runs)?;
-    let inside = Form {
-        shape: encoded,
-        ..form
-    };
-    let ranges = place_ranges(alloc, codec, inside, moved.as_slice())?;
+    let moved = moved_runs(alloc, taken, runs)?;
+    let ranges = place_ranges(alloc, codec, taken.moved_form(), moved.as_slice())?;
     Ok(Some(ranges))
 }
 
@@ -189,25 +176,20 @@ fn append_moved(
 #[tactic(auto, using(crate::proofs::JointReads::adds_ranges))]
 fn append_ranges<B: BytesToBytesCodecTraits>(
     alloc: Global,
-    chain: &CodecChain<B>,
+    taken: &TakenChain<'_, B>,
     ranges: &mut Vec<ByteRange>,
     inside: &ValueSpan<'_>,
-    form: Form<'_>,
-    encoded: &ChunkShape,
-    measured: &BytesRepresentation,
     runs: &[(u64, u64)],
 ) -> Result<bool, CodecError>
-    requires takes { TakesForm B.functions chain.now (lent_form form) encoded.now measured.now }
-    requires counted { product form.shape.now < 2 ^ 64 }
     requires filled { AreFilled runs.now }
-    requires below { EndWithin (product form.shape.now) runs.now }
+    requires below { EndWithin (product (inner_form taken.now).sizes) runs.now }
     requires count { length (joined_runs runs.now) < 2 ^ 64 }
-    ensures added { IfOk result (λ known. known ≡ true → AddsRanges B.functions chain.now (lent_form
-        form.entry) inside.now runs.now ranges.old.items ranges.new.items) }
+    ensures added { IfOk result (λ known. known ≡ true → AddsRanges taken.now inside.now runs.now
+        ranges.old.items ranges.new.items) }
     ensures refused { IfErr result (λ error. memory_or_fault error ≡ true) }
     ensures no_fault { is_fault result ≡ false }
 {
-    match chunk_ranges(alloc, chain, inside.len, form, encoded, measured, runs)? {
+    match chunk_ranges(alloc, taken, inside.len, runs)? {
         None => Ok(false),
         Some(own) => Ok(append_moved(ranges, inside, own.as_slice())?),
     }
@@ -218,22 +200,17 @@ fn append_ranges<B: BytesToBytesCodecTraits>(
 #[tactic(auto, using(crate::proofs::JointReads::adds_none, crate::proofs::JointReads::adds_span))]
 fn append_group<B: BytesToBytesCodecTraits>(
     alloc: Global,
-    chain: &CodecChain<B>,
+    taken: &TakenChain<'_, B>,
     ranges: &mut Vec<ByteRange>,
     span: &ValueSpan<'_>,
     place: (usize, usize),
-    form: Form<'_>,
-    encoded: &ChunkShape,
-    measured: &BytesRepresentation,
     runs: &[(u64, u64)],
 ) -> Result<bool, CodecError>
-    requires takes { TakesForm B.functions chain.now (lent_form form) encoded.now measured.now }
-    requires counted { product form.shape.now < 2 ^ 64 }
     requires filled { AreFilled runs.now }
-    requires below { EndWithin (product form.shape.now) runs.now }
+    requires below { EndWithin (product (inner_form taken.now).sizes) runs.now }
     requires count { length (joined_runs runs.now) < 2 ^ 64 }
-    ensures added { IfOk result (λ known. known ≡ true → AddsSpan B.functions chain.now (lent_form
-        form.entry) span.now place runs.now ranges.old.items ranges.new.items) }
+    ensures added { IfOk result (λ known. known ≡ true → AddsSpan taken.now span.now place runs.now
+        ranges.old.items ranges.new.items) }
     ensures refused { IfErr result (λ error. memory_or_fault error ≡ true) }
     ensures no_fault { is_fault result ≡ false }
 {
@@ -242,7 +219,7 @@ fn append_group<B: BytesToBytesCodecTraits>(
     }
     match span.inside(place.0 as u64, place.1 as u64) {
         Err(_) => Ok(false),
-        Ok(inside) => append_ranges(alloc, chain, ranges, &inside, form, encoded, measured, runs),
+        Ok(inside) => append_ranges(alloc, taken, ranges, &inside, runs),
     }
 }
 
@@ -250,20 +227,16 @@ fn append_group<B: BytesToBytesCodecTraits>(
 /// known of all of them.
 fn group_ranges<B: BytesToBytesCodecTraits>(
     alloc: Global,
-    chain: &CodecChain<B>,
+    taken: &TakenChain<'_, B>,
     span: &ValueSpan<'_>,
     numbers: &[usize],
     groups: &[InnerRuns],
-    form: Form<'_>,
-    encoded: &ChunkShape,
-    measured: &BytesRepresentation,
 ) -> Result<Option<Vec<ByteRange>>, CodecError>
-    requires takes { TakesForm B.functions chain.now (lent_form form) encoded.now measured.now }
-    requires counted { product form.shape.now < 2 ^ 64 }
-    requires groups { AreInnerRuns form.shape.now (length (spans_of numbers.now)) groups.now }
+    requires groups { AreInnerRuns (inner_form taken.now).sizes (length (spans_of numbers.now))
+        groups.now }
     requires numbers { length numbers.now ≡ length (spans_of numbers.now) * 2 }
-    ensures ranges { IfOk result (λ found. IfSome found (λ ranges. AreGroupRanges B.functions
-        chain.now (lent_form form.entry) span.now numbers.now groups.now ranges.items)) }
+    ensures ranges { IfOk result (λ found. IfSome found
+        (λ ranges. AreGroupRanges taken.now span.now numbers.now groups.now ranges.items)) }
     ensures refused { IfErr result (λ error. memory_or_fault error ≡ true) }
     ensures no_fault { is_fault result ≡ false }
 {
@@ -272,17 +245,7 @@ fn group_ranges<B: BytesToBytesCodecTraits>(
         let number = group.number as usize;
         let place = (numbers[number * 2], numbers[number * 2 + 1]);
         let runs = group.runs.as_slice();
-        if !append_group(
-            alloc,
-            chain,
-            &mut ranges,
-            span,
-            place,
-            form,
-            encoded,
-            measured,
-            runs,
-        )? {
+        if !append_group(alloc, taken, &mut ranges, span, place, runs)? {
             return Ok(None);
         }
     }
@@ -300,23 +263,19 @@ fn are_few(ranges: &[ByteRange]) -> bool
 /// memory. Errors: `OutOfMemory`; `Storage`, but never where all bytes are sure that these reads rest on.
 pub(crate) fn read_groups_ahead<H: ReadAheadTraits, B: BytesToBytesCodecTraits>(
     alloc: Global,
-    chain: &CodecChain<B>,
+    taken: &TakenChain<'_, B>,
     handle: &mut H,
     span: &ValueSpan<'_>,
     numbers: &[usize],
     groups: &[InnerRuns],
-    form: Form<'_>,
-    encoded: &ChunkShape,
-    measured: &BytesRepresentation,
 ) -> Result<(), CodecError>
-    requires takes { TakesForm B.functions chain.now (lent_form form) encoded.now measured.now }
-    requires counted { product form.shape.now < 2 ^ 64 }
     requires stands { StandsIn span.now (H.state handle.old) }
-    requires groups { AreInnerRuns form.shape.now (length (spans_of numbers.now)) groups.now }
+    requires groups { AreInnerRuns (inner_form taken.now).sizes (length (spans_of numbers.now))
+        groups.now }
     requires numbers { length numbers.now ≡ length (spans_of numbers.now) * 2 }
     ensures refused { IfErr result (λ error. memory_or_fault error ≡ true) }
-    ensures sure { SureGroups B.functions chain.now (lent_form form.entry) (seen_state span.now
-        (H.state handle.old)) numbers.now groups.now result }
+    ensures sure { SureGroups taken.now (seen_state span.now (H.state handle.old)) numbers.now
+        groups.now result }
     ensures left { H.state handle.new ≡ after_reading result (H.state handle.old) }
     ensures same_reference { H.lent handle.new ≡ H.lent handle.old }
 {
@@ -326,7 +285,7 @@ pub(crate) fn read_groups_ahead<H: ReadAheadTraits, B: BytesToBytesCodecTraits>(
     if handle.value_in_memory().is_some() {
         return Ok(());
     }
-    match group_ranges(alloc, chain, span, numbers, groups, form, encoded, measured)? {
+    match group_ranges(alloc, taken, span, numbers, groups)? {
         Some(ranges) if are_few(ranges.as_slice()) => handle.read_ahead(alloc, ranges),
         _ => Ok(()),
     }

@@ -2,27 +2,26 @@
 ghost use Rattle.std.specs.Prelude.{◌≡◌, ◌*◌, ◌<◌, ◌^◌, get_or, IfErr, IfOk, Ok, length, map, true, false};
 ghost use Rattle.zarrs_array_bytes.specs.Tight.{IsTight, UpdatesTight};
 ghost use Rattle.zarrs_array_bytes.specs.Validity.{validity};
-ghost use Rattle.zarrs_chain.specs.FormView.{lent_form};
 ghost use Rattle.zarrs_chain_meaning.specs.sharding.Sharding.{spans_of};
 ghost use Rattle.zarrs_chunk.specs.Answer.{is_fault, memory_or_fault};
 ghost use Rattle.zarrs_chunk.specs.ChunkShape.{product};
 ghost use Rattle.zarrs_chunk.specs.Tuples.{is_box_inside, is_tuple_inside, row_major};
 ghost use Rattle.zarrs_codec.specs.StorageState.{after_reading};
 ghost use Rattle.zarrs_codecs.specs.BoxReads.{AreShardParts, PutsPart, ReadsParts, SureParts, part_group};
-ghost use Rattle.zarrs_codecs.specs.SpanReads.{AreInnerRuns, StandsIn, TakesForm, seen_state};
-ghost use Rattle.zarrs_data_type.specs.FillValue.{fill_fits};
+ghost use Rattle.zarrs_codecs.specs.SpanReads.{AreInnerRuns, StandsIn, seen_state};
+ghost use Rattle.zarrs_codecs.specs.TakenChain.{inner_form};
 ghost use Rattle.zarrs_shard_runs.specs.GroupedRuns.{group};
 
 use crate::partial_decoder::fill_runs::fill_runs;
 use crate::sharding::box_reads::{box_runs, place_of, read_inner_box};
 use crate::sharding::joint_reads::read_groups_ahead;
+use crate::sharding::taken_chain::TakenChain;
 use crate::sharding::value_span::ValueSpan;
 use std::alloc::Global;
 use zarrs_array_bytes::{ArrayBytes, update_runs};
-use zarrs_chain::CodecChain;
 use zarrs_chain::stages::Form;
 use zarrs_chunk::{ArraySubset, ChunkShape, CodecError, ravel_indices};
-use zarrs_codec::{BytesRepresentation, BytesToBytesCodecTraits};
+use zarrs_codec::BytesToBytesCodecTraits;
 use zarrs_data_type::DataType;
 use zarrs_grid::ChunkPart;
 use zarrs_lent_handles::ReadAheadTraits;
@@ -83,37 +82,29 @@ fn part_groups(
 /// on.
 fn read_parts_ahead<H: ReadAheadTraits, B: BytesToBytesCodecTraits>(
     alloc: Global,
-    chain: &CodecChain<B>,
+    taken: &TakenChain<'_, B>,
     handle: &mut H,
     span: &ValueSpan<'_>,
     numbers: &[usize],
     grid: &ChunkShape,
     lengths: &ChunkShape,
     parts: &[ChunkPart],
-    form: Form<'_>,
-    encoded: &ChunkShape,
-    measured: &BytesRepresentation,
 ) -> Result<(), CodecError>
-    requires takes { TakesForm B.functions chain.now (lent_form form) encoded.now measured.now }
-    requires counted { product form.shape.now < 2 ^ 64 }
     requires stands { StandsIn span.now (H.state handle.old) }
-    requires parts { AreShardParts form.shape.now grid.now lengths.now parts.now }
+    requires parts { AreShardParts (inner_form taken.now).sizes grid.now lengths.now parts.now }
     requires count { product grid.now ≡ length (spans_of numbers.now) }
     requires numbers { length numbers.now ≡ length (spans_of numbers.now) * 2 }
     ensures refused { IfErr result (λ error. memory_or_fault error ≡ true) }
-    ensures sure { SureParts B.functions chain.now (lent_form form.entry) (seen_state span.now
-        (H.state handle.old)) numbers.now grid.now parts.now result }
+    ensures sure { SureParts taken.now (seen_state span.now (H.state handle.old)) numbers.now
+        grid.now parts.now result }
     ensures left { H.state handle.new ≡ after_reading result (H.state handle.old) }
     ensures same_reference { H.lent handle.new ≡ H.lent handle.old }
 {
     if handle.value_in_memory().is_some() {
         return Ok(());
     }
-    let groups = part_groups(alloc, form.shape, grid, lengths, parts)?;
-    let groups = groups.as_slice();
-    read_groups_ahead(
-        alloc, chain, handle, span, numbers, groups, form, encoded, measured,
-    )
+    let groups = part_groups(alloc, taken.form.shape, grid, lengths, parts)?;
+    read_groups_ahead(alloc, taken, handle, span, numbers, groups.as_slice())
 }
 
 /// The elements of a box of these lengths with those of a part replaced. Errors: `OutOfMemory`.
@@ -142,30 +133,24 @@ fn put_part(
 /// handle whose value isn't in memory gets all of it by one call.
 pub(crate) fn read_parts<H: ReadAheadTraits, B: BytesToBytesCodecTraits>(
     alloc: Global,
-    chain: &CodecChain<B>,
+    taken: &TakenChain<'_, B>,
     handle: &mut H,
     span: &ValueSpan<'_>,
     numbers: &[usize],
     grid: &ChunkShape,
     lengths: &ChunkShape,
     parts: &[ChunkPart],
-    form: Form<'_>,
-    encoded: &ChunkShape,
-    measured: &BytesRepresentation,
 ) -> Result<ArrayBytes<'static>, CodecError>
-    requires takes { TakesForm B.functions chain.now (lent_form form) encoded.now measured.now }
-    requires counted { product form.shape.now < 2 ^ 64 }
-    requires filling { fill_fits form.data_type.now form.fill_value.now ≡ true }
     requires stands { StandsIn span.now (H.state handle.old) }
     requires lengths { product lengths.now < 2 ^ 64 }
-    requires parts { AreShardParts form.shape.now grid.now lengths.now parts.now }
+    requires parts { AreShardParts (inner_form taken.now).sizes grid.now lengths.now parts.now }
     requires count { product grid.now ≡ length (spans_of numbers.now) }
     requires numbers { length numbers.now ≡ length (spans_of numbers.now) * 2 }
-    ensures answer { ReadsParts B.functions chain.now (lent_form form.entry) (seen_state span.now
-        (H.state handle.old)) numbers.now grid.now lengths.now parts.now result }
-    ensures tight { IfOk result (IsTight form.entry.data_type.now) }
-    ensures sure { SureParts B.functions chain.now (lent_form form.entry) (seen_state span.now
-        (H.state handle.old)) numbers.now grid.now parts.now result }
+    ensures answer { ReadsParts taken.now (seen_state span.now (H.state handle.old)) numbers.now
+        grid.now lengths.now parts.now result }
+    ensures tight { IfOk result (IsTight (inner_form taken.now).type) }
+    ensures sure { SureParts taken.now (seen_state span.now (H.state handle.old)) numbers.now
+        grid.now parts.now result }
     ensures left { H.state handle.new ≡ after_reading result (H.state handle.old) }
     ensures same_reference { H.lent handle.new ≡ H.lent handle.old }
 {
@@ -173,18 +158,14 @@ pub(crate) fn read_parts<H: ReadAheadTraits, B: BytesToBytesCodecTraits>(
         data_type,
         fill_value,
         ..
-    } = form;
-    read_parts_ahead(
-        alloc, chain, handle, span, numbers, grid, lengths, parts, form, encoded, measured,
-    )?;
+    } = taken.form;
+    read_parts_ahead(alloc, taken, handle, span, numbers, grid, lengths, parts)?;
     let count = lengths.num_elements()?;
     let mut elements = fill_runs(alloc, data_type, fill_value, &[(0, count)])?;
     for part in parts {
         let place = place_at(numbers, grid, part.chunk.as_slice());
         let from = &part.in_chunk;
-        let content = read_inner_box(
-            alloc, chain, handle, span, place, form, encoded, measured, from,
-        )?;
+        let content = read_inner_box(alloc, taken, handle, span, place, from)?;
         let to = &part.in_region;
         elements = put_part(alloc, elements, lengths, to, &content, data_type)?;
     }

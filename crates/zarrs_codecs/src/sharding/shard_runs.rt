@@ -12,21 +12,22 @@ ghost use Rattle.zarrs_codec.specs.StorageState.{after_reading};
 ghost use Rattle.zarrs_codecs.specs.ChunkRead.{ChunkReadsRuns, SureRuns, TakenBy};
 ghost use Rattle.zarrs_codecs.specs.CodecPart.{codec_rests_on, rests_where};
 ghost use Rattle.zarrs_codecs.specs.KeptIndex.{IsIndex};
-ghost use Rattle.zarrs_codecs.specs.SpanReads.{AreInnerRuns, PutsInOrder, ReadsGroups, ReadsSpan, StandsIn, SureGroups, SurePlaces, SureSpan, TakesForm, seen_state};
-ghost use Rattle.zarrs_data_type.specs.FillValue.{fill_fits};
+ghost use Rattle.zarrs_codecs.specs.SpanReads.{AreInnerRuns, PutsInOrder, ReadsGroups, ReadsSpan, StandsIn, SureGroups, SurePlaces, SureSpan, seen_state};
+ghost use Rattle.zarrs_codecs.specs.TakenChain.{inner_form};
 
 use crate::partial_decoder::fill_runs::{fill_runs, room_for_elements};
 use crate::sharding::index_read::index_numbers;
 use crate::sharding::inner_reads::chain_in_span;
 use crate::sharding::joint_reads::read_groups_ahead;
+use crate::sharding::taken_chain::TakenChain;
 use crate::sharding::taken_parts::taken_parts;
 use crate::sharding::value_span::ValueSpan;
 use std::alloc::Global;
 use zarrs_array_bytes::{ArrayBytes, append_elements};
-use zarrs_chain::stages::{Form, ShardingParts, has_span, taken_form};
-use zarrs_chain::{CodecChain, ShardingCodec};
-use zarrs_chunk::{ChunkShape, CodecError, count_places};
-use zarrs_codec::{BytesPartialDecoderTraits, BytesRepresentation, BytesToBytesCodecTraits};
+use zarrs_chain::ShardingCodec;
+use zarrs_chain::stages::{Form, ShardingParts, has_span};
+use zarrs_chunk::{CodecError, count_places};
+use zarrs_codec::{BytesPartialDecoderTraits, BytesToBytesCodecTraits};
 use zarrs_data_type::DataType;
 use zarrs_lent_handles::{AheadHandle, ReadAheadTraits};
 use zarrs_shard_runs::{InnerRuns, group_runs};
@@ -35,72 +36,58 @@ use zarrs_shard_runs::{InnerRuns, group_runs};
 #[cycle(read)]
 fn read_group<H: ReadAheadTraits, B: BytesToBytesCodecTraits>(
     alloc: Global,
-    chain: &CodecChain<B>,
+    taken: &TakenChain<'_, B>,
     handle: &mut H,
     span: &ValueSpan<'_>,
     place: (usize, usize),
-    form: Form<'_>,
-    encoded: &ChunkShape,
-    measured: &BytesRepresentation,
     runs: &[(u64, u64)],
 ) -> Result<ArrayBytes<'static>, CodecError>
-    requires takes { TakesForm B.functions chain.now (lent_form form) encoded.now measured.now }
-    requires counted { product form.shape.now < 2 ^ 64 }
-    requires filling { fill_fits form.data_type.now form.fill_value.now ≡ true }
     requires stands { StandsIn span.now (H.state handle.old) }
     requires filled { AreFilled runs.now }
-    requires below { EndWithin (product form.shape.now) runs.now }
+    requires below { EndWithin (product (inner_form taken.now).sizes) runs.now }
     requires count { length (joined_runs runs.now) < 2 ^ 64 }
-    ensures answer { ReadsSpan B.functions chain.now (lent_form form.entry) (seen_state span.now
-        (H.state handle.old)) place (joined_runs runs.now) result }
-    ensures tight { IfOk result (IsTight form.entry.data_type.now) }
-    ensures sure { SureSpan B.functions chain.now (lent_form form.entry) (seen_state span.now
-        (H.state handle.old)) place (joined_runs runs.now) result }
+    ensures answer { ReadsSpan taken.now (seen_state span.now (H.state handle.old)) place
+        (joined_runs runs.now) result }
+    ensures tight { IfOk result (IsTight (inner_form taken.now).type) }
+    ensures sure { SureSpan taken.now (seen_state span.now (H.state handle.old)) place
+        (joined_runs runs.now) result }
     ensures left { H.state handle.new ≡ after_reading result (H.state handle.old) }
     ensures same_reference { H.lent handle.new ≡ H.lent handle.old }
 {
     if !has_span(place) {
-        return fill_runs(alloc, form.data_type, form.fill_value, runs);
+        return fill_runs(alloc, taken.form.data_type, taken.form.fill_value, runs);
     }
     let inside = span.inside(place.0 as u64, place.1 as u64)?;
-    chain_in_span(alloc, chain, handle, &inside, form, encoded, measured, runs)
+    chain_in_span(alloc, taken, handle, &inside, runs)
 }
 
 /// The elements at the places of a group that is alone: what is read of it, which is joined to nothing.
 #[cycle(read)]
 fn read_alone<H: ReadAheadTraits, B: BytesToBytesCodecTraits>(
     alloc: Global,
-    chain: &CodecChain<B>,
+    taken: &TakenChain<'_, B>,
     handle: &mut H,
     span: &ValueSpan<'_>,
     numbers: &[usize],
     groups: &[InnerRuns],
-    form: Form<'_>,
-    encoded: &ChunkShape,
-    measured: &BytesRepresentation,
 ) -> Result<ArrayBytes<'static>, CodecError>
-    requires takes { TakesForm B.functions chain.now (lent_form form) encoded.now measured.now }
-    requires counted { product form.shape.now < 2 ^ 64 }
-    requires filling { fill_fits form.data_type.now form.fill_value.now ≡ true }
     requires stands { StandsIn span.now (H.state handle.old) }
-    requires groups { AreInnerRuns form.shape.now (length (spans_of numbers.now)) groups.now }
+    requires groups { AreInnerRuns (inner_form taken.now).sizes (length (spans_of numbers.now))
+        groups.now }
     requires numbers { length numbers.now ≡ length (spans_of numbers.now) * 2 }
     requires one { length groups.now ≡ 1 }
-    ensures answer { ReadsGroups B.functions chain.now (lent_form form.entry) (seen_state span.now
-        (H.state handle.old)) numbers.now groups.now result }
-    ensures tight { IfOk result (IsTight form.entry.data_type.now) }
-    ensures sure { SureGroups B.functions chain.now (lent_form form.entry) (seen_state span.now
-        (H.state handle.old)) numbers.now groups.now result }
+    ensures answer { ReadsGroups taken.now (seen_state span.now (H.state handle.old)) numbers.now
+        groups.now result }
+    ensures tight { IfOk result (IsTight (inner_form taken.now).type) }
+    ensures sure { SureGroups taken.now (seen_state span.now (H.state handle.old)) numbers.now
+        groups.now result }
     ensures left { H.state handle.new ≡ after_reading result (H.state handle.old) }
     ensures same_reference { H.lent handle.new ≡ H.lent handle.old }
 {
     let group = &groups[0];
     let number = group.number as usize;
     let place = (numbers[number * 2], numbers[number * 2 + 1]);
-    let runs = group.runs.as_slice();
-    read_group(
-        alloc, chain, handle, span, place, form, encoded, measured, runs,
-    )
+    read_group(alloc, taken, handle, span, place, group.runs.as_slice())
 }
 
 /// The elements at the places of groups, one group behind the other. Where it is known what is read of
@@ -109,49 +96,43 @@ fn read_alone<H: ReadAheadTraits, B: BytesToBytesCodecTraits>(
 #[cycle(read)]
 fn read_groups<H: ReadAheadTraits, B: BytesToBytesCodecTraits>(
     alloc: Global,
-    chain: &CodecChain<B>,
+    taken: &TakenChain<'_, B>,
     handle: &mut H,
     span: &ValueSpan<'_>,
     numbers: &[usize],
     groups: &[InnerRuns],
     room: u64,
-    form: Form<'_>,
-    encoded: &ChunkShape,
-    measured: &BytesRepresentation,
 ) -> Result<ArrayBytes<'static>, CodecError>
-    requires takes { TakesForm B.functions chain.now (lent_form form) encoded.now measured.now }
-    requires counted { product form.shape.now < 2 ^ 64 }
-    requires filling { fill_fits form.data_type.now form.fill_value.now ≡ true }
     requires stands { StandsIn span.now (H.state handle.old) }
-    requires groups { AreInnerRuns form.shape.now (length (spans_of numbers.now)) groups.now }
+    requires groups { AreInnerRuns (inner_form taken.now).sizes (length (spans_of numbers.now))
+        groups.now }
     requires numbers { length numbers.now ≡ length (spans_of numbers.now) * 2 }
-    ensures answer { ReadsGroups B.functions chain.now (lent_form form.entry) (seen_state span.now
-        (H.state handle.old)) numbers.now groups.now result }
-    ensures tight { IfOk result (IsTight form.entry.data_type.now) }
-    ensures sure { SureGroups B.functions chain.now (lent_form form.entry) (seen_state span.now
-        (H.state handle.old)) numbers.now groups.now result }
+    ensures answer { ReadsGroups taken.now (seen_state span.now (H.state handle.old)) numbers.now
+        groups.now result }
+    ensures tight { IfOk result (IsTight (inner_form taken.now).type) }
+    ensures sure { SureGroups taken.now (seen_state span.now (H.state handle.old)) numbers.now
+        groups.now result }
     ensures left { H.state handle.new ≡ after_reading result (H.state handle.old) }
     ensures same_reference { H.lent handle.new ≡ H.lent handle.old }
 {
     if groups.len() == 1 {
-        return read_alone(
-            alloc, chain, handle, span, numbers, groups, form, encoded, measured,
-        );
+        return read_alone(alloc, taken, handle, span, numbers, groups);
     }
-    read_groups_ahead(
-        alloc, chain, handle, span, numbers, groups, form, encoded, measured,
-    )?;
-    let mut joined = room_for_elements(alloc, form.data_type, form.fill_value, room)?;
+    read_groups_ahead(alloc, taken, handle, span, numbers, groups)?;
+    let Form {
+        data_type,
+        fill_value,
+        ..
+    } = taken.form;
+    let mut joined = room_for_elements(alloc, data_type, fill_value, room)?;
     let mut count = 0;
     for group in groups {
         let number = group.number as usize;
         let place = (numbers[number * 2], numbers[number * 2 + 1]);
         let runs = group.runs.as_slice();
         let more = count_places(runs);
-        let part = read_group(
-            alloc, chain, handle, span, place, form, encoded, measured, runs,
-        )?;
-        joined = append_elements(alloc, joined, count, &part, more, form.data_type)?;
+        let part = read_group(alloc, taken, handle, span, place, runs)?;
+        joined = append_elements(alloc, joined, count, &part, more, data_type)?;
         count += more;
     }
     Ok(joined)
@@ -212,18 +193,15 @@ pub(crate) fn shard_by_index<H: ReadAheadTraits, B: BytesToBytesCodecTraits>(
         index_codecs: _,
         is_index_at_end: _,
     } = taken_parts(codec, form);
-    inner.as_slice();
-    let (encoded, measured) = taken_form(alloc, chain, inner, form.data_type, form.fill_value)?;
-    let grouped = group_runs(alloc, inner, form.shape, runs)?;
-    let groups = grouped.groups.as_slice();
     let inside = Form {
         shape: inner,
         ..form
     };
+    let taken = TakenChain::new(alloc, chain, inside)?;
+    let grouped = group_runs(alloc, inner, form.shape, runs)?;
+    let groups = grouped.groups.as_slice();
     let count = count_places(runs);
-    let joined = read_groups(
-        alloc, chain, handle, span, numbers, groups, count, inside, &encoded, &measured,
-    )?;
+    let joined = read_groups(alloc, &taken, handle, span, numbers, groups, count)?;
     in_order(alloc, joined, grouped.order, count, form.data_type)
 }
 

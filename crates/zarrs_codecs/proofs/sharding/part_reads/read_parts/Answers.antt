@@ -6,7 +6,6 @@ use Rattle.std.proofs.lemmas.Result.{err_from_is_err_and}
 use Rattle.std.specs.List.{range_with_len}
 use Rattle.std.specs.Prelude.{IsOkAnd}
 use Rattle.zarrs_array_bytes.specs.Validity.{Holds}
-use Rattle.zarrs_chain.specs.ChainView.{plain_chain}
 use Rattle.zarrs_chain_meaning.specs.sharding.Sharding.{spans_of}
 use Rattle.zarrs_chunk.specs.ChunkShape.{product}
 use Rattle.zarrs_chunk.specs.Tuples.{row_major}
@@ -16,6 +15,7 @@ use Rattle.zarrs_codecs.proofs.SpanSeen.{stands_value}
 use Rattle.zarrs_codecs.specs.BoxReads.{blank_box, part_group, parts_read}
 use Rattle.zarrs_codecs.specs.ChunkRead.{are_given_sure}
 use Rattle.zarrs_codecs.specs.SpanReads.{StandsIn, chain_read, chain_rests, seen_state, stored_groups_rest}
+use Rattle.zarrs_codecs.specs.TakenChain.{inner_form}
 use Rattle.zarrs_codecs.proofs.sharding.part_reads.read_parts.Goals as goal
 
 pub fill_runs-requires-clause-count : goal.fill_runs-requires-clause-count
@@ -27,13 +27,12 @@ fill_runs-requires-clause-count g c =
 
 pub loop-part-init : goal.loop-part-init
 loop-part-init g c =
+    let form = inner_form c.args.taken.now in
     let f = g.B.BytesToBytesCodecTraits.functions in
-    let type = c.args.form.data_type.now in
-    let fill = c.args.form.fill_value.now in
     let count = counted_is (product c.args.lengths.now) c.in_ok-count.count c.requires.lengths c.in_ok-count.ensures.answer in
-    let held = filled_blank type fill c.args.lengths.now c.in_ok-count.count c.in_ok-elements.elements count ((c.in_ok-elements.ensures {u = tt}).answer.is) in
+    let held = filled_blank form.type form.fill c.args.lengths.now c.in_ok-count.count c.in_ok-elements.elements count ((c.in_ok-elements.ensures {u = tt}).answer.is) in
     record {
-      walk = λ value e. put_starts (chain_read f (plain_chain c.args.chain.now)) c.args.form.shape.now type fill value (spans_of c.args.numbers.now) c.args.grid.now c.args.lengths.now c.args.parts.now c.in_ok-elements.elements held;
+      walk = λ value e. put_starts (chain_read f form.chain) form.sizes form.type form.fill value (spans_of c.args.numbers.now) c.args.grid.now c.args.lengths.now c.args.parts.now c.in_ok-elements.elements held;
       sure = λ value e s. s;
       tight = (c.in_ok-elements.ensures {u = tt}).tight;
       state = (c.in_ok-read_parts_ahead.ensures {u = tt}).left;
@@ -50,22 +49,23 @@ returns-in_err-content-clause-answer g c =
     let under : c.loop-part.part-index < length c.args.parts.now = grind (arith, nat_tests) in
     let it = c.part-item.result in
     let at : c.place_at-place.result ≡ get_or (spans_of c.args.numbers.now) (row_major c.args.grid.now it.chunk.items) (0, 0) = c.place_at-place.ensures.value ∙ ap (λ (xs : List ℕ). get_or (spans_of c.args.numbers.now) (row_major c.args.grid.now xs) (0, 0)) c.as_slice.ensures.value in
-    let step = at_part g.B.BytesToBytesCodecTraits.functions (plain_chain c.args.chain.now) c.args.form.shape.now c.args.form.data_type.now c.args.form.fill_value.now c.args.numbers.now c.args.grid.now c.args.lengths.now c.args.parts.now c.loop-part.part-index c.loop-part.elements it c.place_at-place.result c.args.span.now (D.state c.args.handle.now) (D.state c.loop-part.handle) c.requires.stands inv.state inv.walk under c.part-item.is c.requires.parts at in
+    let step = at_part c.args.taken.now c.args.numbers.now c.args.grid.now c.args.lengths.now c.args.parts.now c.loop-part.part-index c.loop-part.elements it c.place_at-place.result c.args.span.now (D.state c.args.handle.now) (D.state c.loop-part.handle) c.requires.stands inv.state inv.walk under c.part-item.is c.requires.parts at in
     let p = err_from_is_err_and c.from_residual-in_err-content.result c.from_residual-in_err-content.ensures.1 in
     rw (p.1, p.2) (part_refused step c.in_err-content.field-0.0 c.in_err-content.ensures.answer)
 
 pub returns-in_err-content-clause-sure : goal.returns-in_err-content-clause-sure
 returns-in_err-content-clause-sure g c =
+    let form = inner_form c.args.taken.now in
     let D = g.H.BytesPartialDecoderTraits in
     let inv = c.loop-part.invariant in
     let under : c.loop-part.part-index < length c.args.parts.now = grind (arith, nat_tests) in
     let it = c.part-item.result in
     let at : c.place_at-place.result ≡ get_or (spans_of c.args.numbers.now) (row_major c.args.grid.now it.chunk.items) (0, 0) = c.place_at-place.ensures.value ∙ ap (λ (xs : List ℕ). get_or (spans_of c.args.numbers.now) (row_major c.args.grid.now xs) (0, 0)) c.as_slice.ensures.value in
-    let step = at_part g.B.BytesToBytesCodecTraits.functions (plain_chain c.args.chain.now) c.args.form.shape.now c.args.form.data_type.now c.args.form.fill_value.now c.args.numbers.now c.args.grid.now c.args.lengths.now c.args.parts.now c.loop-part.part-index c.loop-part.elements it c.place_at-place.result c.args.span.now (D.state c.args.handle.now) (D.state c.loop-part.handle) c.requires.stands inv.state inv.walk under c.part-item.is c.requires.parts at in
+    let step = at_part c.args.taken.now c.args.numbers.now c.args.grid.now c.args.lengths.now c.args.parts.now c.loop-part.part-index c.loop-part.elements it c.place_at-place.result c.args.span.now (D.state c.args.handle.now) (D.state c.loop-part.handle) c.requires.stands inv.state inv.walk under c.part-item.is c.requires.parts at in
     let p = err_from_is_err_and c.from_residual-in_err-content.result c.from_residual-in_err-content.ensures.1 in
     let sure = (seen_state c.args.span.now (D.state c.args.handle.now)).sure in
     λ s. rw (p.1, p.2) (c.in_err-content.ensures.sure (part_sure step
-    (inv.sure step.value step.value_is (sym (ap (λ v. are_given_sure sure (stored_groups_rest (chain_rests g.B.BytesToBytesCodecTraits.functions (plain_chain c.args.chain.now)) c.args.form.shape.now c.args.form.data_type.now c.args.form.fill_value.now v (spans_of c.args.numbers.now) (map (part_group c.args.form.shape.now c.args.grid.now) c.args.parts.now))) step.value_is) ∙ s))))
+    (inv.sure step.value step.value_is (sym (ap (λ v. are_given_sure sure (stored_groups_rest (chain_rests g.B.BytesToBytesCodecTraits.functions form.chain) form.sizes form.type form.fill v (spans_of c.args.numbers.now) (map (part_group form.sizes c.args.grid.now) c.args.parts.now))) step.value_is) ∙ s))))
 
 pub put_part-requires-clause-valid : goal.put_part-requires-clause-valid
 put_part-requires-clause-valid g c =
@@ -74,7 +74,7 @@ put_part-requires-clause-valid g c =
     let under : c.loop-part.part-index < length c.args.parts.now = grind (arith, nat_tests) in
     let it = c.part-item.result in
     let at : c.place_at-place.result ≡ get_or (spans_of c.args.numbers.now) (row_major c.args.grid.now it.chunk.items) (0, 0) = c.place_at-place.ensures.value ∙ ap (λ (xs : List ℕ). get_or (spans_of c.args.numbers.now) (row_major c.args.grid.now xs) (0, 0)) c.as_slice.ensures.value in
-    let step = at_part g.B.BytesToBytesCodecTraits.functions (plain_chain c.args.chain.now) c.args.form.shape.now c.args.form.data_type.now c.args.form.fill_value.now c.args.numbers.now c.args.grid.now c.args.lengths.now c.args.parts.now c.loop-part.part-index c.loop-part.elements it c.place_at-place.result c.args.span.now (D.state c.args.handle.now) (D.state c.loop-part.handle) c.requires.stands inv.state inv.walk under c.part-item.is c.requires.parts at in
+    let step = at_part c.args.taken.now c.args.numbers.now c.args.grid.now c.args.lengths.now c.args.parts.now c.loop-part.part-index c.loop-part.elements it c.place_at-place.result c.args.span.now (D.state c.args.handle.now) (D.state c.loop-part.handle) c.requires.stands inv.state inv.walk under c.part-item.is c.requires.parts at in
     so_far_valid step
 
 pub put_part-requires-clause-content_valid : goal.put_part-requires-clause-content_valid
@@ -84,7 +84,7 @@ put_part-requires-clause-content_valid g c =
     let under : c.loop-part.part-index < length c.args.parts.now = grind (arith, nat_tests) in
     let it = c.part-item.result in
     let at : c.place_at-place.result ≡ get_or (spans_of c.args.numbers.now) (row_major c.args.grid.now it.chunk.items) (0, 0) = c.place_at-place.ensures.value ∙ ap (λ (xs : List ℕ). get_or (spans_of c.args.numbers.now) (row_major c.args.grid.now xs) (0, 0)) c.as_slice.ensures.value in
-    let step = at_part g.B.BytesToBytesCodecTraits.functions (plain_chain c.args.chain.now) c.args.form.shape.now c.args.form.data_type.now c.args.form.fill_value.now c.args.numbers.now c.args.grid.now c.args.lengths.now c.args.parts.now c.loop-part.part-index c.loop-part.elements it c.place_at-place.result c.args.span.now (D.state c.args.handle.now) (D.state c.loop-part.handle) c.requires.stands inv.state inv.walk under c.part-item.is c.requires.parts at in
+    let step = at_part c.args.taken.now c.args.numbers.now c.args.grid.now c.args.lengths.now c.args.parts.now c.loop-part.part-index c.loop-part.elements it c.place_at-place.result c.args.span.now (D.state c.args.handle.now) (D.state c.loop-part.handle) c.requires.stands inv.state inv.walk under c.part-item.is c.requires.parts at in
     part_valid step c.in_ok-content.content ((c.in_ok-content.ensures {u = tt}).answer)
 
 pub loop-part-preserved : goal.loop-part-preserved
@@ -94,7 +94,7 @@ loop-part-preserved g c =
     let under : c.loop-part.part-index < length c.args.parts.now = grind (arith, nat_tests) in
     let it = c.part-item.result in
     let at : c.place_at-place.result ≡ get_or (spans_of c.args.numbers.now) (row_major c.args.grid.now it.chunk.items) (0, 0) = c.place_at-place.ensures.value ∙ ap (λ (xs : List ℕ). get_or (spans_of c.args.numbers.now) (row_major c.args.grid.now xs) (0, 0)) c.as_slice.ensures.value in
-    let step = at_part g.B.BytesToBytesCodecTraits.functions (plain_chain c.args.chain.now) c.args.form.shape.now c.args.form.data_type.now c.args.form.fill_value.now c.args.numbers.now c.args.grid.now c.args.lengths.now c.args.parts.now c.loop-part.part-index c.loop-part.elements it c.place_at-place.result c.args.span.now (D.state c.args.handle.now) (D.state c.loop-part.handle) c.requires.stands inv.state inv.walk under c.part-item.is c.requires.parts at in
+    let step = at_part c.args.taken.now c.args.numbers.now c.args.grid.now c.args.lengths.now c.args.parts.now c.loop-part.part-index c.loop-part.elements it c.place_at-place.result c.args.span.now (D.state c.args.handle.now) (D.state c.loop-part.handle) c.requires.stands inv.state inv.walk under c.part-item.is c.requires.parts at in
     let same = c.in_ok-content.ensures {u = tt} in
     record {
       walk = part_put step c.in_ok-content.content same.answer c.in_ok-elements-2.elements ((c.in_ok-elements-2.ensures {u = tt}).answer.is);
@@ -106,14 +106,13 @@ loop-part-preserved g c =
 
 pub returns-clause-answer : goal.returns-clause-answer
 returns-clause-answer g c =
+    let form = inner_form c.args.taken.now in
     let f = g.B.BytesToBytesCodecTraits.functions in
     let D = g.H.BytesPartialDecoderTraits in
-    let type = c.args.form.data_type.now in
-    let fill = c.args.form.fill_value.now in
-    let read = chain_read f (plain_chain c.args.chain.now) in
+    let read = chain_read f form.chain in
     let spans = spans_of c.args.numbers.now in
     let there = stands_value c.args.span.now (D.state c.args.handle.now) c.requires.stands in
     let end : c.loop-part.part-index ≡ length c.args.parts.now = grind (arith, nat_tests) in
-    let walk = subst (λ k. PutTo read c.args.form.shape.now type fill there.value spans c.args.grid.now c.args.lengths.now c.args.parts.now (blank_box type fill c.args.lengths.now) k c.loop-part.elements) end (c.loop-part.invariant.walk there.value there.is) in
-    subst (λ v. IsOkAnd (parts_read read c.args.form.shape.now type fill v spans c.args.grid.now c.args.lengths.now c.args.parts.now (blank_box type fill c.args.lengths.now)) (Holds type c.loop-part.elements)) (sym there.is)
-    (put_ends read c.args.form.shape.now type fill there.value spans c.args.grid.now c.args.lengths.now c.args.parts.now (blank_box type fill c.args.lengths.now) c.loop-part.elements walk)
+    let walk = subst (λ k. PutTo read form.sizes form.type form.fill there.value spans c.args.grid.now c.args.lengths.now c.args.parts.now (blank_box form.type form.fill c.args.lengths.now) k c.loop-part.elements) end (c.loop-part.invariant.walk there.value there.is) in
+    subst (λ v. IsOkAnd (parts_read read form.sizes form.type form.fill v spans c.args.grid.now c.args.lengths.now c.args.parts.now (blank_box form.type form.fill c.args.lengths.now)) (Holds form.type c.loop-part.elements)) (sym there.is)
+    (put_ends read form.sizes form.type form.fill there.value spans c.args.grid.now c.args.lengths.now c.args.parts.now (blank_box form.type form.fill c.args.lengths.now) c.loop-part.elements walk)
