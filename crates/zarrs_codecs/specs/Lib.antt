@@ -25,6 +25,7 @@ pub mod PlaceLaws
 pub mod ShardRead
 pub mod BoxRows
 pub mod FewerExcused
+pub mod HandleReads
 pub mod TakenChain
 pub mod SpanReads
 pub mod BoxReads

@@ -10,8 +10,8 @@ ghost use Rattle.zarrs_chunk.specs.Answer.{Answers, memory};
 ghost use Rattle.zarrs_chunk.specs.ChunkShape.{product};
 ghost use Rattle.zarrs_chunk.specs.Runs.{AreFilled, EndWithin, joined_runs};
 ghost use Rattle.zarrs_chunk.specs.Tuples.{is_box_inside};
-ghost use Rattle.zarrs_codec.specs.StorageState.{after_reading};
 ghost use Rattle.zarrs_codecs.specs.ChunkRead.{TakenBy};
+ghost use Rattle.zarrs_codecs.specs.HandleReads.{HandleReads};
 ghost use Rattle.zarrs_codecs.specs.KeptIndex.{IsIndex, codec_index, index_seen};
 ghost use Rattle.zarrs_codecs.specs.SpanReads.{ReadsBox, ReadsChain, ReadsSpan, StandsIn, SureBox, SureChain, SureSpan, seen_state};
 ghost use Rattle.zarrs_codecs.specs.TakenChain.{inner_form};
@@ -81,8 +81,7 @@ fn chain_box<H: ReadAheadTraits, B: BytesToBytesCodecTraits>(
     ensures tight { IfOk result (IsTight (inner_form taken.now).type) }
     ensures sure { SureChain taken.now (seen_state span.now (H.state handle.old))
         (region_places (inner_form taken.now).sizes region.now) result }
-    ensures left { H.state handle.new ≡ after_reading result (H.state handle.old) }
-    ensures same_reference { H.lent handle.new ≡ H.lent handle.old }
+    ensures left { HandleReads H.state H.lent handle.old handle.new result }
 {
     if keeps_regions(taken.chain.array_to_array_codecs()) {
         return region_in_span(alloc, taken, handle, span, region);
@@ -109,8 +108,7 @@ pub(crate) fn read_inner_box<H: ReadAheadTraits, B: BytesToBytesCodecTraits>(
     ensures tight { IfOk result (IsTight (inner_form taken.now).type) }
     ensures sure { SureSpan taken.now (seen_state span.now (H.state handle.old)) place
         (region_places (inner_form taken.now).sizes region.now) result }
-    ensures left { H.state handle.new ≡ after_reading result (H.state handle.old) }
-    ensures same_reference { H.lent handle.new ≡ H.lent handle.old }
+    ensures left { HandleReads H.state H.lent handle.old handle.new result }
 {
     if !has_span(place) {
         let runs = box_runs(alloc, taken.form.shape, region)?;
@@ -154,8 +152,7 @@ fn box_by_parts<H: ReadAheadTraits, B: BytesToBytesCodecTraits>(
     ensures tight { IfOk result (IsTight form.entry.data_type.now) }
     ensures sure { SureBox B.functions (plain_sharding codec.now) (lent_form form.entry)
         (seen_state span.now (H.state handle.old)) region.now result }
-    ensures left { H.state handle.new ≡ after_reading result (H.state handle.old) }
-    ensures same_reference { H.lent handle.new ≡ H.lent handle.old }
+    ensures left { HandleReads H.state H.lent handle.old handle.new result }
 {
     let ShardingParts {
         chunk_shape: inner,
@@ -203,8 +200,7 @@ fn box_in_span<H: ReadAheadTraits, B: BytesToBytesCodecTraits>(
     ensures tight { IfOk result (IsTight form.entry.data_type.now) }
     ensures sure { SureBox B.functions (plain_sharding codec.now) (lent_form form.entry)
         (seen_state span.now (H.state handle.old)) region.now result }
-    ensures left { H.state handle.new ≡ after_reading result (H.state handle.old) }
-    ensures same_reference { H.lent handle.new ≡ H.lent handle.old }
+    ensures left { HandleReads H.state H.lent handle.old handle.new result }
 {
     let ShardingParts {
         chunk_shape: inner,
@@ -244,8 +240,7 @@ pub(crate) fn box_by_index<H: BytesPartialDecoderTraits, B: BytesToBytesCodecTra
     ensures tight { IfOk result (IsTight form.entry.data_type.now) }
     ensures sure { SureBox B.functions (plain_sharding codec.now) (lent_form form.entry)
         (H.state handle.old) region.now result }
-    ensures left { H.state handle.new ≡ after_reading result (H.state handle.old) }
-    ensures same_reference { H.lent handle.new ≡ H.lent handle.old }
+    ensures left { HandleReads H.state H.lent handle.old handle.new result }
 {
     let span = ValueSpan::stored(index.len);
     let numbers = index.numbers.as_slice();

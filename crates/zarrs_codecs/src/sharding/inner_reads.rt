@@ -7,10 +7,10 @@ ghost use Rattle.zarrs_chunk.specs.ChunkShape.{product};
 ghost use Rattle.zarrs_chunk.specs.Indexer.{selection_of};
 ghost use Rattle.zarrs_chunk.specs.Runs.{AreFilled, EndWithin, joined_runs};
 ghost use Rattle.zarrs_chunk.specs.Tuples.{is_box_inside};
-ghost use Rattle.zarrs_codec.specs.StorageState.{after_reading};
 ghost use Rattle.zarrs_chain.specs.FormView.{lent_form};
 ghost use Rattle.zarrs_codecs.specs.ChunkRead.{ChunkReadsRuns, TakenBy};
 ghost use Rattle.zarrs_codecs.specs.CodecPart.{codec_rests_on};
+ghost use Rattle.zarrs_codecs.specs.HandleReads.{HandleReads};
 ghost use Rattle.zarrs_codecs.specs.SpanReads.{ReadsChain, ReadsIndexed, ReadsMoved, StandsIn, SureChain, SureMoved, SurePlaces, seen_state};
 ghost use Rattle.zarrs_codecs.specs.TakenChain.{inner_form, moved_sizes};
 ghost use Rattle.zarrs_array_regions.specs.WindowLaws.{region_places};
@@ -54,8 +54,7 @@ fn codec_in_span<H: ReadAheadTraits, B: BytesToBytesCodecTraits>(
     ensures tight { IfOk result (IsTight form.entry.data_type.now) }
     ensures sure { SurePlaces (codec_rests_on B.functions (plain_codec codec.now)) (lent_form
         form.entry) (seen_state span.now (H.state handle.old)) (joined_runs runs.now) result }
-    ensures left { H.state handle.new ≡ after_reading result (H.state handle.old) }
-    ensures same_reference { H.lent handle.new ≡ H.lent handle.old }
+    ensures left { HandleReads H.state H.lent handle.old handle.new result }
 {
     match codec {
         ArrayToBytesCodec::Sharding(codec) => {
@@ -84,8 +83,7 @@ fn moved_in_span<H: ReadAheadTraits, B: BytesToBytesCodecTraits>(
     ensures tight { IfOk result (IsTight (inner_form taken.now).type) }
     ensures sure { SureMoved taken.now (seen_state span.now (H.state handle.old))
         (joined_runs runs.now) result }
-    ensures left { H.state handle.new ≡ after_reading result (H.state handle.old) }
-    ensures same_reference { H.lent handle.new ≡ H.lent handle.old }
+    ensures left { HandleReads H.state H.lent handle.old handle.new result }
 {
     let codec = taken.chain.array_to_bytes_codec();
     let form = taken.moved_form();
@@ -119,8 +117,7 @@ pub(crate) fn region_in_span<H: ReadAheadTraits, B: BytesToBytesCodecTraits>(
     ensures tight { IfOk result (IsTight (inner_form taken.now).type) }
     ensures sure { SureChain taken.now (seen_state span.now (H.state handle.old))
         (region_places (inner_form taken.now).sizes region.now) result }
-    ensures left { H.state handle.new ≡ after_reading result (H.state handle.old) }
-    ensures same_reference { H.lent handle.new ≡ H.lent handle.old }
+    ensures left { HandleReads H.state H.lent handle.old handle.new result }
 {
     chain_is_sound(taken.chain);
     let codecs = taken.chain.array_to_array_codecs();
@@ -150,8 +147,7 @@ pub(crate) fn indexed_in_span<H: ReadAheadTraits, B: BytesToBytesCodecTraits>(
     ensures reads { ReadsIndexed taken.now (seen_state span.now (H.state handle.old))
         (selection_of indexer.now) result }
     ensures tight { IfOk result (IsTight (inner_form taken.now).type) }
-    ensures left { H.state handle.new ≡ after_reading result (H.state handle.old) }
-    ensures same_reference { H.lent handle.new ≡ H.lent handle.old }
+    ensures left { HandleReads H.state H.lent handle.old handle.new result }
 {
     chain_is_sound(taken.chain);
     let codecs = taken.chain.array_to_array_codecs();
@@ -182,8 +178,7 @@ pub(crate) fn chain_in_span<H: ReadAheadTraits, B: BytesToBytesCodecTraits>(
     ensures tight { IfOk result (IsTight (inner_form taken.now).type) }
     ensures sure { SureChain taken.now (seen_state span.now (H.state handle.old))
         (joined_runs runs.now) result }
-    ensures left { H.state handle.new ≡ after_reading result (H.state handle.old) }
-    ensures same_reference { H.lent handle.new ≡ H.lent handle.old }
+    ensures left { HandleReads H.state H.lent handle.old handle.new result }
 {
     if !taken.chain.array_to_array_codecs().is_empty() {
         let indexer = runs_indexer(alloc, taken.form.shape, runs)?;

@@ -5,10 +5,10 @@ ghost use Rattle.zarrs_chain_meaning.specs.sharding.Sharding.{spans_of};
 ghost use Rattle.zarrs_chunk.specs.Answer.{is_fault, memory_or_fault};
 ghost use Rattle.zarrs_chunk.specs.ChunkShape.{product};
 ghost use Rattle.zarrs_chunk.specs.Runs.{AreFilled, EndWithin, joined_runs};
-ghost use Rattle.zarrs_codec.specs.StorageState.{after_reading};
 ghost use Rattle.zarrs_chain.specs.FormView.{lent_form};
 ghost use Rattle.zarrs_codecs.specs.ChunkRead.{TakenBy, asks_in_part};
 ghost use Rattle.zarrs_codecs.specs.CodecPart.{codec_plans};
+ghost use Rattle.zarrs_codecs.specs.HandleReads.{HandleReads};
 ghost use Rattle.zarrs_codecs.specs.JointReads.{AddsRanges, AddsSpan, AreGroupRanges, AreRestedOn, PlacesRest, RestMoved, end_within};
 ghost use Rattle.zarrs_codecs.specs.SpanReads.{AreInnerRuns, StandsIn, SureGroups, seen_state};
 ghost use Rattle.zarrs_codecs.specs.TakenChain.{inner_form, moved_sizes};
@@ -276,8 +276,7 @@ pub(crate) fn read_groups_ahead<H: ReadAheadTraits, B: BytesToBytesCodecTraits>(
     ensures refused { IfErr result (λ error. memory_or_fault error ≡ true) }
     ensures sure { SureGroups taken.now (seen_state span.now (H.state handle.old)) numbers.now
         groups.now result }
-    ensures left { H.state handle.new ≡ after_reading result (H.state handle.old) }
-    ensures same_reference { H.lent handle.new ≡ H.lent handle.old }
+    ensures left { HandleReads H.state H.lent handle.old handle.new result }
 {
     if span.held.is_some() || groups.len() < 2 {
         return Ok(());

@@ -6,8 +6,8 @@ ghost use Rattle.zarrs_chain_meaning.specs.sharding.Sharding.{spans_of};
 ghost use Rattle.zarrs_chunk.specs.Answer.{is_fault, memory_or_fault};
 ghost use Rattle.zarrs_chunk.specs.ChunkShape.{product};
 ghost use Rattle.zarrs_chunk.specs.Tuples.{is_box_inside, is_tuple_inside, row_major};
-ghost use Rattle.zarrs_codec.specs.StorageState.{after_reading};
 ghost use Rattle.zarrs_codecs.specs.BoxReads.{AreShardParts, PutsPart, ReadsParts, SureParts, part_group};
+ghost use Rattle.zarrs_codecs.specs.HandleReads.{HandleReads};
 ghost use Rattle.zarrs_codecs.specs.SpanReads.{AreInnerRuns, StandsIn, seen_state};
 ghost use Rattle.zarrs_codecs.specs.TakenChain.{inner_form};
 ghost use Rattle.zarrs_shard_runs.specs.GroupedRuns.{group};
@@ -97,8 +97,7 @@ fn read_parts_ahead<H: ReadAheadTraits, B: BytesToBytesCodecTraits>(
     ensures refused { IfErr result (λ error. memory_or_fault error ≡ true) }
     ensures sure { SureParts taken.now (seen_state span.now (H.state handle.old)) numbers.now
         grid.now parts.now result }
-    ensures left { H.state handle.new ≡ after_reading result (H.state handle.old) }
-    ensures same_reference { H.lent handle.new ≡ H.lent handle.old }
+    ensures left { HandleReads H.state H.lent handle.old handle.new result }
 {
     if handle.value_in_memory().is_some() {
         return Ok(());
@@ -151,8 +150,7 @@ pub(crate) fn read_parts<H: ReadAheadTraits, B: BytesToBytesCodecTraits>(
     ensures tight { IfOk result (IsTight (inner_form taken.now).type) }
     ensures sure { SureParts taken.now (seen_state span.now (H.state handle.old)) numbers.now
         grid.now parts.now result }
-    ensures left { H.state handle.new ≡ after_reading result (H.state handle.old) }
-    ensures same_reference { H.lent handle.new ≡ H.lent handle.old }
+    ensures left { HandleReads H.state H.lent handle.old handle.new result }
 {
     let Form {
         data_type,

@@ -8,9 +8,9 @@ ghost use Rattle.zarrs_chain_meaning.specs.sharding.Sharding.{spans_of};
 ghost use Rattle.zarrs_chunk.specs.Answer.{is_fault};
 ghost use Rattle.zarrs_chunk.specs.ChunkShape.{product};
 ghost use Rattle.zarrs_chunk.specs.Runs.{AreFilled, EndWithin, joined_runs};
-ghost use Rattle.zarrs_codec.specs.StorageState.{after_reading};
 ghost use Rattle.zarrs_codecs.specs.ChunkRead.{ChunkReadsRuns, SureRuns, TakenBy};
 ghost use Rattle.zarrs_codecs.specs.CodecPart.{codec_rests_on, rests_where};
+ghost use Rattle.zarrs_codecs.specs.HandleReads.{HandleReads};
 ghost use Rattle.zarrs_codecs.specs.KeptIndex.{IsIndex};
 ghost use Rattle.zarrs_codecs.specs.SpanReads.{AreInnerRuns, PutsInOrder, ReadsGroups, ReadsSpan, StandsIn, SureGroups, SurePlaces, SureSpan, seen_state};
 ghost use Rattle.zarrs_codecs.specs.TakenChain.{inner_form};
@@ -51,8 +51,7 @@ fn read_group<H: ReadAheadTraits, B: BytesToBytesCodecTraits>(
     ensures tight { IfOk result (IsTight (inner_form taken.now).type) }
     ensures sure { SureSpan taken.now (seen_state span.now (H.state handle.old)) place
         (joined_runs runs.now) result }
-    ensures left { H.state handle.new ≡ after_reading result (H.state handle.old) }
-    ensures same_reference { H.lent handle.new ≡ H.lent handle.old }
+    ensures left { HandleReads H.state H.lent handle.old handle.new result }
 {
     if !has_span(place) {
         return fill_runs(alloc, taken.form.data_type, taken.form.fill_value, runs);
@@ -81,8 +80,7 @@ fn read_alone<H: ReadAheadTraits, B: BytesToBytesCodecTraits>(
     ensures tight { IfOk result (IsTight (inner_form taken.now).type) }
     ensures sure { SureGroups taken.now (seen_state span.now (H.state handle.old)) numbers.now
         groups.now result }
-    ensures left { H.state handle.new ≡ after_reading result (H.state handle.old) }
-    ensures same_reference { H.lent handle.new ≡ H.lent handle.old }
+    ensures left { HandleReads H.state H.lent handle.old handle.new result }
 {
     let group = &groups[0];
     let number = group.number as usize;
@@ -112,8 +110,7 @@ fn read_groups<H: ReadAheadTraits, B: BytesToBytesCodecTraits>(
     ensures tight { IfOk result (IsTight (inner_form taken.now).type) }
     ensures sure { SureGroups taken.now (seen_state span.now (H.state handle.old)) numbers.now
         groups.now result }
-    ensures left { H.state handle.new ≡ after_reading result (H.state handle.old) }
-    ensures same_reference { H.lent handle.new ≡ H.lent handle.old }
+    ensures left { HandleReads H.state H.lent handle.old handle.new result }
 {
     if groups.len() == 1 {
         return read_alone(alloc, taken, handle, span, numbers, groups);
@@ -184,8 +181,7 @@ pub(crate) fn shard_by_index<H: ReadAheadTraits, B: BytesToBytesCodecTraits>(
     ensures tight { IfOk result (IsTight form.entry.data_type.now) }
     ensures sure { SurePlaces (rests_where true B.functions (plain_sharding codec.now)) (lent_form
         form.entry) (seen_state span.now (H.state handle.old)) (joined_runs runs.now) result }
-    ensures left { H.state handle.new ≡ after_reading result (H.state handle.old) }
-    ensures same_reference { H.lent handle.new ≡ H.lent handle.old }
+    ensures left { HandleReads H.state H.lent handle.old handle.new result }
 {
     let ShardingParts {
         chunk_shape: inner,
@@ -227,8 +223,7 @@ pub(crate) fn shard_in_span<H: ReadAheadTraits, B: BytesToBytesCodecTraits>(
     ensures tight { IfOk result (IsTight form.entry.data_type.now) }
     ensures sure { SurePlaces (codec_rests_on B.functions (plain_sharding codec.now)) (lent_form
         form.entry) (seen_state span.now (H.state handle.old)) (joined_runs runs.now) result }
-    ensures left { H.state handle.new ≡ after_reading result (H.state handle.old) }
-    ensures same_reference { H.lent handle.new ≡ H.lent handle.old }
+    ensures left { HandleReads H.state H.lent handle.old handle.new result }
 {
     let ShardingParts {
         chunk_shape: inner,
@@ -260,8 +255,7 @@ fn shard_ahead<H: BytesPartialDecoderTraits, B: BytesToBytesCodecTraits>(
     ensures tight { IfOk result (IsTight form.entry.data_type.now) }
     ensures sure { SurePlaces (codec_rests_on B.functions (plain_sharding codec.now)) (lent_form
         form.entry) (seen_state span.now (H.state handle.old)) (joined_runs runs.now) result }
-    ensures left { H.state handle.new ≡ after_reading result (H.state handle.old) }
-    ensures same_reference { H.lent handle.new ≡ H.lent handle.old }
+    ensures left { HandleReads H.state H.lent handle.old handle.new result }
 {
     let mut ahead = AheadHandle::new(alloc, handle);
     let read = shard_in_span::<AheadHandle<'_, H>, B>(alloc, codec, &mut ahead, span, form, runs);
@@ -288,8 +282,7 @@ pub(crate) fn shard_runs<H: BytesPartialDecoderTraits, B: BytesToBytesCodecTrait
     ensures tight { IfOk result (IsTight form.entry.data_type.now) }
     ensures sure { SureRuns B.functions (plain_sharding codec.now) (lent_form form.entry) (H.state
         handle.old) runs.now result }
-    ensures left { H.state handle.new ≡ after_reading result (H.state handle.old) }
-    ensures same_reference { H.lent handle.new ≡ H.lent handle.old }
+    ensures left { HandleReads H.state H.lent handle.old handle.new result }
 {
     let ShardingParts {
         chunk_shape: _,

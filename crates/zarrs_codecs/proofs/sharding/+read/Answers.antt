@@ -315,8 +315,8 @@ shard_runs::read_groups-loop-group-preserved g t c =
       walk = group_read step c.as_slice-runs.result.now c.as_slice-runs.ensures.value c.count_places-more.result c.count_places-more.ensures.count c.as_slice-runs.result.now c.as_slice-runs.ensures.value c.in_ok-part.part same.answer c.in_ok-joined-2.joined ((c.in_ok-joined-2.ensures {u = tt}).answer.is);
       sure = λ value e s. rest_sure step value (inv.sure value e s);
       tight = (c.in_ok-joined-2.ensures {u = tt}).tight inv.tight (same.tight.blank);
-      state = same.left ∙ inv.state;
-      lent = same.same_reference ∙ inv.lent;
+      state = same.left.left ∙ inv.state;
+      lent = same.left.same_reference ∙ inv.lent;
     }
 
 pub shard_runs::read_groups-returns-clause-answer : goal.shard_runs::read_groups-returns-clause-answer

@@ -112,9 +112,9 @@ returns-in-Err-clause-unread g c =
     let here = D.state (encoder_handle c.loop-edit.encoder) in
     let last = D.state (encoder_handle c.apply.new.encoder) in
     λ in_place sure failed.
-        let kept = subst (λ form. is_some (form_in_place form) ≡ true) (sym inv.form_kept) in_place in
-        let sure_here = subst (λ it. is_some it ≡ true) (sym (ap (λ (s : StorageState). s.sure) inv.left)) sure in
-        failed_writes c.loop-edit.done old here last c.in-Err.refusal inv.left (c.in-Err.ensures.unread kept sure_here failed)
+    let kept = subst (λ form. is_some (form_in_place form) ≡ true) (sym inv.form_kept) in_place in
+    let sure_here = subst (λ it. is_some it ≡ true) (sym (ap (λ (s : StorageState). s.sure) inv.left)) sure in
+    failed_writes c.loop-edit.done old here last c.in-Err.refusal inv.left (c.in-Err.ensures.unread kept sure_here failed)
 
 pub returns-clause-unread : goal.returns-clause-unread
 returns-clause-unread g c = λ in_place sure. tt

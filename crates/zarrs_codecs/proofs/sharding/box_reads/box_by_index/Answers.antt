@@ -6,17 +6,13 @@ use Rattle.zarrs_codecs.proofs.sharding.box_reads.box_by_index.Goals as goal
 pub returns-clause-left : goal.returns-clause-left
 returns-clause-left g c =
     let state = g.H.BytesPartialDecoderTraits.state in
-    let before = c.new-ahead.result in
-    let after = c.box_in_span-read.new.handle in
-    let same = same_whole g.H.BytesPartialDecoderTraits.lent before.handle.ghost_name after.handle.ghost_name before.handle.now after.handle.now c.box_in_span-read.ensures.same_reference in
-    ap state (c.handle-1.given.1 (sym c.new-ahead.ensures.same_reference ∙ sym same.name_is ∙ sym c.into_handle.ensures.same_reference) ∙ c.into_handle.ensures.handle)
-    ∙ c.box_in_span-read.ensures.left
-    ∙ ap (λ h. after_reading c.box_in_span-read.result (state h)) c.new-ahead.ensures.handle
-
-pub returns-clause-same_reference : goal.returns-clause-same_reference
-returns-clause-same_reference g c =
     let lent = g.H.BytesPartialDecoderTraits.lent in
     let before = c.new-ahead.result in
     let after = c.box_in_span-read.new.handle in
-    let same = same_whole lent before.handle.ghost_name after.handle.ghost_name before.handle.now after.handle.now c.box_in_span-read.ensures.same_reference in
-    ap lent (c.handle-1.given.1 (sym c.new-ahead.ensures.same_reference ∙ sym same.name_is ∙ sym c.into_handle.ensures.same_reference) ∙ c.into_handle.ensures.handle) ∙ same.lent_is ∙ ap lent c.new-ahead.ensures.handle
+    let read = c.box_in_span-read.ensures.left in
+    let same = same_whole lent before.handle.ghost_name after.handle.ghost_name before.handle.now after.handle.now read.same_reference in
+    let back = c.handle-1.given.1 (sym c.new-ahead.ensures.same_reference ∙ sym same.name_is ∙ sym c.into_handle.ensures.same_reference) ∙ c.into_handle.ensures.handle in
+    record {
+      left = ap state back ∙ read.left ∙ ap (λ h. after_reading c.box_in_span-read.result (state h)) c.new-ahead.ensures.handle;
+      same_reference = ap lent back ∙ same.lent_is ∙ ap lent c.new-ahead.ensures.handle;
+    }

@@ -35,8 +35,8 @@ loop-part-init g c =
       walk = λ value e. put_starts (chain_read f form.chain) form.sizes form.type form.fill value (spans_of c.args.numbers.now) c.args.grid.now c.args.lengths.now c.args.parts.now c.in_ok-elements.elements held;
       sure = λ value e s. s;
       tight = (c.in_ok-elements.ensures {u = tt}).tight;
-      state = (c.in_ok-read_parts_ahead.ensures {u = tt}).left;
-      lent = (c.in_ok-read_parts_ahead.ensures {u = tt}).same_reference;
+      state = (c.in_ok-read_parts_ahead.ensures {u = tt}).left.left;
+      lent = (c.in_ok-read_parts_ahead.ensures {u = tt}).left.same_reference;
     }
 
 pub read_inner_box-requires-clause-stands : goal.read_inner_box-requires-clause-stands
@@ -100,8 +100,8 @@ loop-part-preserved g c =
       walk = part_put step c.in_ok-content.content same.answer c.in_ok-elements-2.elements ((c.in_ok-elements-2.ensures {u = tt}).answer.is);
       sure = λ value e s. others_sure step value (inv.sure value e s);
       tight = (c.in_ok-elements-2.ensures {u = tt}).tight inv.tight.blank same.tight.blank;
-      state = same.left ∙ inv.state;
-      lent = same.same_reference ∙ inv.lent;
+      state = same.left.left ∙ inv.state;
+      lent = same.left.same_reference ∙ inv.lent;
     }
 
 pub returns-clause-answer : goal.returns-clause-answer
