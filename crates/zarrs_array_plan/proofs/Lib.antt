@@ -1,0 +1,3 @@
+-- Lemmas of the planned form.
+pub mod Keys
+pub mod Origins
