@@ -1,3 +1,5 @@
 -- Lemmas of the planned form.
 pub mod Keys
 pub mod Origins
+pub mod PlannedRegions
+pub mod EmptyBoxes

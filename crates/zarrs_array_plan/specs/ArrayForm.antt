@@ -14,10 +14,11 @@ pub record ArrayForm : Type 0 where
   pub chunk_shape : List ℕ
   pub keys : ChunkKeyEncoding
 
--- an array has as many axes as a chunk, and 64 bits hold each of its sizes
+-- an array has as many axes as a chunk, 64 bits hold each of its sizes, and no size of a chunk is zero
 pub record IsArrayForm (shape chunk_shape : List ℕ) : Type 0 where
   pub axes : length shape ≡ length chunk_shape
   pub small : All (λ size. size < 2 ^ 64) shape
+  pub positive : All (λ size. 0 < size) chunk_shape
 
 -- the form of an array, or the error: it has as many axes as a chunk
 abbrev pub checked_form : List ℕ → List ℕ → ChunkKeyEncoding → Result ArrayForm CodecError

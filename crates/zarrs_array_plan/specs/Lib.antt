@@ -1,5 +1,13 @@
--- Arrays over many chunks, without a store.
+-- Arrays over many chunks, as plans.
 pub mod ArrayForm
 pub mod ChunkKeys
+pub mod Joined
+pub mod Planned
+pub use Rattle.zarrs_array_bytes.specs.Chunks
+pub use Rattle.zarrs_array_bytes.specs.Tight
+pub use Rattle.zarrs_array_bytes.specs.Validity
 pub use Rattle.zarrs_chunk.specs.Answer
+pub use Rattle.zarrs_chunk.specs.ChunkShape
+pub use Rattle.zarrs_chunk.specs.Runs
+pub use Rattle.zarrs_chunk.specs.Selection
 pub use Rattle.zarrs_chunk.specs.Tuples

@@ -2,7 +2,7 @@
 ghost use Rattle.std.specs.Prelude.{◌≡◌, ◌<◌, ◌*◌, ◌^◌, ℕ, All, IfOk, length, slice_index, string_bytes};
 ghost use Rattle.zarrs_chunk.specs.Answer.{GivesItems};
 ghost use Rattle.zarrs_chunk.specs.Tuples.{is_tuple_inside as tuple_inside};
-ghost use Rattle.zarrs_array_plan.specs.ArrayForm.{checked_form, checked_origin, grid_shape, origin_of};
+ghost use Rattle.zarrs_array_plan.specs.ArrayForm.{IsArrayForm, checked_form, checked_origin, grid_shape, origin_of};
 ghost use Rattle.zarrs_array_plan.specs.ChunkKeys.{key_of};
 
 use crate::chunk_key_encoding::ChunkKeyEncoding;
@@ -101,7 +101,7 @@ impl ArrayGrid {
     /// The shape of each chunk, in elements.
     pub fn chunk_shape(&self) -> &ChunkShape
         ensures value { result.now ≡ self.now.chunk_shape }
-        ensures axes { length self.now.shape ≡ length result.now }
+        ensures form { IsArrayForm self.now.shape result.now }
     {
         &self.chunk_shape
     }
