@@ -1,7 +1,9 @@
 -- Arrays over many chunks, as plans.
 pub mod ArrayForm
+pub mod ChunkArrays
 pub mod ChunkKeys
 pub mod Joined
+pub mod PlanLaws
 pub mod Planned
 pub use Rattle.zarrs_array_bytes.specs.Chunks
 pub use Rattle.zarrs_array_bytes.specs.Tight

@@ -3,7 +3,7 @@ ghost use Rattle.std.specs.Prelude.{IfOk};
 ghost use Rattle.zarrs_array_bytes.specs.Chunks.{chunk_update, selected_chunk};
 ghost use Rattle.zarrs_array_bytes.specs.Tight.{ExtractsTight, GivesFlush, IsTight, UpdatesTight};
 ghost use Rattle.zarrs_array_bytes.specs.Validity.{Holds};
-ghost use Rattle.zarrs_array_plan.specs.Joined.{region_fill};
+ghost use Rattle.zarrs_array_plan.specs.Joined.{BeginsRegion, CutsPart, JoinsPart, region_fill};
 ghost use Rattle.zarrs_chunk.specs.Answer.{Gives, GivesBy};
 ghost use Rattle.zarrs_chunk.specs.ChunkShape.{product};
 ghost use Rattle.zarrs_chunk.specs.Runs.{places_in, EndWithin};
@@ -47,20 +47,59 @@ pub fn fill_region<'a>(
     ensures exact { GivesBy (Holds data_type.now) result
         (region_fill data_type.now region.now fill_value.now) }
     ensures tight { IfOk result (IsTight data_type.now) }
+    ensures begins { BeginsRegion data_type.now region.now result }
 {
     let count = region.num_elements()?;
     ArrayBytes::new_fill_value(alloc, data_type, count, fill_value)
 }
 
+/// The elements of a region, with those of a part put in their places.
+fn put_part<'b>(
+    alloc: Global,
+    answer: ArrayBytes<'_>,
+    region: &ArraySubset,
+    part: &ArraySubset,
+    elements: &ArrayBytes<'_>,
+    data_type: &DataType,
+) -> Result<ArrayBytes<'b>, CodecError>
+    ensures exact { GivesBy (Holds data_type.now) result (chunk_update data_type.now
+        region.now.lengths (subset_of part.now) answer.entry elements.now) }
+    ensures flush { GivesFlush result }
+    ensures tight { UpdatesTight data_type.now answer.entry elements.now result }
+{
+    let runs = box_runs(alloc, region.shape(), part)?;
+    let count = region.num_elements()?;
+    update_runs(alloc, answer, count, &runs, elements, data_type)
+}
+
+/// Those of a region's elements that are a part's.
+fn take_part<'b>(
+    alloc: Global,
+    elements: &ArrayBytes<'_>,
+    region: &ArraySubset,
+    part: &ArraySubset,
+    data_type: &DataType,
+) -> Result<ArrayBytes<'b>, CodecError>
+    ensures exact { GivesBy (Holds data_type.now) result (selected_chunk data_type.now
+        region.now.lengths (subset_of part.now) elements.now) }
+    ensures flush { GivesFlush result }
+    ensures tight { ExtractsTight data_type.now elements.now result }
+{
+    let runs = box_runs(alloc, region.shape(), part)?;
+    let count = region.num_elements()?;
+    elements.extract_runs(alloc, &runs, count, data_type)
+}
+
 /// The elements of a region, with those of a part put in their places: the part's come in row-major
 /// order, as a read of the part's box of its chunk gives them. Elements of one size are put into the
-/// answer's own bytes, where it owns them, a copy a row; of others the answer is made anew. The parts may
+/// answer's own bytes, where it owns them, a copy a row; of others the answer is made anew. Parts may
 /// come in any order.
 ///
 /// Errors, the first that holds, `OutOfMemory` aside: `IncompatibleDimensionality`, `OutOfBounds` where
 /// the part isn't one of the region; `Overflow` where the region has `2^64` elements or more; those of
 /// `validate` where the answer isn't the region's elements of the type; `ArrayBytesKind`, `DataMismatch`
-/// where the part's elements aren't of the type, or there are more or fewer.
+/// where the part's elements aren't of the type, or there are more or fewer. Of what is planned and read
+/// as it should none is due.
 pub fn join_part<'b>(
     alloc: Global,
     answer: ArrayBytes<'_>,
@@ -71,12 +110,11 @@ pub fn join_part<'b>(
 ) -> Result<ArrayBytes<'b>, CodecError>
     ensures exact { GivesBy (Holds data_type.now) result (chunk_update data_type.now
         region.now.lengths (subset_of part.now.in_region) answer.entry elements.now) }
+    ensures joins { JoinsPart data_type.now region.now part.now answer.entry elements.now result }
     ensures flush { GivesFlush result }
     ensures tight { UpdatesTight data_type.now answer.entry elements.now result }
 {
-    let runs = box_runs(alloc, region.shape(), &part.in_region)?;
-    let count = region.num_elements()?;
-    update_runs(alloc, answer, count, &runs, elements, data_type)
+    put_part(alloc, answer, region, &part.in_region, elements, data_type)
 }
 
 /// Those of a region's new elements that are a part's, in row-major order: what a write into the part's
@@ -94,10 +132,9 @@ pub fn part_of<'b>(
 ) -> Result<ArrayBytes<'b>, CodecError>
     ensures exact { GivesBy (Holds data_type.now) result (selected_chunk data_type.now
         region.now.lengths (subset_of part.now.in_region) elements.now) }
+    ensures cuts { CutsPart data_type.now region.now part.now elements.now result }
     ensures flush { GivesFlush result }
     ensures tight { ExtractsTight data_type.now elements.now result }
 {
-    let runs = box_runs(alloc, region.shape(), &part.in_region)?;
-    let count = region.num_elements()?;
-    elements.extract_runs(alloc, &runs, count, data_type)
+    take_part(alloc, elements, region, &part.in_region, data_type)
 }
