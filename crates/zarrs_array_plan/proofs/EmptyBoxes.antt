@@ -3,6 +3,7 @@ use Rattle.std.proofs.Common.{◌≡◌, ◌∙◌, ℕ, ◌+◌, ◌≤◌, ◌
 use Rattle.std.specs.List.{list_any}
 use Rattle.std.proofs.Math.Nat.{mul-le-mul}
 use Rattle.std.proofs.lemmas.Bool.{and_parts}
+use Rattle.std.proofs.lemmas.List.{nil_from_length}
 use Rattle.zarrs_chunk.specs.Answer.{demand}
 use Rattle.zarrs_chunk.specs.ChunkShape.{product, shape_of}
 use Rattle.zarrs_chunk.specs.Region.{Region}
@@ -28,20 +29,19 @@ product_inside (size ∷ sizes) (start ∷ starts) (len ∷ lengths) h =
     let short : len ≤ size = omega (arith, end) in
     mul-le-mul short (product_inside sizes starts lengths both.1)
 
-has_zero : (test : Bool) (sizes : List ℕ) → (if test then None else Some sizes) ≡ None → test ≡ true
-has_zero true sizes e = refl
-has_zero false sizes e = absurd (cc)
+-- sizes that are no shape have no elements
+without_zero : (test : Bool) (sizes : List ℕ) (n : ℕ) → (if test then None else Some sizes) ≡ None → (test ≡ true → n ≡ 0) → n ≡ 0
+without_zero true sizes n e h = h refl
+without_zero false sizes n e h = absurd (cc)
 
-empty_is : {A : Type 0} (xs : List A) → length xs ≡ 0 → xs ≡ []
-empty_is [] e = refl
-empty_is (x ∷ xs) e = absurd (omega arith)
+no_elements : (sizes : List ℕ) → shape_of sizes ≡ None → product sizes ≡ 0
+no_elements sizes none = without_zero (list_any (λ size. size == 0) sizes) sizes (product sizes) none (product_zero sizes)
 
 -- in sizes with a zero a box has no places
 pub no_places : (sizes : List ℕ) (box : Region) {given : List ℕ} {runs : List (ℕ × ℕ)} → given ≡ sizes → shape_of given ≡ None
     → bounds_of (subset box) sizes ≡ Ok tt → runs ≡ [] → places_of (subset box) sizes ≡ Ok (joined_runs runs)
 no_places sizes box {given} {runs} g none bounds r =
-    let zero : list_any (λ size. size == 0) sizes ≡ true = has_zero (list_any (λ size. size == 0) sizes) sizes (ap shape_of (sym g) ∙ none) in
-    let total = product_zero sizes zero in
+    let total = no_elements sizes (ap shape_of (sym g) ∙ none) in
     let within = both_ok (demand (length box.starts == length sizes) IncompatibleDimensionality)
     (demand (is_box_inside sizes box.starts box.lengths) OutOfBounds) bounds in
     let inside = demand_ok (is_box_inside sizes box.starts box.lengths) OutOfBounds within.1 in
@@ -49,4 +49,4 @@ no_places sizes box {given} {runs} g none bounds r =
     let fewer = product_inside sizes box.starts box.lengths inside in
     let count = length-box_tuples box.starts box.lengths (axes.0 ∙ sym axes.1) in
     let none_left : length (box_tuples box.starts box.lengths) ≡ 0 = omega (arith, count, fewer, total) in
-    rw (bounds, total, r) (ap (λ (ts : List (List ℕ)). Ok (map (row_major sizes) ts)) (empty_is (box_tuples box.starts box.lengths) none_left))
+    rw (bounds, total, r) (ap (λ (ts : List (List ℕ)). Ok (map (row_major sizes) ts)) (nil_from_length (box_tuples box.starts box.lengths) none_left))

@@ -45,7 +45,8 @@ separated_ends : (separator : ℕ) (numbers : List ℕ) → separator ≤ 47 →
 separated_ends separator [] h = tt
 separated_ends separator (number ∷ numbers) h = h
 
-abbrev is_small : ℕ → Type 0
+-- 64 bits hold an index
+abbrev pub is_small : ℕ → Type 0
 is_small index = index < 2 ^ 64
 
 separated_same : (separator : ℕ) (one other : List ℕ) → separator ≤ 47 → length one ≡ length other → All is_small one → All is_small other → separated separator one ≡ separated separator other → one ≡ other

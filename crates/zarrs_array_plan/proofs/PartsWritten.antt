@@ -27,25 +27,28 @@ use Rattle.zarrs_grid.proofs.Cut.{listed, into_listed, listed_touches}
 use Rattle.zarrs_grid.proofs.PartPlaces.{length-places, inside_at, found_in_part, same_there}
 use Rattle.zarrs_grid.proofs.PartsJoined.{place_listed}
 use Rattle.zarrs_grid.proofs.Tuples.{Touches, Touches-length, box_test, from_box_test, from_in_box, part_in_chunk, same_element, is_in_chunk, is_in_region, behind_in_box}
-use Rattle.zarrs_array_plan.specs.ChunkArrays.{array_element, PartsWriteTheRegion}
+use Rattle.zarrs_array_plan.specs.ChunkArrays.{element_by_chunks, PartsWriteTheRegion}
 use Rattle.zarrs_array_plan.proofs.ChunksRead.{element_in_chunk}
 
 -- ---- tuples of the array by their chunks
 
-tuple_again : (shape tuple : List ℕ) → length tuple ≡ length shape → tuple_in_array shape (quotients shape tuple) (remainders shape tuple) ≡ tuple
-tuple_again [] [] e = refl
-tuple_again [] (index ∷ tuple) e = absurd (omega arith)
-tuple_again (size ∷ shape) [] e = absurd (omega arith)
-tuple_again (size ∷ shape) (index ∷ tuple) e = ap₂ (λ i t. i ∷ t) (div-add-mod' index size) (tuple_again shape tuple (omega arith))
+-- a tuple is one of a chunk
+record IsOfChunk (shape numbers rest tuple : List ℕ) : Type 0 where
+  pub inside : is_tuple_inside shape rest ≡ true
+  pub again : tuple_in_array shape numbers rest ≡ tuple
 
-rest_inside : (shape tuple : List ℕ) → All (λ size. 0 < size) shape → length tuple ≡ length shape
-    → is_tuple_inside shape (remainders shape tuple) ≡ true
-rest_inside [] [] p e = refl
-rest_inside [] (index ∷ tuple) p e = absurd (omega arith)
-rest_inside (size ∷ shape) [] p e = absurd (omega arith)
-rest_inside (size ∷ shape) (index ∷ tuple) p e =
-    and_from _ _ (lt_test _ _ (mod_below index size (All-head (λ size. 0 < size) size shape p)))
-    (rest_inside shape tuple (All-tail (λ size. 0 < size) size shape p) (omega arith))
+of_chunk : (shape tuple : List ℕ) → All (λ size. 0 < size) shape → length tuple ≡ length shape
+    → IsOfChunk shape (quotients shape tuple) (remainders shape tuple) tuple
+of_chunk [] [] p e = record { inside = refl; again = refl }
+of_chunk [] (index ∷ tuple) p e = absurd (omega arith)
+of_chunk (size ∷ shape) [] p e = absurd (omega arith)
+of_chunk (size ∷ shape) (index ∷ tuple) p e =
+    let below = mod_below index size (All-head (λ size. 0 < size) size shape p) in
+    let rest = of_chunk shape tuple (All-tail (λ size. 0 < size) size shape p) (omega arith) in
+    record {
+      inside = and_from _ _ (lt_test _ _ below) rest.inside;
+      again = ap₂ (λ i t. i ∷ t) (div-add-mod' index size) rest.again;
+    }
 
 -- a chunk is touched or not
 touched_or_not : (shape : List ℕ) (region : Region) (numbers : List ℕ) → FitsGrid shape region → (b : Bool)
@@ -79,14 +82,11 @@ module _ (shape : List ℕ) (region : Region) (numbers : List ℕ) (r : Touches 
   many : length places ≡ product lengths
   many = box_count shape starts lengths chunk_box
 
-  abbrev own_tuple : ℕ → List ℕ
-  own_tuple k = inside_at shape numbers region.starts region.lengths k
-
-  own_inside : (k : ℕ) → k < product lengths → is_tuple_inside shape (own_tuple k) ≡ true
+  own_inside : (k : ℕ) → k < product lengths → is_tuple_inside shape (inside_at shape numbers region.starts region.lengths k) ≡ true
   own_inside k l =
       is_in_chunk shape numbers region.starts region.lengths (tuple_of_number lengths k) r (tuple_of_number-inside lengths k l)
 
-  place_at : (k : ℕ) → k < product lengths → get_or places k 0 ≡ row_major shape (own_tuple k)
+  place_at : (k : ℕ) → k < product lengths → get_or places k 0 ≡ row_major shape (inside_at shape numbers region.starts region.lengths k)
   place_at = box_place_at shape starts lengths chunk_box
 
   data_long : length places ≡ length own_new
@@ -97,10 +97,10 @@ module _ (shape : List ℕ) (region : Region) (numbers : List ℕ) (r : Touches 
   -- a new element
   written_at : (old : Chunk) (k place : ℕ) → length old ≡ product shape → k < product lengths
       → get_or (places_in_region shape region numbers) k 0 ≡ place
-      → get_or (update old places own_new) (row_major shape (own_tuple k)) absent ≡ get_or new place absent
+      → get_or (update old places own_new) (row_major shape (inside_at shape numbers region.starts region.lengths k)) absent ≡ get_or new place absent
   written_at old k place long l e =
-      let below = row_major-below shape (own_tuple k) (own_inside k l) in
-      written old own_new places (row_major shape (own_tuple k)) absent k (omega (arith, below, long)) data_long (omega (arith, l, many)) (place_at k l)
+      let below = row_major-below shape (inside_at shape numbers region.starts region.lengths k) (own_inside k l) in
+      written old own_new places (row_major shape (inside_at shape numbers region.starts region.lengths k)) absent k (omega (arith, below, long)) data_long (omega (arith, l, many)) (place_at k l)
       (λ j h m f. box_places_apart shape starts lengths chunk_box j k h (omega (arith, m, many)) (f ∙ sym (place_at k l)))
       ∙ get_or-map (λ place. get_or new place absent) (places_in_region shape region numbers) k 0 absent
       (omega (arith, l, length-places shape numbers region.starts region.lengths r))
@@ -116,7 +116,7 @@ module _ (shape : List ℕ) (region : Region) (numbers : List ℕ) (r : Touches 
       let below : k < product lengths = omega (arith, l, many) in
       let offset = tuple_of_number lengths k in
       let offset_inside = tuple_of_number-inside lengths k below in
-      let same : own_tuple k ≡ rest = same_tuple shape (own_tuple k) rest (own_inside k below) inside (sym (place_at k below) ∙ e) in
+      let same : inside_at shape numbers region.starts region.lengths k ≡ rest = same_tuple shape (inside_at shape numbers region.starts region.lengths k) rest (own_inside k below) inside (sym (place_at k below) ∙ e) in
       let there = indices_behind (starts_in_region shape numbers region.starts) offset in
       let is : indices_behind region.starts there ≡ tuple =
       sym (same_element shape numbers region.starts region.lengths offset r offset_inside) ∙ ap (tuple_in_array shape numbers) same ∙ again in
@@ -135,7 +135,7 @@ parts_written shape region new old now g w = record {
       let r = listed_touches shape region numbers g c in
       let found = found_in_part shape region.starts region.lengths place g.positive g.starts g.lengths l r in
       let tuple = inside_at shape numbers region.starts region.lengths found.0 in
-      ap (array_element shape now) (sym (same_there shape numbers region.starts region.lengths r found.0 place found.1 found.2))
+      ap (element_by_chunks shape now) (sym (same_there shape numbers region.starts region.lengths r found.0 place found.1 found.2))
       ∙ element_in_chunk now shape numbers tuple (Touches-length shape numbers region.starts region.lengths r)
       (own_inside shape region numbers r new found.0 found.1)
       ∙ ap (λ (chunk : Chunk). get_or chunk (row_major shape tuple) absent) (w.touched numbers c)
@@ -143,13 +143,12 @@ parts_written shape region new old now g w = record {
   others = λ tuple e outside.
       let numbers = quotients shape tuple in
       let rest = remainders shape tuple in
-      let long : length tuple ≡ length shape = e ∙ g.starts in
+      let here = of_chunk shape tuple g.positive (e ∙ g.starts) in
       elim (touched_or_not shape region numbers g (is_in_box (quotients shape region.starts) (touched_counts shape region.starts region.lengths) numbers) refl)
       as (λ _. get_or (now numbers) (row_major shape rest) absent ≡ get_or (old numbers) (row_major shape rest) absent) [
         | inl c ↦ (
             ap (λ (chunk : Chunk). get_or chunk (row_major shape rest) absent) (w.touched numbers c)
-            ∙ kept_at shape region numbers (listed_touches shape region numbers g c) new (old numbers) rest tuple (rest_inside shape tuple g.positive long)
-            (tuple_again shape tuple long) (g.starts ∙ sym g.lengths) outside)
+            ∙ kept_at shape region numbers (listed_touches shape region numbers g c) new (old numbers) rest tuple here.inside here.again (g.starts ∙ sym g.lengths) outside)
         | inr apart ↦ ap (λ (chunk : Chunk). get_or chunk (row_major shape rest) absent) (w.others numbers apart)
       ];
 }

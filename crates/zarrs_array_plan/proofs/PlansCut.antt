@@ -18,14 +18,15 @@ use Rattle.zarrs_grid.specs.Touched.{touched_counts, touched_chunks}
 use Rattle.zarrs_grid.specs.declared.chunk_part.ChunkPart.{ChunkPart}
 use Rattle.zarrs_grid.proofs.Cut.{listed_touches, parts_cut}
 use Rattle.zarrs_grid.proofs.KnownBoxes.{touched_region}
+use Rattle.zarrs_grid.proofs.NumberedChunks.{chunk_in}
 use Rattle.zarrs_grid.proofs.Tuples.{Touches, Touches-length, is_in_region}
 use Rattle.zarrs_array_plan.specs.ArrayForm.{ArrayForm}
 use Rattle.zarrs_array_plan.specs.ChunkKeys.{key_of}
 use Rattle.zarrs_array_plan.specs.Joined.{IsRegionPart}
 use Rattle.zarrs_array_plan.specs.PlanLaws.{HasTuple, PlansCutTheRegion}
-use Rattle.zarrs_array_plan.specs.Planned.{LiesInArray, IsPlan, HasOwnKey}
+use Rattle.zarrs_array_plan.specs.Planned.{LiesInArray, IsRegionPlan, HasOwnKey}
 use Rattle.zarrs_array_plan.specs.declared.planned_chunk.PlannedChunk.{PlannedChunk}
-use Rattle.zarrs_array_plan.proofs.Keys.{keys_apart}
+use Rattle.zarrs_array_plan.proofs.Keys.{is_small, keys_apart}
 
 -- ---- what a list has, through a map
 
@@ -49,11 +50,8 @@ contains_into f xs x c = (c.0, omega (arith, c.1, length-map xs f), get_or-map f
 abbrev part_in : PlannedChunk → ChunkPart
 part_in it = it.part
 
-abbrev chunk_in : ChunkPart → List ℕ
-chunk_in part = part.chunk.items
-
 -- a planned part is the region's in a chunk that it touches
-pub own_part : (form : ArrayForm) (region : Region) (planned : List PlannedChunk) → LiesInArray form region → IsPlan form region planned
+pub own_part : (form : ArrayForm) (region : Region) (planned : List PlannedChunk) → LiesInArray form region → IsRegionPlan form region planned
     → (it : PlannedChunk) → Contains planned it → IsRegionPart form.chunk_shape region it.part
 own_part form region planned lies plan it c =
     let among = contains_into part_in planned it c in
@@ -66,7 +64,7 @@ own_part form region planned lies plan it c =
     }
 
 -- each chunk that is touched is planned
-chunk_planned : (form : ArrayForm) (region : Region) (planned : List PlannedChunk) → IsPlan form region planned
+chunk_planned : (form : ArrayForm) (region : Region) (planned : List PlannedChunk) → IsRegionPlan form region planned
     → (numbers : List ℕ) → Contains (touched_chunks form.chunk_shape region) numbers
     → (it : PlannedChunk) × Contains planned it × (it.part.chunk.items ≡ numbers)
 chunk_planned form region planned plan numbers c =
@@ -76,7 +74,7 @@ chunk_planned form region planned plan numbers c =
 
 -- ---- tuples
 
-module _ (form : ArrayForm) (region : Region) (planned : List PlannedChunk) (lies : LiesInArray form region) (plan : IsPlan form region planned) where
+module _ (form : ArrayForm) (region : Region) (planned : List PlannedChunk) (lies : LiesInArray form region) (plan : IsRegionPlan form region planned) where
   abbrev shape : List ℕ
   shape = form.chunk_shape
 
@@ -135,9 +133,6 @@ box_tuple_same starts lengths i j e l m same =
     (length-tuple_of_number lengths j ∙ sym e) same in
     sym (row_major-tuple_of_number lengths i l) ∙ ap (row_major lengths) tuples ∙ row_major-tuple_of_number lengths j m
 
-abbrev is_small : ℕ → Type 0
-is_small index = index < 2 ^ 64
-
 -- 64 bits hold the indices of a chunk that is touched
 touched_small : (shape numbers starts lengths : List ℕ) → All (λ size. 0 < size) shape → Touches shape numbers starts lengths
     → ((axis : ℕ) → axis < length starts → get_or starts axis 0 + get_or lengths axis 0 < 2 ^ 64) → All is_small numbers
@@ -154,7 +149,7 @@ touched_small (size ∷ shape) (number ∷ numbers) (start ∷ starts) (len ∷ 
     All-cons is_small number numbers (omega (arith, wide, begins, end))
     (touched_small shape numbers starts lengths (All-tail (λ size. 0 < size) size shape p) r.2 (λ axis l. ends (suc axis) (omega arith)))
 
-module _ (form : ArrayForm) (region : Region) (planned : List PlannedChunk) (lies : LiesInArray form region) (plan : IsPlan form region planned) where
+module _ (form : ArrayForm) (region : Region) (planned : List PlannedChunk) (lies : LiesInArray form region) (plan : IsRegionPlan form region planned) where
   abbrev own_chunk : PlannedChunk → List ℕ
   own_chunk it = it.part.chunk.items
 

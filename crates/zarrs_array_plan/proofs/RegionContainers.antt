@@ -17,6 +17,7 @@ use Rattle.zarrs_array_bytes.specs.Elements.{elements}
 use Rattle.zarrs_array_bytes.specs.Held.{Held, flen, vlen, masked}
 use Rattle.zarrs_array_bytes.specs.Update.{update}
 use Rattle.zarrs_array_bytes.specs.Validity.{LengthRefusal, levels_fit, sizes_fit, validity, data_fit, data_mismatch, Holds}
+use Rattle.zarrs_array_bytes.proofs.PresentAnswers.{fits_too}
 use Rattle.zarrs_array_bytes.proofs.UpdatedLemmas.{length-elements}
 use Rattle.zarrs_array_bytes.proofs.ValidLemmas.{both_ok, then_ok, length_found, length_due}
 use Rattle.zarrs_array_bytes.proofs.WriteLemmas.{length-update}
@@ -31,24 +32,7 @@ use Rattle.zarrs_grid.proofs.PartsJoined.{part_joined, all_joined}
 use Rattle.zarrs_grid.proofs.Tuples.{part_in_region}
 use Rattle.zarrs_array_plan.specs.Joined.{IsRegionPart, HoldsChunks, BeginsRegion, JoinsPart, CutsPart, AllChunksMakeTheRegion}
 
--- ---- the right number of elements, whichever error a wrong one gives
-
-fits_too : (r e : LengthRefusal) (t : ElementType) (n : ℕ) (h : Held) → levels_fit r t n h ≡ Ok tt → levels_fit e t n h ≡ Ok tt
-fits_too r e (fixed w c s) n (flen raw) fit = length_due e _ _ (length_found r _ _ fit)
-fits_too r e (fixed w c s) n (vlen raw offsets) fit = cc
-fits_too r e (fixed w c s) n (masked inner mask) fit = cc
-fits_too r e text n (vlen raw offsets) fit = length_due e _ _ (length_found r _ _ fit)
-fits_too r e text n (flen raw) fit = cc
-fits_too r e text n (masked inner mask) fit = cc
-fits_too r e bytes n (vlen raw offsets) fit = length_due e _ _ (length_found r _ _ fit)
-fits_too r e bytes n (flen raw) fit = cc
-fits_too r e bytes n (masked inner mask) fit = cc
-fits_too r e (optional t) n (masked inner mask) fit =
-    let both = both_ok _ _ fit in
-    then_ok _ _ (length_due e _ _ (length_found r _ _ both.0)) (fits_too r e t n inner both.1)
-fits_too r e (optional t) n (flen raw) fit = cc
-fits_too r e (optional t) n (vlen raw offsets) fit = cc
-
+-- a container of so many elements is new data for as many places
 valid_data : (t : ElementType) (n : ℕ) (h : Held) → validity t n h ≡ Ok tt → data_fit t n h ≡ Ok tt
 valid_data t n h v = fits_too InvalidBytesLength data_mismatch t n h (both_ok (sizes_fit t n) (levels_fit InvalidBytesLength t n h) v).1
 

@@ -12,8 +12,8 @@ use Rattle.zarrs_grid.specs.RegionWrites.{new_of_part, IsRegionWritten}
 use Rattle.zarrs_grid.specs.Touched.{FitsGrid, touched_chunks}
 
 -- the element at an index tuple of the array: that of the chunk that has the tuple, where it stands there
-abbrev pub array_element : List ℕ → (List ℕ → Chunk) → List ℕ → Element
-array_element chunk_shape chunks tuple =
+abbrev pub element_by_chunks : List ℕ → (List ℕ → Chunk) → List ℕ → Element
+element_by_chunks chunk_shape chunks tuple =
     get_or (chunks (quotients chunk_shape tuple)) (row_major chunk_shape (remainders chunk_shape tuple)) absent
 
 -- What a read of a part's box of its chunk gives are the array's elements in the part.
@@ -21,7 +21,7 @@ abbrev pub PartsAreRead : Type 0
 PartsAreRead =
     (chunks : List ℕ → Chunk) (chunk_shape : List ℕ) (region : Region) (numbers : List ℕ) → FitsGrid chunk_shape region
     → Contains (touched_chunks chunk_shape region) numbers
-    → elements_of_part (array_element chunk_shape chunks) chunk_shape region numbers
+    → elements_of_part (element_by_chunks chunk_shape chunks) chunk_shape region numbers
     ≡ select (chunks numbers) (places_in_chunk chunk_shape region numbers)
 
 -- Each chunk that the region touches is whole, and has its part's new elements at the part's places, and its old ones elsewhere; no other chunk was written.
@@ -36,4 +36,4 @@ abbrev pub PartsWriteTheRegion : Type 0
 PartsWriteTheRegion =
     (chunk_shape : List ℕ) (region : Region) (new : Chunk) (old now : List ℕ → Chunk) → FitsGrid chunk_shape region
     → ArePartsWritten chunk_shape region new old now
-    → IsRegionWritten (array_element chunk_shape old) (array_element chunk_shape now) region new absent
+    → IsRegionWritten (element_by_chunks chunk_shape old) (element_by_chunks chunk_shape now) region new absent

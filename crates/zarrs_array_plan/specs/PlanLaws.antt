@@ -6,7 +6,7 @@ use Rattle.zarrs_chunk.specs.Tuples.{is_tuple_inside}
 use Rattle.zarrs_grid.specs.GridLaws.{IsPartOfBoth}
 use Rattle.zarrs_array_plan.specs.ArrayForm.{ArrayForm}
 use Rattle.zarrs_array_plan.specs.Joined.{IsRegionPart}
-use Rattle.zarrs_array_plan.specs.Planned.{LiesInArray, IsPlan}
+use Rattle.zarrs_array_plan.specs.Planned.{LiesInArray, IsRegionPlan}
 use Rattle.zarrs_array_plan.specs.declared.planned_chunk.PlannedChunk.{PlannedChunk}
 
 -- the part has this index tuple of the region, so far from where the part begins; tuples of a region are counted from its first one
@@ -26,5 +26,5 @@ pub record CutsRegion (form : ArrayForm) (region : Region) (planned : List Plann
 -- A plan of a region that lies in the array cuts it.
 abbrev pub PlansCutTheRegion : Type 0
 PlansCutTheRegion =
-    (form : ArrayForm) (region : Region) (planned : List PlannedChunk) → LiesInArray form region → IsPlan form region planned
+    (form : ArrayForm) (region : Region) (planned : List PlannedChunk) → LiesInArray form region → IsRegionPlan form region planned
     → CutsRegion form region planned

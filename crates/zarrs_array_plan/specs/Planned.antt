@@ -29,6 +29,6 @@ abbrev pub HasOwnKey : ChunkKeyEncoding → PlannedChunk → Type 0
 HasOwnKey keys it = string_bytes it.key ≡ key_of keys it.part.chunk.items
 
 -- For each chunk that the region touches, in row-major order of the chunks, the region's part in it is there, with the chunk's key.
-pub record IsPlan (form : ArrayForm) (region : Region) (planned : List PlannedChunk) : Type 0 where
+pub record IsRegionPlan (form : ArrayForm) (region : Region) (planned : List PlannedChunk) : Type 0 where
   pub parts : AreRegionParts form.chunk_shape region (map (λ it. it.part) planned)
   pub keys : All (HasOwnKey form.keys) planned

@@ -22,14 +22,14 @@ pub fn parts_are_read()
 {}
 
 /// What the parts of all planned chunks were joined to, in whatever order, is the region's elements, in
-/// order. That each join adds a part is the clause `joins` of [`join_part`](crate::join_part).
+/// order. That each join adds a part is the clause `chunk_joined` of [`join_part`](crate::join_part).
 pub fn parts_make_the_region()
     ensures law { AllChunksMakeTheRegion }
 {}
 
 /// Where its part of a region's new elements is written into each chunk that the region touches, and no
 /// other chunk is written, the array has the new elements in the region, in order, and its old ones
-/// elsewhere. That a part is cut out of them is the clause `cuts` of [`part_of`](crate::part_of).
+/// elsewhere. That a part is cut out of them is the clause `part_cut` of [`part_of`](crate::part_of).
 pub fn parts_write_the_region()
     ensures law { PartsWriteTheRegion }
 {}

@@ -1,6 +1,6 @@
 //! What a region of an array needs of each chunk.
 ghost use Rattle.std.specs.Prelude.{◌≡◌, ◌<◌, ◌^◌, All, IfOk, length, map};
-ghost use Rattle.zarrs_array_plan.specs.Planned.{checked_plan, HasOwnKey, IsPlan, LiesInArray};
+ghost use Rattle.zarrs_array_plan.specs.Planned.{checked_plan, HasOwnKey, IsRegionPlan, LiesInArray};
 ghost use Rattle.zarrs_chunk.specs.Answer.{GivesBy, no_refusal};
 ghost use Rattle.zarrs_chunk.specs.ChunkShape.{product};
 ghost use Rattle.zarrs_chunk.specs.Region.{IsRegion};
@@ -35,7 +35,7 @@ fn is_box_inside(sizes: &[u64], starts: &[u64], lengths: &[u64]) -> bool
 /// Whether a box lies inside these sizes, which may be 0.
 pub(crate) fn check_box(sizes: &[u64], region: &ArraySubset) -> Result<(), CodecError>
     ensures answer { result ≡ bounds_of (subset_of region.now) sizes.now }
-    ensures region { IsRegion region.now.starts region.now.lengths }
+    ensures ends { IsRegion region.now.starts region.now.lengths }
 {
     let starts = region.start();
     let lengths = region.shape();
@@ -90,7 +90,7 @@ impl ArrayGrid {
     /// has more or fewer axes than the array; `OutOfBounds` where it doesn't lie inside; `Overflow` where
     /// it has `2^64` elements or more.
     pub fn plan(&self, alloc: Global, region: &ArraySubset) -> Result<Vec<PlannedChunk>, CodecError>
-        ensures answer { GivesBy (λ planned _. IsPlan self.now region.now planned.items)
+        ensures answer { GivesBy (λ planned _. IsRegionPlan self.now region.now planned.items)
             result (checked_plan self.now region.now) }
         ensures inside { IfOk result (λ _. LiesInArray self.now region.now) }
     {

@@ -47,7 +47,7 @@ pub fn fill_region<'a>(
     ensures exact { GivesBy (Holds data_type.now) result
         (region_fill data_type.now region.now fill_value.now) }
     ensures tight { IfOk result (IsTight data_type.now) }
-    ensures begins { BeginsRegion data_type.now region.now result }
+    ensures region_begun { BeginsRegion data_type.now region.now result }
 {
     let count = region.num_elements()?;
     ArrayBytes::new_fill_value(alloc, data_type, count, fill_value)
@@ -110,7 +110,7 @@ pub fn join_part<'b>(
 ) -> Result<ArrayBytes<'b>, CodecError>
     ensures exact { GivesBy (Holds data_type.now) result (chunk_update data_type.now
         region.now.lengths (subset_of part.now.in_region) answer.entry elements.now) }
-    ensures joins { JoinsPart data_type.now region.now part.now answer.entry elements.now result }
+    ensures chunk_joined { JoinsPart data_type.now region.now part.now answer.entry elements.now result }
     ensures flush { GivesFlush result }
     ensures tight { UpdatesTight data_type.now answer.entry elements.now result }
 {
@@ -132,7 +132,7 @@ pub fn part_of<'b>(
 ) -> Result<ArrayBytes<'b>, CodecError>
     ensures exact { GivesBy (Holds data_type.now) result (selected_chunk data_type.now
         region.now.lengths (subset_of part.now.in_region) elements.now) }
-    ensures cuts { CutsPart data_type.now region.now part.now elements.now result }
+    ensures part_cut { CutsPart data_type.now region.now part.now elements.now result }
     ensures flush { GivesFlush result }
     ensures tight { ExtractsTight data_type.now elements.now result }
 {

@@ -4,8 +4,8 @@ use Rattle.zarrs_array_bytes.proofs.AnswerLemmas.{checked_is}
 use Rattle.zarrs_array_plan.proofs.RegionContainers.{filled_valid, region_begins}
 use Rattle.zarrs_array_plan.proofs.region_elements.fill_region.Goals as goal
 
-pub returns-clause-begins : goal.returns-clause-begins
-returns-clause-begins c =
+pub returns-clause-region_begun : goal.returns-clause-region_begun
+returns-clause-region_begun c =
     let type = c.args.data_type.now in
     let total = product c.args.region.now.lengths in
     let count = checked_is total c.in_ok-count.count (sym (c.in_ok-count.ensures {u = tt}).product) in
