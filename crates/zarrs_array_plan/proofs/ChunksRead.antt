@@ -1,5 +1,5 @@
 -- An array as its chunks: what reads of parts give.
-use Rattle.std.proofs.Common.{◌≡◌, ◌∙◌, ℕ, suc, true, List, [], ◌∷◌, length, map, get_or, arith, refl, ap₂, sym}
+use Rattle.std.proofs.Common.{◌≡◌, ◌∙◌, ℕ, suc, true, List, [], ◌∷◌, length, map, get_or, arith, refl, ap₂, sym, nat_lt}
 use Rattle.std.specs.List.{Contains}
 use Rattle.std.proofs.lemmas.Bool.{and_parts}
 use Rattle.std.proofs.lemmas.Nat.{div-mul-add, mod-mul-add}
@@ -17,23 +17,23 @@ use Rattle.zarrs_array_plan.specs.ChunkArrays.{element_by_chunks, PartsAreRead}
 
 -- the chunk of a tuple that a chunk has, and the tuple in it, are that chunk and that tuple
 record IsFoundAgain (shape numbers tuple at : List ℕ) : Type 0 where
-  pub chunk : quotients shape at ≡ numbers
-  pub tuple : remainders shape at ≡ tuple
+  pub chunk_again : quotients shape at ≡ numbers
+  pub tuple_again : remainders shape at ≡ tuple
 
 found_again : (shape numbers tuple : List ℕ) → length numbers ≡ length shape → is_tuple_inside shape tuple ≡ true
     → IsFoundAgain shape numbers tuple (tuple_in_array shape numbers tuple)
-found_again [] [] [] e h = record { chunk = refl; tuple = refl }
+found_again [] [] [] e h = record { chunk_again = refl; tuple_again = refl }
 found_again [] [] (index ∷ tuple) e h = absurd (cc)
 found_again [] (number ∷ numbers) tuple e h = absurd (omega arith)
 found_again (size ∷ shape) [] tuple e h = absurd (omega arith)
 found_again (size ∷ shape) (number ∷ numbers) [] e h = absurd (cc)
 found_again (size ∷ shape) (number ∷ numbers) (index ∷ tuple) e h =
-    let both = and_parts _ _ h in
-    let below = from_lt_test _ _ both.0 in
+    let both = and_parts (nat_lt index size) (is_tuple_inside shape tuple) h in
+    let below = from_lt_test index size both.0 in
     let rest = found_again shape numbers tuple (omega arith) both.1 in
     record {
-      chunk = ap₂ (λ i t. i ∷ t) (div-mul-add number size index below) rest.chunk;
-      tuple = ap₂ (λ i t. i ∷ t) (mod-mul-add number size index below) rest.tuple;
+      chunk_again = ap₂ (λ i t. i ∷ t) (div-mul-add number size index below) rest.chunk_again;
+      tuple_again = ap₂ (λ i t. i ∷ t) (mod-mul-add number size index below) rest.tuple_again;
     }
 
 -- so the array's element at a tuple of a chunk is the chunk's
@@ -41,7 +41,7 @@ pub element_in_chunk : (chunks : List ℕ → Chunk) (shape numbers tuple : List
     → element_by_chunks shape chunks (tuple_in_array shape numbers tuple) ≡ get_or (chunks numbers) (row_major shape tuple) absent
 element_in_chunk chunks shape numbers tuple e h =
     let again = found_again shape numbers tuple e h in
-    ap₂ (λ ns t. get_or (chunks ns) (row_major shape t) absent) again.chunk again.tuple
+    ap₂ (λ ns t. get_or (chunks ns) (row_major shape t) absent) again.chunk_again again.tuple_again
 
 -- two functions that are alike at what a list has
 pub map_alike : {X Y : Type 0} (f g : X → Y) (xs : List X) → ((x : X) → Contains xs x → f x ≡ g x) → map f xs ≡ map g xs

@@ -11,15 +11,15 @@ use Rattle.zarrs_chunk.specs.declared.codec_error.CodecError.TheVariants.{Invali
 use Rattle.zarrs_chunk.proofs.Inside.{lt_test, is_box_inside-lengths}
 use Rattle.zarrs_data_type.specs.Element.{Chunk, Element, absent, fill_element}
 use Rattle.zarrs_data_type.specs.FillValue.{fill_fits}
-use Rattle.zarrs_data_type.specs.ElementType.{ElementType, fixed, text, bytes, optional}
+use Rattle.zarrs_data_type.specs.ElementType.{ElementType}
 use Rattle.zarrs_array_bytes.specs.Chunks.{fill_chunk, chunk_update, selected_chunk}
 use Rattle.zarrs_array_bytes.specs.Elements.{elements}
-use Rattle.zarrs_array_bytes.specs.Held.{Held, flen, vlen, masked}
+use Rattle.zarrs_array_bytes.specs.Held.{Held}
 use Rattle.zarrs_array_bytes.specs.Update.{update}
-use Rattle.zarrs_array_bytes.specs.Validity.{LengthRefusal, levels_fit, sizes_fit, validity, data_fit, data_mismatch, Holds}
+use Rattle.zarrs_array_bytes.specs.Validity.{levels_fit, sizes_fit, validity, data_fit, data_mismatch, Holds}
 use Rattle.zarrs_array_bytes.proofs.PresentAnswers.{fits_too}
 use Rattle.zarrs_array_bytes.proofs.UpdatedLemmas.{length-elements}
-use Rattle.zarrs_array_bytes.proofs.ValidLemmas.{both_ok, then_ok, length_found, length_due}
+use Rattle.zarrs_array_bytes.proofs.ValidLemmas.{both_ok}
 use Rattle.zarrs_array_bytes.proofs.WriteLemmas.{length-update}
 use Rattle.zarrs_grid.specs.JoinedParts.{HasChunks}
 use Rattle.zarrs_grid.specs.Parts.{box_in_region}

@@ -19,7 +19,9 @@ use Rattle.zarrs_grid.specs.declared.chunk_part.ChunkPart.{ChunkPart}
 
 -- a fill element for each element of a region, or the first error
 abbrev pub region_fill : ElementType → Region → List ℕ → Result Chunk CodecError
-region_fill type region fill = checked_u64 (product region.lengths) >>= λ count. fill_chunk type count fill
+region_fill type region fill = do
+  count ← checked_u64 (product region.lengths)
+  fill_chunk type count fill
 
 -- It is a region's part in one of the chunks that the region touches. 64 bits count the region's elements.
 pub record IsRegionPart (chunk_shape : List ℕ) (region : Region) (part : ChunkPart) : Type 0 where
@@ -41,16 +43,18 @@ BeginsRegion type region result =
 -- Of a container that holds a region's elements of some chunks, and one of the array's elements in a part, one is given that holds those of the part's chunk too; but for a lack of memory no error is due.
 abbrev pub JoinsPart : ElementType → Region → ChunkPart → Held → Held → Result Held CodecError → Type 0
 JoinsPart type region part answer content result =
+    let numbers = part.chunk.items in
     (element : List ℕ → Element) (chunk_shape : List ℕ) (chunks : List (List ℕ)) → IsRegionPart chunk_shape region part
     → HoldsChunks type element chunk_shape region chunks answer
-    → Holds type content (elements_of_part element chunk_shape region part.chunk.items)
-    → GivesBy (λ joined _. HoldsChunks type element chunk_shape region (part.chunk.items ∷ chunks) joined) result no_refusal
+    → Holds type content (elements_of_part element chunk_shape region numbers)
+    → GivesBy (λ joined _. HoldsChunks type element chunk_shape region (numbers ∷ chunks) joined) result no_refusal
 
 -- Of a container of a region's new elements one is given that holds those of a part, in order; but for a lack of memory no error is due.
 abbrev pub CutsPart : ElementType → Region → ChunkPart → Held → Result Held CodecError → Type 0
 CutsPart type region part new result =
-    (chunk_shape : List ℕ) → IsRegionPart chunk_shape region part → validity type (product region.lengths) new ≡ Ok tt
-    → GivesBy (Holds type) result (Ok (new_of_part chunk_shape region part.chunk.items (elements type (product region.lengths) new) absent))
+    let count = product region.lengths in
+    (chunk_shape : List ℕ) → IsRegionPart chunk_shape region part → validity type count new ≡ Ok tt
+    → GivesBy (Holds type) result (Ok (new_of_part chunk_shape region part.chunk.items (elements type count new) absent))
 
 -- A container that holds a region's elements of all chunks that the region touches holds the region's elements, in order.
 abbrev pub AllChunksMakeTheRegion : Type 0

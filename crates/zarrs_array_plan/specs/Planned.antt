@@ -22,7 +22,9 @@ pub record LiesInArray (form : ArrayForm) (region : Region) : Type 0 where
 
 -- how many elements a region has, or the first error: it lies inside the array, and 64 bits count them
 abbrev pub checked_plan : ArrayForm → Region → Result ℕ CodecError
-checked_plan form region = bounds_of (subset region) form.shape >>= λ _. checked_u64 (product region.lengths)
+checked_plan form region = do
+  _ ← bounds_of (subset region) form.shape
+  checked_u64 (product region.lengths)
 
 -- the key is that of the part's chunk
 abbrev pub HasOwnKey : ChunkKeyEncoding → PlannedChunk → Type 0
