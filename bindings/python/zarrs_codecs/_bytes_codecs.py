@@ -13,6 +13,11 @@ from typing import Any, NoReturn
 
 import numpy as np
 
+from ._checksum import LENGTH as CHECKSUM_LENGTH
+from ._checksum import NAME as CHECKSUM
+from ._checksum import header_of, with_checksum, without_checksum
+from ._library import checked_name
+from ._locating import locate
 from ._locating import name_of as codec_name
 from ._types import AnyArray, Bytes
 from .refusals import BytesCodec, InvalidBytesLength, InvalidConfiguration, OutOfMemory, Refused
@@ -58,7 +63,7 @@ class OuterCodec:
 
     def longest(self, size: int) -> int:
         """How many bytes are stored at most of a value of so many."""
-        return size + 4 if self.name == _CHECKSUM else 2 * size + _LONGER_BYTES
+        return size + CHECKSUM_LENGTH if self.name == CHECKSUM else 2 * size + _LONGER_BYTES
 
 
 class _TooLong(Exception):
@@ -210,31 +215,27 @@ def _blosc(configuration: dict[str, Any]) -> OuterCodec:
     return OuterCodec("blosc", compress, lambda stored, most: codec.decode(_blosc_part(stored, most)))
 
 
-_CHECKSUM = "crc32c"
-
-
 def _checksum(codecs: list[Any], place: int) -> OuterCodec:
-    """The library's own codec, behind those of Python. A refusal says that it is of this one."""
-    from .chain import Chain
-
-    def chain(size: int) -> Any:
-        return Chain(["bytes", codecs[place]], (size,), "uint8")
+    """The library's own codec, behind those of Python. An error says that it is of this one."""
+    codec = codecs[place]
 
     def decompress(stored: Any, most: int | None) -> Any:
         size = memoryview(stored).nbytes
-        if size < 5:
+        if size <= CHECKSUM_LENGTH:
             raise ValueError(f"{size} bytes, where there are more behind another codec")
         try:
-            return chain(size - 4).decode(stored)
+            return without_checksum(codec, stored)
         except BytesCodec as error:
             raise ValueError("the checksum is another one") from error
 
+    ask = header_of(1).checked
     try:
-        chain(1)
+        checked_name(ask(["bytes", codec]))
     except Refused as error:
-        error.codec = place, _CHECKSUM
+        locate(error, ask, ["bytes", codec])
+        error.codec = place, CHECKSUM
         raise
-    return OuterCodec(_CHECKSUM, lambda value: chain(value.size).encode(value), decompress, True)
+    return OuterCodec(CHECKSUM, partial(with_checksum, codec), decompress, True)
 
 
 _MAKERS = {"gzip": _gzip, "zstd": _zstd, "blosc": _blosc}
@@ -282,7 +283,7 @@ def _first_of_pythons(codecs: list[Any]) -> int:
     for place in reversed(range(len(codecs))):
         if _made(codecs, place) is not None:
             first = place
-        elif codec_name(codecs[place]) != _CHECKSUM:
+        elif codec_name(codecs[place]) != CHECKSUM:
             break
     return first
 

@@ -72,7 +72,9 @@ def _check_size(kind: DataType, array: AnyArray) -> None:
     itemsize = kind.dtype.itemsize
     if kind.dtype.kind == "V" and array.dtype.itemsize != itemsize:
         raise InvalidElement(f"elements of {array.dtype.itemsize} bytes aren't of {kind.name}")
-    if kind.dtype.kind in "US" and array.dtype.itemsize > itemsize // (4 if array.dtype.kind == "S" and kind.dtype.kind == "U" else 1):
+    # of byte strings for texts each byte is a character
+    each = 4 if array.dtype.kind == "S" and kind.dtype.kind == "U" else 1
+    if kind.dtype.kind in "US" and array.dtype.itemsize > itemsize // each:
         longest = int(np.char.str_len(array).max())
         if longest > itemsize // (4 if kind.dtype.kind == "U" else 1):
             raise InvalidElement(f"an element of length {longest} isn't of {kind.name}")

@@ -3,6 +3,7 @@
 import ctypes
 import json
 import math
+import reprlib
 from typing import Any
 
 from ._data_types import DataType
@@ -10,10 +11,17 @@ from ._elements import empty, given, held
 from ._fill_values import fill_hex
 from ._library import SHORT, library, name_of
 from ._types import Shape
-from .refusals import Syntax
+from .refusals import InvalidConfiguration, Syntax
 
 # A refusal of a chunk of more elements than these is told without the codec, which a chunk is written to find.
 _MOST_ELEMENTS = 1 << 20
+
+
+def codec_list(codecs: Any) -> list[Any]:
+    """A list of codecs; `InvalidConfiguration` is raised of a name or a codec alone."""
+    if isinstance(codecs, (str, bytes, dict)):
+        raise InvalidConfiguration(f"codecs are a list, and not {reprlib.repr(codecs)}")
+    return list(codecs)
 
 
 def json_of(said: Any) -> str:

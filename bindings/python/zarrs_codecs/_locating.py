@@ -8,7 +8,9 @@ import reprlib
 from collections.abc import Callable, Iterator
 from typing import Any
 
-from ._elements import told
+from ._checksum import LENGTH as CHECKSUM_LENGTH
+from ._checksum import NAME as CHECKSUM
+from ._checksum import without_checksum
 from .refusals import Refused
 
 # What the library says of a list of codecs, or of one codec: the name of a refusal, or "Done".
@@ -60,9 +62,6 @@ _OF_NO_KEY = ("UnknownName", "IndexNotFixed")
 
 # So many bytes of codecs are asked about to find where a refusal is, which takes some 50 ms.
 _MOST_BYTES = 1 << 20
-
-# How many bytes longer the library's bytes-to-bytes codecs make a value.
-_LONGER = {"crc32c": 4}
 
 _LITTLE = {"name": "bytes", "configuration": {"endian": "little"}}
 _VLEN = {
@@ -261,16 +260,11 @@ def _locate(error: Refused, ask: Ask, codecs: list[Any]) -> None:
 
 def _is_refused_by(codec: Any, value: Any) -> tuple[bool, Any]:
     """Whether a bytes-to-bytes codec of the library refuses a value, and what it makes of it else."""
-    size = memoryview(value).nbytes - _LONGER[name_of(codec)]
+    size = memoryview(value).nbytes - CHECKSUM_LENGTH
     if size <= 0:
         return size < 0 or any(memoryview(value).cast("B")), b""
-    from .chain import Chain
-
-    chain = Chain(["bytes", codec], (size,), "uint8")
-    # without `decode`, which looks where a refusal is of and so asks this again
-    call, _ = chain._decoding(value)
     try:
-        return False, told(chain._type, call, chain.shape)
+        return False, without_checksum(codec, value)
     except Refused:
         return True, None
 
@@ -284,7 +278,7 @@ def locate_stored(error: Refused, ask: Ask, codecs: list[Any], value: Any) -> No
         place = min(place + 1, len(codecs) - 1)
     behind = () if type(error).__name__ in _OF_ELEMENTS else range(len(codecs) - 1, place, -1)
     for at in behind:
-        if value is None or name_of(codecs[at]) not in _LONGER:
+        if value is None or name_of(codecs[at]) != CHECKSUM:
             return
         is_refused, value = _is_refused_by(codecs[at], value)
         if is_refused:

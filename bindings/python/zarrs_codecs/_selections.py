@@ -256,7 +256,7 @@ def as_places(said: Any) -> AnyArray:
         raise IndexError(f"lists of places of several lengths: {error}") from error
 
 
-def _check_inside(rows: AnyArray, shape: Shape) -> None:
+def check_inside(rows: AnyArray, shape: Shape) -> None:
     """Raises `OutOfBounds` where an element's indices are outside, as the library does, and says which."""
     outside = rows >= np.array(shape, np.uint64)
     if outside.any():
@@ -277,7 +277,7 @@ def _rows(selection: Any, shape: Shape) -> Rows:
     if is_behind.any():
         # 2^64 numbers go round: one that stays below zero is above each size
         rows = np.where(is_behind, rows + np.array(shape, np.uint64), rows)
-    _check_inside(rows, shape)
+    check_inside(rows, shape)
     return Rows(rows if rows.flags.aligned else rows.copy())
 
 

@@ -18,32 +18,18 @@ from ._data_types import zarrs_own
 from ._elements import empty, held, picked, spread
 from ._files import UNFINISHED, replace
 from ._fill_values import fill_json, is_absent
+from ._grid import on_axis
+from ._header import codec_list
 from ._indexing import Outer, Points, Step, is_list
 from ._metadata import made, metadata_of, parsed, usual_codecs
 from ._selections import Box, box
-from ._sharding import array_chain
 from ._stores import Folder, Store
 from ._types import AnyArray, Shape, sizes_of
-from .chain import codec_list
+from .chain import array_chain, coder_in
 from .refusals import InvalidFillValue, Refused
 
 # A chunk's numbers, the places in it, and those in the answer.
 Part = tuple[tuple[int, ...], tuple[slice, ...], tuple[slice, ...]]
-
-
-def _on_axis(on_axis: range, size: int) -> list[tuple[int, slice, slice]]:
-    """The chunks that rising places touch on an axis: each one's number, the places in it, and those of the
-    answer."""
-    found = []
-    first = 0
-    while first < len(on_axis):
-        number, inside = divmod(on_axis[first], size)
-        end = (number + 1) * size
-        last = min(first + -((on_axis[first] - end) // on_axis.step), len(on_axis))
-        stop = on_axis[last - 1] - number * size + 1
-        found.append((number, slice(inside, stop, on_axis.step), slice(first, last)))
-        first = last
-    return found
 
 
 class Info(dict[str, Any]):
@@ -75,8 +61,8 @@ class Array:
     `FileNotFoundError` is raised where it isn't there or has no `zarr.json` any more. Raises `InvalidMetadata`
     where its `zarr.json` is of no such array, the refusals of `Chain`, those of `decode` where a chunk is read
     whole and else those of `read`, `InvalidBytesLength` for a chunk of another length than its codecs always
-    write, `OSError` for what is no file, as a pipe is, `IndexError` for an index that is none, `ValueError` for elements that don't broadcast or aren't of
-    the type, and `TypeError` for those of another kind.
+    write, `OSError` for what is no file, as a pipe is, `IndexError` for an index that is none, `ValueError` for elements that
+    don't broadcast or aren't of the type, and `TypeError` for those of another kind.
 
     `shape`, `dtype`, `ndim` and `size` are as numpy has them, and `chunks` is the shape of a chunk;
     `dimension_names` has the axes' names, or is None; `metadata` is what `zarr.json` said, `chain` the `Chain` of
@@ -129,7 +115,7 @@ class Array:
         self.ndim = len(self.shape)
         self.size = math.prod(self.shape)
         self._fill: Any = self.chain.read(None, (0,) * self.ndim)
-        self._chunks = Chunks(files, root, found.keys, self.chain, self._type, **self._settings)
+        self._chunks = Chunks(files, root, found.keys, coder_in(self.chain), **self._settings)
 
     @classmethod
     def create(
@@ -281,7 +267,7 @@ class Array:
         """The parts of a basic index, one of each chunk that has some of it."""
         if not all(on_axes):
             return
-        touched = [_on_axis(on_axis, size) for on_axis, size in zip(on_axes, self.chunks)]
+        touched = [on_axis(one, size) for one, size in zip(on_axes, self.chunks)]
         for each in itertools.product(*touched):
             numbers, inside, there = zip(*each) if each else ((), (), ())
             yield numbers, inside, there

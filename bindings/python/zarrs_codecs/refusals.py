@@ -143,9 +143,9 @@ class InvalidText(_Wrong, UnicodeError):
     refusal, not the library's.
 
     >>> from zarrs_codecs import Chain
-    >>> Chain(["vlen-utf8"], (1,), "string").decode(b"\\1\\0\\0\\0\\1\\0\\0\\0\\xff")
+    >>> Chain(["vlen-utf8"], (1,), "string").decode(b"\\1\\0\\0\\0\\1\\0\\0\\0\\xff")  # doctest: +ELLIPSIS
     Traceback (most recent call last):
-    zarrs_codecs.refusals.InvalidText: an element's bytes are no text: 'utf-8' codec can't decode byte 0xff in position 0: invalid start byte
+    zarrs_codecs.refusals.InvalidText: an element's bytes are no text: 'utf-8' codec can't decode byte 0xff in position 0...
     """
 
 

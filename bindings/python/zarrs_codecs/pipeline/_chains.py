@@ -10,9 +10,9 @@ from zarr.codecs._v2 import V2Codec
 from zarr.core.codec_pipeline import fill_value_or_default
 
 from .._data_types import zarrs_own
-from .._rounds import behind_transpositions
+from .._layout import SHARDS, behind_transpositions
 from .._types import Shape
-from ..chain import Chain, is_read_whole
+from ..chain import Chain, coder_in
 from ..refusals import Refused
 from ._zarr2 import codecs_of
 
@@ -20,7 +20,6 @@ from ._zarr2 import codecs_of
 _CODECS = frozenset(
     {"bytes", "endian", "transpose", "crc32c", "vlen-utf8", "vlen-bytes", "sharding_indexed", "gzip", "zstd", "blosc"}
 )
-_SHARDS = "sharding_indexed"
 # A value of so many bytes, or fewer, is read at once.
 _SMALL = 1 << 16
 # Chains of so many forms of chunks are kept.
@@ -42,13 +41,13 @@ class Coding:
     @cached_property
     def is_read_whole(self) -> bool:
         """Whether a read of any element takes all of a value's bytes."""
-        return is_read_whole(self.chain)
+        return coder_in(self.chain).is_read_whole
 
     @cached_property
     def inner_shape(self) -> Shape | None:
         """The sizes of a shard's inner chunks, behind transpositions too; None of other chunks."""
         order, rest = behind_transpositions(self.chain.codecs, len(self.shape))
-        if not rest or rest[0]["name"] != _SHARDS:
+        if not rest or rest[0]["name"] != SHARDS:
             return None
         sizes = dict(zip(order, rest[0]["configuration"]["chunk_shape"], strict=True))
         return tuple(sizes[axis] for axis in range(len(order)))
@@ -68,7 +67,7 @@ class Coding:
     @cached_property
     def decodes_into(self) -> bool:
         """Whether a chunk may be decoded straight into an array."""
-        return self.dtype != object and _SHARDS not in self.chain.unproved
+        return self.dtype != object and SHARDS not in self.chain.unproved
 
     @cached_property
     def least_bytes(self) -> int:

@@ -111,7 +111,8 @@ class Part:
         if self.is_whole:
             return self._decoded(value, target)
         if self.chosen is None:
-            return coding.chain.decode(value)[self.selection]
+            found: AnyArray = coding.chain.decode(value)[self.selection]
+            return found
         return self._shaped(coding.chain.read(value, self.chosen))
 
     def of_source(self, source: Source) -> AnyArray:

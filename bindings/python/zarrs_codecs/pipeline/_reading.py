@@ -118,7 +118,7 @@ async def read_all(reads: list[Read], statistics: Statistics) -> list[bool]:
     paths = [file_of(read.getter) for read in reads]
     files = [partial(read.from_file, path) for read, path in zip(reads, paths, strict=True) if path is not None]
     if len(files) == len(reads):
-        return await in_thread(partial(run_all, files))
+        return await in_thread(lambda: run_all(files))
     limit = config.get("async.concurrency")
     turn = asyncio.Semaphore(limit or 1 << 30)
     return await run_together([partial(read.from_far, turn, statistics) for read in reads], limit)
