@@ -2,6 +2,7 @@
 
 import ast
 import importlib.util
+import runpy
 import subprocess
 import sys
 from pathlib import Path
@@ -124,3 +125,25 @@ def test_flake8_finds_nothing():
     words = [sys.executable, "-m", "flake8", "zarrs_codecs"]
     run = subprocess.run(words, cwd=PACKAGE.parent, capture_output=True, text=True)
     assert (run.returncode, run.stdout) == (0, ""), run.stdout + run.stderr
+
+
+SPOILT = """
+from zarrs_codecs.refusals import Refused
+
+def told(file, refusals):
+    'A refusal of zarrs_codecs.refusals.Refused.'
+    # what was said
+    raise Refused(f"it tells {file.tell()}")
+"""
+
+
+@pytest.mark.skipif(not (PACKAGE.parents[2] / "tools/words").is_file(), reason="it isn't the repository's package")
+def test_the_fields_words(tmp_path, monkeypatch):
+    """Those of comments, texts and names; public names are as they are."""
+    monkeypatch.syspath_prepend(str(PACKAGE.parents[2] / "tools"))
+    words_of = runpy.run_path(str(PACKAGE.parents[2] / "tools/words"))["words_of"]
+    spoilt = tmp_path / "spoilt.py"
+    spoilt.write_text(SPOILT)
+    found = [line.partition("spoilt.py:")[2].partition(" (")[0] for line in words_of(spoilt)]
+    assert sorted(found) == ["4: told", "5: refusal", "6: said", "7: tells"]
+    assert [line for path in MODULES for line in words_of(path)] == []

@@ -207,7 +207,7 @@ def test_out_that_lies_over_the_value():
 
 
 def test_c_writes_no_array_that_lies_over_the_value(monkeypatch):
-    monkeypatch.delattr(_library_reads, "told_into")
+    monkeypatch.delattr(_library_reads, "returned_into")
     memory = np.arange(8, dtype=np.uint8)
     chain = Chain(["bytes"], (4,), "uint8")
     assert chain.decode(memory[:4], memory[2:6]).tolist() == [0, 1, 2, 3]

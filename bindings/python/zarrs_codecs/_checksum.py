@@ -8,7 +8,7 @@ import numpy as np
 
 from ._buffers import lent, start
 from ._data_types import data_type
-from ._elements import given, told_into
+from ._elements import given, returned_into
 from ._header import Header, json_of
 from ._library import checked, library
 from ._types import AnyArray, Bytes
@@ -40,5 +40,5 @@ def without_checksum(codec: Any, value: Any) -> Bytes:
     """The bytes before a checksum, which a value has behind it. Raises `BytesCodec` where it is another one."""
     found = np.empty(memoryview(value).nbytes - LENGTH, np.uint8)
     header = _text(codec, found.size)
-    told_into(found, partial(library.zarrs_decode, header, len(header), *lent(value)))
+    returned_into(found, partial(library.zarrs_decode, header, len(header), *lent(value)))
     return found

@@ -59,7 +59,7 @@ class Chunks:
     """Reads and writes chunks, of each as much as a selection needs, by so many threads at most.
 
     Where a chain needs whole values, they are kept when they are read, and what Python's codecs make of them
-    isn't made again; of others what tells where the elements are, an index or offsets.
+    isn't made again; of others what says where the elements are, an index or offsets.
     """
 
     def __init__(
@@ -152,7 +152,7 @@ class Chunks:
                 if source.is_same(self._coder.rests_on_length):
                     return found
             except (Refused, EOFError):
-                if source.is_same(was_refused=True):
+                if source.is_same(has_failed=True):
                     raise
             finally:
                 source.close()
@@ -194,12 +194,12 @@ class Chunks:
         path = self.path(chunk)
         self._files.check_written()
         self.check_folder()
-        meant = select(inside, self._shape)
+        selected = select(inside, self._shape)
         with _naming(path):
-            if new.shape == self._shape and not isinstance(meant, Rows):
+            if new.shape == self._shape and not isinstance(selected, Rows):
                 value = self._coder.encode(new)
             else:
-                value = self._coder.write(self._stored(path), meant, new)
+                value = self._coder.write(self._stored(path), selected, new)
         self._files.replace(path, value)
         self.cache.drop(path)
 

@@ -26,6 +26,15 @@ class Representation(NamedTuple):
     """How many bytes a value has: just `size` where `kind` is "fixed", at most `size` where it is "bounded",
     and any number where it is "unbounded"; `size` is None then.
 
+    Attributes
+    ----------
+    kind : str
+        "fixed", "bounded" or "unbounded".
+    size : int or None
+        The number.
+
+    Examples
+    --------
     >>> Representation("fixed", 2).size
     2
     """

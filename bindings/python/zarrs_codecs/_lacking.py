@@ -13,7 +13,7 @@ from ._kept import Kept
 from ._layout import Layout, with_whole_inside
 from ._library import library
 from ._nested import lacking_inside
-from ._rounds import Fetched, Ranges, told_ranges
+from ._rounds import Fetched, Ranges, returned_ranges
 from ._selections import Selection
 from ._types import listed
 from .refusals import Refused
@@ -23,8 +23,8 @@ from .refusals import Refused
 _MOST_ROUNDS = 8
 # Behind so many the inner chunks of a shard are fetched whole that are needed.
 _FEW_ROUNDS = 2
-# Of so many ranges the library tells all, however short they are.
-_TOLD_AT_ONCE = 1 << 10
+# Of so many ranges the library returns all, however short they are.
+_RETURNED_AT_ONCE = 1 << 10
 # So many times it is asked where Python doesn't know in which inner chunks elements are.
 _MOST_PARTS = 1 << 4
 
@@ -44,7 +44,7 @@ class Lacking:
     def ranges(self, pieces: tuple[Any, ...], numbers: tuple[Any, ...], kept: Kept | None = None) -> Ranges:
         """The ranges that a read of these pieces lacks; through another chain, where one is given."""
         call = partial((kept or self._kept).call, library.zarrs_chain_lacking, *pieces, *numbers)
-        return told_ranges(call, 64)
+        return returned_ranges(call, 64)
 
     def in_round(self, rounds: int, fetched: Fetched, chosen: Selection) -> Ranges:
         """What a round fetches, behind so many: what the read lacks, of all inner chunks that it lacks something of."""
@@ -62,7 +62,7 @@ class Lacking:
         return fetched.missing() if rounds >= most else lacking
 
     def _together(self, is_early: bool, fetched: Fetched, chosen: Selection) -> Ranges | None:
-        """What the read lacks of all inner chunks at once; None where the library tells that by itself. It tells one inner
+        """What the read lacks of all inner chunks at once; None where the library returns that by itself. It returns one inner
         chunk after the other where these hold shards or texts, or so many short ranges are needed of them: then
         what the shards inside are asked for, or what it lacks if inner chunks are read whole."""
         cut = self._coder.cut
@@ -75,7 +75,7 @@ class Lacking:
         # over a thousand inner chunks of a few bytes each lack one after the other
         if cut is not None:
             return fetched.without(cut.shard.whole_ranges(fetched, chosen.moved(cut.order)))
-        asked = [part.arguments() for part in itertools.islice(chosen.parts(_TOLD_AT_ONCE), _MOST_PARTS + 1)]
+        asked = [part.arguments() for part in itertools.islice(chosen.parts(_RETURNED_AT_ONCE), _MOST_PARTS + 1)]
         if len(asked) > _MOST_PARTS:
             return None
         each = [listed(self.ranges(fetched.arguments(), part, self._whole_inside)) for part in asked]

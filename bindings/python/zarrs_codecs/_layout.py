@@ -32,10 +32,10 @@ def layout_of(codecs: list[Any], axes: int) -> tuple[tuple[int, ...], Shape | No
     order, rest = behind_transpositions(codecs, axes)
     sizes: Shape | None = None
     while rest and name_of(rest[0]) == SHARDS:
-        said = rest[0]["configuration"]
-        on_axes = dict(zip(order, said["chunk_shape"], strict=True))
+        declared = rest[0]["configuration"]
+        on_axes = dict(zip(order, declared["chunk_shape"], strict=True))
         sizes = tuple(on_axes[axis] for axis in range(axes))
-        moved, rest = behind_transpositions(said["codecs"], axes)
+        moved, rest = behind_transpositions(declared["codecs"], axes)
         order = tuple(order[axis] for axis in moved)
     return order, sizes
 
@@ -44,8 +44,8 @@ def _inside_shard(codecs: list[Any]) -> list[Any] | None:
     """The codecs of a shard's inner chunks, as they stand in these; None where there is no shard."""
     for codec in codecs:
         if name_of(codec) == SHARDS:
-            said = codec.get("configuration") if isinstance(codec, dict) else None
-            inner = said.get("codecs") if isinstance(said, dict) else None
+            declared = codec.get("configuration") if isinstance(codec, dict) else None
+            inner = declared.get("codecs") if isinstance(declared, dict) else None
             # one that is skipped may have none
             return inner if isinstance(inner, list) else None
     return None

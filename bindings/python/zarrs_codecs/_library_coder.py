@@ -73,8 +73,8 @@ class LibraryCoder(LibraryReader):
             error = NotInPlace("NotInPlace")
             self._locate_stored(error, value)
             raise error
-        arrays = [spread(kind, elements, meant.shape, meant.after).reshape(-1) for meant, elements in edits]
-        given_numbers = [meant.without_gaps().numbers() for meant, _ in edits]
+        arrays = [spread(kind, elements, selected.shape, selected.after).reshape(-1) for selected, elements in edits]
+        given_numbers = [selected.without_gaps().numbers() for selected, _ in edits]
         each = zip(given_numbers, arrays, strict=True)
         sizes = np.array([(tuples, many.size, array.nbytes) for (tuples, many), array in each], np.uint64)
         numbers = np.concatenate([many for _, many in given_numbers] or [np.empty(0, np.uint64)])

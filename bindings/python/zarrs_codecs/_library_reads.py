@@ -11,10 +11,10 @@ import numpy as np
 import numpy.typing as npt
 
 from ._buffers import counted, lent, overlaps, start
-from ._bytes_codecs import hint, most_of_each, split
+from ._outer_codecs import hint, most_of_each, split
 from ._coder import Coder, Cut, Form, Representation, Shard, located
 from ._dense import is_dense, taken
-from ._elements import picked, put, takes, told, told_into, told_many
+from ._elements import picked, put, returned, returned_into, returned_many, takes
 from ._files import PART_BYTES, Source
 from ._header import Header, copied, json_of
 from ._inner_chunks import locate_inner_chunk
@@ -23,7 +23,7 @@ from ._lacking import Lacking
 from ._layout import Layout, behind_transpositions, is_sharded
 from ._library import SHORT, checked, library
 from ._locating import OF_CODECS, OF_VALUES, locate, locate_stored
-from ._rounds import Fetched, at_hand, told_ranges
+from ._rounds import Fetched, at_hand, returned_ranges
 from ._selections import MOST_APART, SPARSE, Rows, Selection, select
 from ._types import AnyArray, Bytes, Shape
 from .refusals import OutOfBounds, Refused, Storage, UnknownName
@@ -123,7 +123,7 @@ class LibraryReader(Coder):
 
     @cached_property
     def is_read_whole(self) -> bool:
-        # as its first round tells of a long one
+        # as its first round lacks of a long one
         if self._outer:
             return True
         first = select(self.form.first, self.form.shape)
@@ -189,38 +189,38 @@ class LibraryReader(Coder):
         # for a value of another length than is due, which fails, no memory is taken
         shape = self.form.shape if kind != "fixed" or length == size else (0,)
         with self._locating_inner_chunk(at_hand(inner), ..., partial(self._read, inner)):
-            return self._told(call, shape, inner, length, out)
+            return self._returned(call, shape, inner, length, out)
 
     def _decoding(self, inner: Any) -> tuple[Callable[..., int], int]:
         """C's call that decodes the library's value, and how many bytes that has."""
         at, length = lent(inner)
         return partial(self._kept.call, library.zarrs_chain_decode, at, length), length
 
-    def _told(
+    def _returned(
         self, call: Callable[..., Any], shape: Shape, value: Any, length: int, out: AnyArray | None
     ) -> AnyArray:
-        """The elements that a call tells, which reads a value of this length; in `out` where it is given."""
+        """The elements that a call returns, which reads a value of this length; in `out` where it is given."""
         is_into = out is not None and takes(self.form.kind, out, shape) and not overlaps(out, value)
         try:
             if out is not None and is_into:
-                told_into(out, call)
+                returned_into(out, call)
                 return out
-            elements = told(self.form.kind, call, shape, length + 64)
+            elements = returned(self.form.kind, call, shape, length + 64)
         except Refused as error:
             self._locate_stored(error, value)
             raise
         return put(elements, out)
 
-    def _near(self, meant: Selection, is_at_hand: bool = False) -> Selection:
+    def _near(self, selected: Selection, is_at_hand: bool = False) -> Selection:
         """A selection with what lies between its places, where that is near, in the inner chunks of a shard that have some of
         them; where rows of those that are apart would be too many, with all that does."""
-        if not meant.has_gaps:
-            return meant
-        layout, whole = self.layout, meant.closed()
-        is_exact = layout.inner is None and layout.has_shards and math.prod(meant.shape) <= _FEW_APART
+        if not selected.has_gaps:
+            return selected
+        layout, whole = self.layout, selected.closed()
+        is_exact = layout.inner is None and layout.has_shards and math.prod(selected.shape) <= _FEW_APART
         # what is at hand is copied, and so taken together where it is so in the chunk
         stored = None if is_at_hand else layout.order
-        chosen = meant if is_exact else meant.closed(self.form.dtype.itemsize, _GAP_BYTES, stored, layout.inner)
+        chosen = selected if is_exact else selected.closed(self.form.dtype.itemsize, _GAP_BYTES, stored, layout.inner)
         count = math.prod(chosen.shape)
         is_copied = is_at_hand and layout.inner is None and count * SPARSE > math.prod(whole.shape)
         return whole if is_copied or count > MOST_APART else chosen
@@ -231,22 +231,22 @@ class LibraryReader(Coder):
         at, length = lent(value)
         arguments = (inner is not None, at, length, *chosen.without_gaps().arguments())
         call = partial(self._kept.call, library.zarrs_chain_read, *arguments)
-        return self._told(call, chosen.shape, value, length, out)
+        return self._returned(call, chosen.shape, value, length, out)
 
-    def _read_dense(self, inner: Any, meant: Selection, out: AnyArray | None) -> AnyArray:
+    def _read_dense(self, inner: Any, selected: Selection, out: AnyArray | None) -> AnyArray:
         """The elements of a selection of a value that is decoded whole."""
         call, length = self._decoding(inner)
-        elements = taken(told(self.form.kind, call, self.form.shape, length + 64), meant)
-        return put(picked(elements, meant.after), out)
+        elements = taken(returned(self.form.kind, call, self.form.shape, length + 64), selected)
+        return put(picked(elements, selected.after), out)
 
     @located
     def read(self, inner: Any, selection: Any, out: AnyArray | None = None) -> AnyArray:
-        meant = select(selection, self.form.shape)
-        if inner is not None and is_dense(self.layout, meant, memoryview(inner).nbytes, is_at_hand=True):
+        selected = select(selection, self.form.shape)
+        if inner is not None and is_dense(self.layout, selected, memoryview(inner).nbytes, is_at_hand=True):
             # of what fails so another part may be what is damaged
             with contextlib.suppress(Refused):
-                return self._read_dense(inner, meant, out)
-        chosen = self._near(meant, is_at_hand=True)
+                return self._read_dense(inner, selected, out)
+        chosen = self._near(selected, is_at_hand=True)
         with self._locating_inner_chunk(at_hand(inner), selection, partial(self._read, inner)):
             if chosen.after is None:
                 return self._read(inner, chosen, out)
@@ -263,7 +263,7 @@ class LibraryReader(Coder):
         call = partial(self._kept.call, library.zarrs_chain_read_many, *arguments)
         answers: list[AnyArray] | None = None
         with contextlib.suppress(Refused):
-            answers = told_many(self.form.kind, call, [one.shape for one in chosen], length + 64)
+            answers = returned_many(self.form.kind, call, [one.shape for one in chosen], length + 64)
         if answers is None:
             # what fails does so by itself too, and says why; what lies between places that are selected isn't read then
             return [self.read(inner, one) for one in selections]
@@ -274,7 +274,7 @@ class LibraryReader(Coder):
     def _planned(self, chosen: Selection) -> npt.NDArray[np.uint64] | None:
         is_planned = ctypes.c_bool()
         call = partial(self._kept.call, library.zarrs_chain_planned_ranges, *chosen.arguments())
-        ranges = told_ranges(
+        ranges = returned_ranges(
             lambda at, count, needed: call(at, count, ctypes.byref(is_planned), needed),
             min(2 * math.prod(chosen.shape), _PLAN_NUMBERS),
         )
@@ -313,14 +313,14 @@ class LibraryReader(Coder):
 
     def _read_in_rounds(self, fetched: Fetched, selection: Any, out: AnyArray | None) -> AnyArray:
         """The elements of a selection, by as many rounds as it takes, up to a number."""
-        meant = select(selection, self.form.shape)
-        if is_dense(self.layout, meant, fetched.length):
+        selected = select(selection, self.form.shape)
+        if is_dense(self.layout, selected, fetched.length):
             missing = fetched.missing()
             if missing.size:
                 fetched.fetch(missing)
             with contextlib.suppress(Refused):
-                return self._read_dense(fetched.there(0, fetched.length), meant, out)
-        chosen = self._near(meant)
+                return self._read_dense(fetched.there(0, fetched.length), selected, out)
+        chosen = self._near(selected)
         read = partial(self._read_round_by_round, fetched)
         with self._locating_inner_chunk(fetched, selection, read):
             elements = read(chosen)
@@ -340,7 +340,7 @@ class LibraryReader(Coder):
             arguments = *fetched.arguments(), *asked.arguments()
             call = partial(self._kept.call, library.zarrs_chain_read_pieces, *arguments)
             try:
-                elements = told(self.form.kind, call, asked.shape, fetched.size + 64)
+                elements = returned(self.form.kind, call, asked.shape, fetched.size + 64)
                 break
             except Storage:
                 if not lacking.size:
@@ -363,13 +363,13 @@ class LibraryReader(Coder):
             pieces = (length, start(ranges), ranges.size, start(fetched), fetched.size)
             call = partial(self._kept.call, library.zarrs_chain_read_pieces, *pieces, *part.arguments())
             count = math.prod(part.shape)
-            told_into(elements[at : at + count], call)
+            returned_into(elements[at : at + count], call)
             at += count
 
     # -- what is stored
 
     def stored(self, call: Callable[..., Any], guess: int) -> Bytes:
-        """What is stored for the value that a call tells, which takes a buffer and its size last."""
+        """What is stored for the value that a call returns, which takes a buffer and its size last."""
         needed = ctypes.c_size_t()
         size = self.representation.size
         value: Bytes = np.empty(guess if size is None else size, np.uint8)

@@ -38,7 +38,7 @@ class Fetched:
         self.length = source.length()
         source.has_kept |= kept is not None
         self._pieces = _NOTHING if kept is None else kept
-        # what every round but the last has fetched: it tells where the elements are
+        # what every round but the last has fetched: it says where the elements are
         self.first = self._pieces
 
     @property
@@ -95,7 +95,7 @@ class Fetched:
         return np.ascontiguousarray(rows[rows[:, 0] < rows[:, 1]], np.uint64)
 
     def index(self, begin: int, end: int) -> AnyArray:
-        """The bytes of the range that tells where the elements are."""
+        """The bytes of the range that says where the elements are."""
         if not self.size or self.bytes_of(begin, end) is None:
             asked = np.array([[begin, end]], np.uint64)
             self.fetch(self.without(asked) if self.size else asked)
@@ -117,8 +117,8 @@ def at_hand(value: Any) -> Fetched:
     return Fetched(Held(b"" if value is None else value))
 
 
-def told_ranges(call: Callable[..., Any], guess: int) -> Ranges:
-    """The ranges that a call tells, rows of a start and an end; `guess` is how many numbers there may be."""
+def returned_ranges(call: Callable[..., Any], guess: int) -> Ranges:
+    """The ranges that a call returns, rows of a start and an end; `guess` is how many numbers there may be."""
     numbers, needed = np.empty(guess, np.uint64), ctypes.c_size_t()
     code = call(start(numbers), numbers.size, ctypes.byref(needed))
     if code == SHORT:

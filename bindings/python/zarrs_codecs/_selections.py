@@ -90,7 +90,7 @@ class Box:
 
     @property
     def has_gaps(self) -> bool:
-        """Whether there are elements between those that are meant."""
+        """Whether there are elements between those that are selected."""
         return any(one.step > 1 for one in self.on_axes)
 
     def numbers(self) -> tuple[int, AnyArray]:
@@ -133,7 +133,7 @@ class Box:
         return Box([self.on_axes[axis] for axis in order], None)
 
     def without_gaps(self) -> "Box | Rows":
-        """The same elements in the same order, as rows where there are elements between those that are meant."""
+        """The same elements in the same order, as rows where there are elements between those that are selected."""
         return Rows(self._rows()) if self.has_gaps else self
 
     def parts(self, limit: int, together: int | None = None) -> Iterator["Box | Rows"]:
@@ -222,7 +222,7 @@ def _rising(places: range) -> range:
 
 
 def box(selection: Any, shape: Shape) -> Box:
-    """The places that a basic index means. Raises `IndexError` where it is none, and `TypeError`
+    """The places that a basic index selects. Raises `IndexError` where it is none, and `TypeError`
     where a slice has other ends than integers."""
     entries, has_ellipsis = entries_of(selection, len(shape))
     on_axes: list[range] = []
@@ -248,10 +248,10 @@ def box(selection: Any, shape: Shape) -> Box:
     return Box(on_axes, (*after, ...) if has_ellipsis else tuple(after))
 
 
-def as_places(said: Any) -> AnyArray:
+def as_places(given: Any) -> AnyArray:
     """Places, or a mask, as an array. Raises `IndexError` where lists of several lengths are none."""
     try:
-        return np.asarray(said)
+        return np.asarray(given)
     except ValueError as error:
         raise IndexError(f"lists of places of several lengths: {error}") from error
 

@@ -6,7 +6,7 @@ from typing import Any, NamedTuple
 
 import numpy as np
 
-from ._bytes_codecs import split, wrong
+from ._outer_codecs import split, wrong
 from ._coder import Coder, Cut, Form, Maker, Piece, Representation, Shard
 from ._elements import empty, mask_of, picked, put, spread
 from ._files import Held

@@ -17,12 +17,12 @@ from ._cache import State
 from ._files import File, Source, bytes_of, counted, joined, opened, replace
 from ._types import AnyArray, listed
 
-# Words of `info` that tell of a change, in whatever case: tags, of which each value has its own, and times.
+# Words of `info` that differ after a change, in whatever case: tags, of which each value has its own, and times.
 _TAG = re.compile("etag|generation|md5|digest|checksum|^version(_?id)?$", re.IGNORECASE)
 _TIME = re.compile("modified|mtime|created|updated", re.IGNORECASE)
 # Those that a read may change.
 _OF_READS = re.compile("^a?time$|access", re.IGNORECASE)
-# A file that was changed fewer seconds ago may be changed again and have the same time: some stores tell whole seconds.
+# A file that was changed fewer seconds ago may be changed again and have the same time: some stores report whole seconds.
 _SETTLED_SECONDS = 2
 # A greater number is one of milliseconds.
 _MOST_SECONDS = 1e11
@@ -103,23 +103,23 @@ class _Opened(File):
         self._file.close()
 
 
-def _moment(said: Any) -> float | None:
-    """The moment that `info` tells, in seconds; None where it isn't known."""
-    if isinstance(said, str):
+def _moment(reported: Any) -> float | None:
+    """The moment that `info` reports, in seconds; None where it isn't known."""
+    if isinstance(reported, str):
         try:
-            said = datetime.fromisoformat(re.sub("Z$", "+00:00", said))
+            reported = datetime.fromisoformat(re.sub("Z$", "+00:00", reported))
         except ValueError:
             try:
-                said = parsedate_to_datetime(said)
+                reported = parsedate_to_datetime(reported)
             except (TypeError, ValueError):
                 return None
-    if isinstance(said, datetime):
-        # of one without a zone the later one of the two that may be meant
-        zones = (None, timezone.utc) if said.tzinfo is None else (said.tzinfo,)
-        return max(said.replace(tzinfo=zone).timestamp() for zone in zones)
-    if type(said) not in (int, float):
+    if isinstance(reported, datetime):
+        # of one without a zone the later one of the two that it may be
+        zones = (None, timezone.utc) if reported.tzinfo is None else (reported.tzinfo,)
+        return max(reported.replace(tzinfo=zone).timestamp() for zone in zones)
+    if type(reported) not in (int, float):
         return None
-    return float(said) / (1000 if said > _MOST_SECONDS else 1)
+    return float(reported) / (1000 if reported > _MOST_SECONDS else 1)
 
 
 class _Ranged(Source):
@@ -127,16 +127,16 @@ class _Ranged(Source):
 
     def __init__(self, store: Any, path: str) -> None:
         self._store, self._path = store, path
-        self._info = self._told()
+        self._info = self._reported()
         if self._info.get("type") == "directory":
             raise FileNotFoundError(f"{path} is a folder")
         if self._info.get("size") is None:
-            raise OSError(f"the store doesn't tell how many bytes {path} has")
+            raise OSError(f"the store doesn't report how many bytes {path} has")
 
-    def _told(self) -> dict[str, Any]:
-        """What the store tells of the file, but for what a read may change."""
-        said = self._store.info(self._path)
-        return {name: said[name] for name in sorted(said) if not _OF_READS.search(name)}
+    def _reported(self) -> dict[str, Any]:
+        """What the store reports of the file, but for what a read may change."""
+        reported = self._store.info(self._path)
+        return {name: reported[name] for name in sorted(reported) if not _OF_READS.search(name)}
 
     @property
     def part_bytes(self) -> int | None:
@@ -153,14 +153,14 @@ class _Ranged(Source):
             return None
         return self.length(), repr(self._info)
 
-    def is_same(self, rests_on_length: bool = False, was_refused: bool = False) -> bool:
-        # what was kept is of the moment when `info` told of the file, and so is the length
+    def is_same(self, rests_on_length: bool = False, has_failed: bool = False) -> bool:
+        # what was kept is of the moment when `info` reported of the file, and so is the length
         moments = self.calls + (self.has_kept or rests_on_length)
-        if moments < 2 and not was_refused:
+        if moments < 2 and not has_failed:
             return True
         try:
             with _named(self._path):
-                return self._told() == self._info
+                return self._reported() == self._info
         except FileNotFoundError:
             return False
 

@@ -12,7 +12,7 @@ from ._coder import Coder, Form, Representation
 from ._elements import empty, held, shape_of
 from ._files import File, Source
 from ._header import codec_list, copied, json_of
-from ._making import array_coder, coder_of, shard_of
+from ._coders import array_coder, coder_of, shard_of
 from ._rounds import Fetched
 from ._selections import select
 from ._types import AnyArray, Bytes, Shape

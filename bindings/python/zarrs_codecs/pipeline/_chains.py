@@ -16,7 +16,7 @@ from ..chain import Chain, coder_in
 from ..refusals import Refused
 from ._zarr2 import codecs_of
 
-# The codecs that mean the same there and here.
+# The codecs that are the same there and here.
 _CODECS = frozenset(
     {"bytes", "endian", "transpose", "crc32c", "vlen-utf8", "vlen-bytes", "sharding_indexed", "gzip", "zstd", "blosc"}
 )
@@ -140,7 +140,7 @@ def coding_of(codecs: "str | V2Codec", spec: Any) -> Coding:
 
 @lru_cache(_MOST_CHAINS)
 def _coding(codecs: str, shape: Shape, dtype: np.dtype[Any], fill: bytes | str) -> Coding | str:
-    """The same of a fill value by its bits; why not, where the library doesn't."""
+    """The same of a fill value by its bits; the reason, where the library doesn't."""
     declared = json.loads(codecs)
     try:
         if dtype.kind in "TO":

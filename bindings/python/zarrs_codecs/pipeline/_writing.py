@@ -15,7 +15,7 @@ from ._parts import Part
 from ._threads import IN_LOOP, in_thread, run_all, run_at_hand, run_together
 from ._values import is_at_hand, is_set_in_threads
 
-# The type of a buffer's bytes: int8 in zarr-python 3.0, uint8 later, and each refuses the other.
+# The type of a buffer's bytes: int8 in zarr-python 3.0, uint8 later, and each rejects the other.
 _BYTE = cpu.Buffer.create_zero_length().as_numpy_array().dtype
 
 

@@ -31,14 +31,14 @@ def _compressor(declared: dict[str, Any], size: int) -> dict[str, Any] | None:
     """A compressor of numcodecs as a codec of Zarr v3; None of another one."""
     match declared.get("id"):
         case "zstd":
-            said = {"level": declared["level"], "checksum": bool(declared.get("checksum", False))}
+            configuration = {"level": declared["level"], "checksum": bool(declared.get("checksum", False))}
         case "gzip":
-            said = {"level": declared["level"]}
+            configuration = {"level": declared["level"]}
         case "blosc":
             # -1 is a choice by the elements' size
             shuffle = _SHUFFLES.get(declared["shuffle"], "bitshuffle" if size == 1 else "shuffle")
-            said = {"cname": declared["cname"], "clevel": declared["clevel"], "shuffle": shuffle, "typesize": min(size, 255)}
-            said["blocksize"] = declared["blocksize"]
+            configuration = {key: declared[key] for key in ("cname", "clevel", "blocksize")}
+            configuration |= {"shuffle": shuffle, "typesize": min(size, 255)}
         case _:
             return None
-    return {"name": declared["id"], "configuration": said}
+    return {"name": declared["id"], "configuration": configuration}

@@ -1,4 +1,4 @@
-"""Bytes codecs that Python runs behind a chain, on whole values. Nothing about them is proved."""
+"""Bytes-to-bytes codecs that Python runs behind a chain, on whole values. Nothing about them is proved."""
 
 import ctypes
 import ctypes.util
@@ -36,9 +36,9 @@ _TIMES_WRITTEN, _GAP_BYTES = 4, 1 << 20
 
 @dataclass(frozen=True)
 class OuterCodec:
-    """A bytes codec's name, what it makes of bytes and back, and how many bytes it makes of so many at most.
+    """A bytes-to-bytes codec's name, what it makes of bytes and back, and how many bytes it makes of so many at most.
 
-    What makes a value of bytes is told how many that has at most, where that is known, and opens no more."""
+    What makes a value of bytes is given how many that has at most, where that is known, and opens no more."""
 
     name: str
     compress: Callable[[AnyArray], Any]
@@ -85,9 +85,9 @@ def most_of_each(codecs: list[OuterCodec], kind: str, size: int | None) -> list[
 
 
 def wrong(key: str, value: Any) -> NoReturn:
-    """Raises the refusal of a key that has this value, or of one that is missing."""
-    said = "is missing" if value is _MISSING else f"is {reprlib.repr(value)}"
-    error = InvalidConfiguration(f"{key} {said}")
+    """Raises the error of a key that has this value, or of one that is missing."""
+    state = "is missing" if value is _MISSING else f"is {reprlib.repr(value)}"
+    error = InvalidConfiguration(f"{key} {state}")
     error.key = key
     raise error
 
@@ -134,10 +134,10 @@ def _zstd_size(stored: Any) -> int | None:
     head = bytes(memoryview(stored).cast("B")[:18])
     if len(head) < 6 or head[:4] != _ZSTD_FRAME:
         return None
-    said = head[4]
-    is_single = bool(said & 32)
-    size = (1 if is_single else 0, 2, 4, 8)[said >> 6]
-    begin = 5 + (not is_single) + (0, 1, 2, 4)[said & 3]
+    flags = head[4]
+    is_single = bool(flags & 32)
+    size = (1 if is_single else 0, 2, 4, 8)[flags >> 6]
+    begin = 5 + (not is_single) + (0, 1, 2, 4)[flags & 3]
     if not size or len(head) < begin + size:
         return None
     return int.from_bytes(head[begin : begin + size], "little") + (256 if size == 2 else 0)
@@ -208,7 +208,7 @@ def _blosc(configuration: dict[str, Any]) -> OuterCodec:
     codec = blosc.Blosc(name, level, shuffle, _integer(configuration, "blocksize", 0, (1 << 31) - 1, 0))
 
     def compress(value: AnyArray) -> Any:
-        # the size of what is shuffled is told by the array's type
+        # the size of what is shuffled is known by the array's type
         has_whole_items = size > 1 and value.size % size == 0
         return codec.encode(value.view(f"V{size}") if has_whole_items else value)
 
@@ -254,7 +254,7 @@ def hint(name: str) -> str | None:
 
 
 def _made(codecs: list[Any], place: int) -> OuterCodec | None:
-    """The codec at a place, where it is one of those that Python runs and what it needs is installed. A refusal says that
+    """The codec at a place, where it is one of those that Python runs and what it needs is installed. An error says that
     it is of this one."""
     try:
         return _made_of(codecs[place])
