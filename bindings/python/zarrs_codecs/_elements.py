@@ -163,6 +163,14 @@ def _absent_too(kind: DataType, array: Any) -> tuple[AnyArray, AnyArray]:
     return data, absent
 
 
+def words_of(array: AnyArray) -> AnyArray:
+    """The bits of elements of one size, a row of whole numbers for each."""
+    size = array.dtype.itemsize
+    word = f"u{size}" if size in (1, 2, 4, 8) else "u1"
+    words: AnyArray = np.ascontiguousarray(array).reshape(-1).view(word).reshape(-1, size // np.dtype(word).itemsize)
+    return words
+
+
 def held(kind: DataType, array: Any) -> AnyArray:
     """Elements as the type holds them; whatever stands under absent ones, it is of the type.
 

@@ -21,6 +21,10 @@ from ._types import AnyArray, listed
 UNFINISHED = re.compile(r".*\.[0-9a-f]{16}\.tmp", re.DOTALL)
 # How many bytes of a file are fetched at a time, where a read needs more.
 PART_BYTES = 1 << 20
+# Ranges of a file that are as near as this are read by one call, since a call takes as long as so many bytes.
+_NEAR_IN_FILE = 1 << 13
+# A request of a far value, which has ranges in it that are near, has so many bytes at most.
+MOST_JOINED = 1 << 24
 
 
 def joined(ranges: AnyArray) -> AnyArray:
@@ -221,6 +225,16 @@ class File(Source):
         fetched = np.empty(end - begin, np.uint8)
         self._read(fetched.data, begin)
         return fetched
+
+
+class NearFile(File):
+    """An open file at hand, by its number: of ranges of it those that are near are read by one call."""
+
+    def pieces(self, ranges: AnyArray) -> AnyArray:
+        covering = near(listed(ranges), _NEAR_IN_FILE)
+        if len(covering) == len(ranges):
+            return super().pieces(ranges)
+        return cut(ranges, covering, [self.one_piece(*one) for one in covering])
 
 
 def _created(path: str) -> int:

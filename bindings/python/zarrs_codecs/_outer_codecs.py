@@ -4,6 +4,7 @@ import ctypes
 import ctypes.util
 import gzip
 import importlib
+import lzma
 import reprlib
 import zlib
 from collections.abc import Callable
@@ -19,19 +20,23 @@ from ._checksum import header_of, with_checksum, without_checksum
 from ._library import checked_name
 from ._locating import locate
 from ._locating import name_of as codec_name
+from ._numcodecs import NAMES, functions_of
+from ._opening import TooLong, blosc_part, check_size, gunzipped, zstd_size
 from ._types import AnyArray, Bytes
 from .refusals import BytesCodec, InvalidBytesLength, InvalidConfiguration, OutOfMemory, Refused
 
 _SHUFFLES = {"noshuffle": 0, "shuffle": 1, "bitshuffle": 2}
 _MISSING = object()
-# zlib's word for a gzip header and trailer, and how a frame of zstd begins.
-_GZIP_BITS, _ZSTD_FRAME = 31, b"\x28\xb5\x2f\xfd"
 # The parameters of libzstd.
 _ZSTD_LEVEL, _ZSTD_CHECKSUM = 100, 201
 # No compressor makes a value more than twice as long and so many bytes more.
 _LONGER_BYTES = 1 << 16
 # How many times as long as what is written here another writer's value may be, and how many bytes more.
 _TIMES_WRITTEN, _GAP_BYTES = 4, 1 << 20
+# What Python's and numcodecs' codecs raise of what they can't decode; the last one of too few bytes for a checksum.
+_FAILURES = (
+    *(OSError, EOFError, ValueError, RuntimeError, OverflowError, SystemError, zlib.error, lzma.LZMAError, IndexError),
+)
 
 
 @dataclass(frozen=True)
@@ -56,18 +61,14 @@ class OuterCodec:
             return np.frombuffer(self.decompress(stored, most), np.uint8)
         except MemoryError as error:
             raise OutOfMemory(f"{self.name}: {error}") from error
-        except _TooLong as error:
+        except TooLong as error:
             raise InvalidBytesLength(f"{self.name}: more than {most} bytes, where no more are due") from error
-        except (OSError, EOFError, ValueError, RuntimeError, OverflowError, SystemError, zlib.error) as error:
+        except _FAILURES as error:
             raise BytesCodec(f"{self.name}: {error}") from error
 
     def longest(self, size: int) -> int:
         """How many bytes are stored at most of a value of so many."""
         return size + CHECKSUM_LENGTH if self.name == CHECKSUM else 2 * size + _LONGER_BYTES
-
-
-class _TooLong(Exception):
-    """A value has more bytes than are due."""
 
 
 def most_of_each(codecs: list[OuterCodec], kind: str, size: int | None) -> list[int | None]:
@@ -108,39 +109,9 @@ def _one_of(configuration: dict[str, Any], key: str, values: Any, default: Any =
     return value
 
 
-def _gunzipped(stored: Any, most: int | None) -> bytes:
-    """What gzip's members hold, one behind another, and zeros behind them."""
-    parts, left, size = [], memoryview(stored).cast("B"), 0
-    while len(left):
-        member = zlib.decompressobj(_GZIP_BITS)
-        # 0 is as many as there are
-        parts.append(member.decompress(left, 0 if most is None else most - size + 1))
-        size += len(parts[-1])
-        if most is not None and size > most:
-            raise _TooLong
-        if not member.eof:
-            raise EOFError("it ends before its end-of-stream marker")
-        left = memoryview(member.unused_data.lstrip(b"\0"))
-    return parts[0] if len(parts) == 1 else b"".join(parts)
-
-
 def _gzip(configuration: dict[str, Any]) -> OuterCodec:
     level = _integer(configuration, "level", 0, 9)
-    return OuterCodec("gzip", lambda value: gzip.compress(value.data, level, mtime=0), _gunzipped)
-
-
-def _zstd_size(stored: Any) -> int | None:
-    """How many bytes a frame's header says that it opens to; None where it doesn't, or is no frame's."""
-    head = bytes(memoryview(stored).cast("B")[:18])
-    if len(head) < 6 or head[:4] != _ZSTD_FRAME:
-        return None
-    flags = head[4]
-    is_single = bool(flags & 32)
-    size = (1 if is_single else 0, 2, 4, 8)[flags >> 6]
-    begin = 5 + (not is_single) + (0, 1, 2, 4)[flags & 3]
-    if not size or len(head) < begin + size:
-        return None
-    return int.from_bytes(head[begin : begin + size], "little") + (256 if size == 2 else 0)
+    return OuterCodec("gzip", lambda value: gzip.compress(value.data, level, mtime=0), gunzipped)
 
 
 def _zstd(configuration: dict[str, Any]) -> OuterCodec:
@@ -157,9 +128,7 @@ def _zstd(configuration: dict[str, Any]) -> OuterCodec:
             compress = partial(_with_checksum, level=level)
 
     def decompress(stored: Any, most: int | None) -> Any:
-        size = _zstd_size(stored)
-        if most is not None and size is not None and size > most:
-            raise _TooLong
+        check_size(zstd_size(stored), most)
         return plain.decode(stored)
 
     return OuterCodec("zstd", compress, decompress)
@@ -188,17 +157,6 @@ def _with_checksum(value: AnyArray, level: int) -> Any:
         zstd.ZSTD_freeCCtx(context)
 
 
-def _blosc_part(stored: Any, most: int | None) -> memoryview:
-    """What is stored, which has as many bytes as its header says, and opens to as many as are due: numcodecs looks at
-    neither."""
-    part = memoryview(stored).cast("B")
-    if len(part) < 16 or len(part) != int.from_bytes(part[12:16], "little"):
-        raise ValueError(f"{len(part)} bytes, where its header says another number")
-    if most is not None and int.from_bytes(part[4:8], "little") > most:
-        raise _TooLong
-    return part
-
-
 def _blosc(configuration: dict[str, Any]) -> OuterCodec:
     blosc = importlib.import_module("numcodecs.blosc")
     name = _one_of(configuration, "cname", blosc.list_compressors())
@@ -212,7 +170,7 @@ def _blosc(configuration: dict[str, Any]) -> OuterCodec:
         has_whole_items = size > 1 and value.size % size == 0
         return codec.encode(value.view(f"V{size}") if has_whole_items else value)
 
-    return OuterCodec("blosc", compress, lambda stored, most: codec.decode(_blosc_part(stored, most)))
+    return OuterCodec("blosc", compress, lambda stored, most: codec.decode(blosc_part(stored, most)))
 
 
 def _checksum(codecs: list[Any], place: int) -> OuterCodec:
@@ -238,7 +196,21 @@ def _checksum(codecs: list[Any], place: int) -> OuterCodec:
     return OuterCodec(CHECKSUM, partial(with_checksum, codec), decompress, True)
 
 
-_MAKERS = {"gzip": _gzip, "zstd": _zstd, "blosc": _blosc}
+def _numcodecs(name: str, configuration: dict[str, Any]) -> OuterCodec | None:
+    """One of numcodecs' own, where it has it."""
+    try:
+        functions = functions_of(name, configuration)
+    except (TypeError, ValueError) as error:
+        raise InvalidConfiguration(f"numcodecs doesn't take {reprlib.repr(configuration)}: {error}") from error
+    return None if functions is None else OuterCodec(name, *functions)
+
+
+_MAKERS: dict[str, Callable[[dict[str, Any]], OuterCodec | None]] = {
+    "gzip": _gzip,
+    "zstd": _zstd,
+    "blosc": _blosc,
+    **{name: partial(_numcodecs, name) for name in NAMES},
+}
 # Names that the library has in another form.
 _OTHER_NAMES = {"squeeze": "zarrs.squeeze", "vlen": "zarrs.vlen"}
 

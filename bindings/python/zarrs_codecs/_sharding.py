@@ -8,7 +8,7 @@ import numpy as np
 
 from ._outer_codecs import split, wrong
 from ._coder import Coder, Cut, Form, Maker, Piece, Representation, Shard
-from ._elements import empty, mask_of, picked, put, spread
+from ._elements import empty, mask_of, picked, put, spread, words_of
 from ._files import Held
 from ._grid import Grid
 from ._header import copied, json_of
@@ -272,14 +272,18 @@ class ShardCoder(Shard):
 
     def _is_same(self, one: AnyArray, other: AnyArray) -> bool:
         """Whether two inner chunks have the same elements, bit by bit."""
-        absent = mask_of(one)
-        if (absent != mask_of(other)).any():
+        absent: AnyArray | None = mask_of(one) if self.form.kind.is_optional else None
+        if absent is not None and (absent != mask_of(other)).any():
             return False
         one, other = (np.asarray(each) for each in (one, other))
         if self.form.dtype == object:
-            return bool((absent | (one == other)).all())
-        bits = [np.ascontiguousarray(each).view(f"V{self.form.dtype.itemsize}") for each in (one, other)]
-        return bool((absent | (bits[0] == bits[1])).all())
+            same: AnyArray = np.asarray(one == other)
+            return bool((same if absent is None else absent | same).all())
+        words, others = words_of(one), words_of(other)
+        if absent is not None:
+            return bool((absent.reshape(-1) | (words == others).all(axis=1)).all())
+        # mostly the first element differs
+        return bool((words[0] == others[0]).all() and (words == others).all())
 
     def _part(self, elements: AnyArray) -> Bytes | None:
         """What is stored of an inner chunk; None where it has fill values alone."""

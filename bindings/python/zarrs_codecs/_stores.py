@@ -14,7 +14,7 @@ from typing import Any
 import numpy as np
 
 from ._cache import State
-from ._files import File, Source, bytes_of, counted, joined, opened, replace
+from ._files import MOST_JOINED, File, NearFile, Source, bytes_of, counted, cut, near, opened, replace
 from ._types import AnyArray, listed
 
 # Words of `info` that differ after a change, in whatever case: tags, of which each value has its own, and times.
@@ -54,9 +54,10 @@ class Folder:
 
 class Store(Folder):
     """The files that an object opens by their paths. Where it has `info` and `cat_ranges`, as fsspec's file systems
-    have, it fetches all ranges of a file that a read needs by one call. It isn't written."""
+    have, it fetches all ranges of a file that a read needs by one call, those that are near as one. It isn't written."""
 
-    def __init__(self, store: Any) -> None:
+    def __init__(self, store: Any, near: int) -> None:
+        self._near = near
         if not hasattr(store, "open"):
             raise TypeError(f"a {type(store).__name__} opens no files")
         self._store = store
@@ -64,7 +65,7 @@ class Store(Folder):
 
     def open(self, path: str) -> Source:
         with _named(path):
-            return _Ranged(self._store, path) if self._has_ranges else _Opened(self._store.open(path))
+            return _Ranged(self._store, path, self._near) if self._has_ranges else _Opened(self._store.open(path))
 
     def read(self, path: str) -> bytes:
         with _named(path), closing(self._store.open(path)) as file:
@@ -89,7 +90,7 @@ def _named(path: str) -> Iterator[None]:
         raise FileNotFoundError(f"the store has no {path}") from error
 
 
-class _Own(File):
+class _Own(NearFile):
     """A file that was opened for a read, by its number."""
 
     def close(self) -> None:
@@ -125,8 +126,8 @@ def _moment(reported: Any) -> float | None:
 class _Ranged(Source):
     """A file of a store of which several ranges are fetched by one call, each time by its path."""
 
-    def __init__(self, store: Any, path: str) -> None:
-        self._store, self._path = store, path
+    def __init__(self, store: Any, path: str, near: int) -> None:
+        self._store, self._path, self._near = store, path, near
         self._info = self._reported()
         if self._info.get("type") == "directory":
             raise FileNotFoundError(f"{path} is a folder")
@@ -168,7 +169,8 @@ class _Ranged(Source):
         if not len(ranges):
             return np.empty(0, np.uint8)
         self.calls += 1
-        begins, ends = (listed(column) for column in joined(ranges).T)
+        covering = near(listed(ranges), self._near, MOST_JOINED)
+        begins, ends = (list(column) for column in zip(*covering, strict=True))
         parts = self._store.cat_ranges([self._path] * len(begins), begins, ends)
         if not isinstance(parts, (list, tuple)) or len(parts) != len(begins):
             raise OSError(f"a store answered {reprlib.repr(parts)}, where {len(begins)} parts are due")
@@ -177,4 +179,4 @@ class _Ranged(Source):
                 raise part
             if len(bytes_of(part, end - begin)) < end - begin:
                 raise EOFError("the file ended while it was read")
-        return np.frombuffer(bytearray().join(parts), np.uint8)
+        return cut(ranges, covering, [np.frombuffer(part, np.uint8) for part in parts])

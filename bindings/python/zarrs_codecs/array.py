@@ -24,6 +24,8 @@ from ._stores import Folder, Store
 from ._types import AnyArray, Shape, sizes_of
 from .chain import array_chain, coder_in
 from .refusals import InvalidFillValue, Refused
+# Ranges of a store's file with so many bytes between them, or fewer, are one request.
+_NEAR = 1 << 16
 
 
 class Info(dict[str, Any]):
@@ -68,6 +70,9 @@ class Array:
         What opens files by `store.open(path)`, whose paths begin with `folder`: each file has `seek`, and `readinto` or
         `read`, and one that isn't there is a `FileNotFoundError` or a `KeyError`, as `zipfile.ZipFile` has it. Such an array
         isn't written: `io.UnsupportedOperation` is raised.
+    coalesce : int, optional
+        Ranges of a store's file with so many bytes between them, or fewer, are one request, of 16 MiB at most: as many as
+        come in the time that a request takes.
 
     Attributes
     ----------
@@ -116,13 +121,20 @@ class Array:
     """
 
     def __init__(
-        self, folder: str | os.PathLike[str], *, cache: int = 1 << 25, threads: int = 1, store: Any = None
+        self,
+        folder: str | os.PathLike[str],
+        *,
+        cache: int = 1 << 25,
+        threads: int = 1,
+        store: Any = None,
+        coalesce: int = _NEAR,
     ) -> None:
         self._store, self._settings = store, {"cache": operator.index(cache), "threads": operator.index(threads)}
+        self._coalesce = operator.index(coalesce)
         self._folder = os.path.abspath(folder) if store is None else os.fspath(folder).rstrip("/")
         self.folder = Path(self._folder)
         path = self.folder / "zarr.json"
-        files = Folder() if store is None else Store(store)
+        files = Folder() if store is None else Store(store, coalesce)
         root = f"{self._folder}/" if self._folder else ""
         try:
             found = metadata_of(files, root)
@@ -296,7 +308,7 @@ class Array:
         return f"Array({self._folder!r})"
 
     def __reduce__(self) -> tuple[Any, ...]:
-        return _opened, (self._folder, self._store, self._settings)
+        return _opened, (self._folder, self._store, {**self._settings, "coalesce": self._coalesce})
 
     def __len__(self) -> int:
         if not self.shape:

@@ -29,8 +29,8 @@ class Chain:
     Floats cross as unsigned integers of their size, complex numbers as two of them, `rN` as void elements; `string` and
     `bytes` have object arrays, an optional type (`{"optional": TYPE}`) masked ones.
 
-    Where `gzip`, `zstd` or `blosc` come last, with `crc32c` or without, Python runs them, on whole values: nothing about
-    them is proved, and the last two need numcodecs. So it does where they come last in the `codecs` of
+    Where `gzip`, `zstd`, `blosc` or `numcodecs.*` come last, with `crc32c` or without, Python runs them, on whole values:
+    nothing about them is proved, and all but the first need numcodecs. So it does where they come last in the `codecs` of
     `sharding_indexed`, alone in the list: Python then cuts the chunk.
 
     A value goes in as any buffer and comes out as an array of `uint8`. A selection is a basic index of

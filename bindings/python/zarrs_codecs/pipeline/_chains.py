@@ -11,15 +11,17 @@ from zarr.core.codec_pipeline import fill_value_or_default
 
 from .._data_types import zarrs_own
 from .._layout import SHARDS, behind_transpositions
+from .._numcodecs import NAMES as NUMCODECS
 from .._types import Shape
 from ..chain import Chain, coder_in
 from ..refusals import Refused
 from ._zarr2 import codecs_of
 
-# The codecs that are the same there and here.
-_CODECS = frozenset(
-    {"bytes", "endian", "transpose", "crc32c", "vlen-utf8", "vlen-bytes", "sharding_indexed", "gzip", "zstd", "blosc"}
-)
+# The codecs that are the same there and here, and where zarr-python has the classes of its own.
+_CODECS = NUMCODECS | {
+    *("bytes", "endian", "transpose", "crc32c", "vlen-utf8", "vlen-bytes", "sharding_indexed", "gzip", "zstd", "blosc")
+}
+_THEIR_MODULES = ("zarr.codecs.", "numcodecs.zarr3")
 # A value of so many bytes, or fewer, is read at once.
 _SMALL = 1 << 16
 # Chains of so many forms of chunks are kept.
@@ -80,7 +82,7 @@ class Coding:
 def _check_codec(codec: Any) -> None:
     """Raises `NotTaken` of a codec that isn't zarr-python's own: of one that somebody has registered in its place another
     meaning is taken."""
-    if not type(codec).__module__.startswith("zarr.codecs."):
+    if not type(codec).__module__.startswith(_THEIR_MODULES):
         raise NotTaken(f"the codec {type(codec).__qualname__} isn't zarr-python's own")
     for inner in (*getattr(codec, "codecs", ()), *getattr(codec, "index_codecs", ())):
         _check_codec(inner)
@@ -117,7 +119,10 @@ def native(dtype: Any) -> np.dtype[Any]:
 
 def coding_of(codecs: "str | V2Codec", spec: Any) -> Coding:
     """How the library codes chunks, whose form zarr-python declares so. Raises `NotTaken` where it doesn't."""
-    dtype, fill = native(spec.dtype), fill_value_or_default(spec)
+    dtype = native(spec.dtype)
+    if dtype.fields is not None:
+        raise NotTaken(f"elements are a struct of {', '.join(dtype.fields)}")
+    fill = fill_value_or_default(spec)
     if isinstance(codecs, V2Codec):
         declared = codecs_of(codecs, dtype, spec.order, len(spec.shape))
         if declared is None:

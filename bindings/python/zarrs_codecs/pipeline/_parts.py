@@ -7,6 +7,7 @@ from typing import Any
 import numpy as np
 
 from .._dense import touched_chunks
+from .._elements import words_of
 from .._files import Source
 from .._selections import Selection, select
 from .._types import AnyArray, Bytes, Shape
@@ -161,7 +162,5 @@ def is_filled(elements: AnyArray, fill: Any) -> bool:
     first: Any = (*(0,) * elements.ndim, ...)
     if elements[first].tobytes() != bits:
         return False
-    size = elements.dtype.itemsize
-    word = f"u{size}" if size in (1, 2, 4, 8) else "u1"
-    words = np.ascontiguousarray(elements).reshape(-1).view(word).reshape(-1, len(bits) // np.dtype(word).itemsize)
-    return bool((words == np.frombuffer(bits, word)).all())
+    words = words_of(elements)
+    return bool((words == np.frombuffer(bits, words.dtype)).all())

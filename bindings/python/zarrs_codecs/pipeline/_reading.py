@@ -48,7 +48,9 @@ class Read:
                 error.path = str(self.getter)
             raise
         if found is not None:
-            self.answer[self.there] = found.squeeze(axis=self.drop_axes) if self.drop_axes else found
+            found = found.squeeze(axis=self.drop_axes) if self.drop_axes else found
+            # an array of one byte string numpy would put into an array of objects as it is
+            self.answer[self.there] = found[()] if found.ndim == 0 and found.dtype == object else found
         return True
 
     def from_value(self, value: Any) -> bool:
