@@ -1,5 +1,6 @@
 """The docstrings of public names: numpydoc's sections, with each parameter in its place."""
 
+import dataclasses
 import importlib.util
 import inspect
 import re
@@ -56,7 +57,7 @@ def test_parameters_of(name):
     """Each parameter has its line, in order, and each function that returns something says what."""
     thing = PUBLIC[name]
     found = sections(thing.__doc__)
-    is_made_of_fields = inspect.isclass(thing) and "__init__" not in vars(thing)
+    is_made_of_fields = inspect.isclass(thing) and ("__init__" not in vars(thing) or dataclasses.is_dataclass(thing))
     signature = inspect.signature(thing.__init__ if inspect.isclass(thing) else thing)
     due = [] if is_made_of_fields else [one for one in signature.parameters if one not in ("self", "cls")]
     lines = re.findall(r"^(?:\*\*)?(\w[\w, ]*?)(?: : .*)?$", found.get("Parameters", ""), re.MULTILINE)

@@ -6,6 +6,7 @@ from dataclasses import dataclass
 from functools import partial
 from typing import Any
 
+import numpy as np
 from zarr.core.codec_pipeline import fill_value_or_default
 from zarr.core.config import config
 
@@ -50,7 +51,8 @@ class Read:
         if found is not None:
             found = found.squeeze(axis=self.drop_axes) if self.drop_axes else found
             # an array of one byte string numpy would put into an array of objects as it is
-            self.answer[self.there] = found[()] if found.ndim == 0 and found.dtype == object else found
+            is_one = self.answer.dtype == object and isinstance(found, np.ndarray) and found.ndim == 0
+            self.answer[self.there] = found[()] if is_one else found
         return True
 
     def from_value(self, value: Any) -> bool:
