@@ -48,10 +48,10 @@ def _codecs(draws, kind, shape):
     sizes = [draws.one_of([part for part in range(1, size + 1) if size % part == 0]) for size in shape]
     if before:
         # zarr-python 3.0 holds the sizes to the chunk's own, in the order that it has before the transposition
-        sizes, behind = [draws.one_of([part for part in range(1, 5) if math.gcd(*shape) % part == 0])] * len(shape), []
+        sizes = [draws.one_of([part for part in range(1, 5) if math.gcd(*shape) % part == 0])] * len(shape)
     index = [draws.one_of([LITTLE, BIG]), *[CHECKSUM] * draws.below(2)]
     keys = {"chunk_shape": sizes, "codecs": [*inside, *behind], "index_codecs": index, "index_location": draws.one_of(["end", "start"])}
-    return [*before, {"name": "sharding_indexed", "configuration": keys}]
+    return [*before, {"name": "sharding_indexed", "configuration": keys}, *[CHECKSUM] * draws.chance(4)]
 
 
 def _fill(draws, kind):

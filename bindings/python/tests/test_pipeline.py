@@ -225,6 +225,20 @@ def test_numcodecs_at_the_end_of_a_list(name, shards):
     same_bits(array[...], new)
 
 
+@pytest.mark.parametrize("behind", [None, [Crc32cCodec()], [ZstdCodec(level=1), Crc32cCodec()]], ids=["", "checksum", "zstd"])
+def test_shards_of_zstd_behind_a_transposition(behind):
+    shard = ShardingCodec(chunk_shape=(2, 2), codecs=[BytesCodec(), ZstdCodec(level=1)])
+    array = small(filters=[TransposeCodec(order=(1, 0))], serializer=shard, compressors=behind)
+    new = np.arange(48, dtype="u2").reshape(6, 8)
+    with counted() as stats:
+        array[...] = new
+        array[3, 3:6] = new[3, 3:6] = 99
+        same_bits(array[1:5, 2:], new[1:5, 2:])
+    assert stats.written and stats.read and not stats.reasons, stats
+    theirs = opened(array, THEIRS)
+    same_bits(theirs[...], new)
+
+
 def test_numcodecs_elsewhere_are_run_by_zarr_python():
     codec = their_numcodecs().Delta(dtype="<u2")
     array = small(filters=[codec], compressors=None)

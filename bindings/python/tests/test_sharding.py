@@ -223,7 +223,7 @@ def test_chains_with_codecs_of_python_inside(rng):
     same(chain.reencode(value, whole.codecs), whole.encode(array))
     same(whole.reencode(whole.encode(array), said), value)
     with pytest.raises(z.UnknownName, match="Python runs gzip"):
-        Chain([transpose([1, 0]), *said], (4, 4), "int16")
+        Chain([{"name": "reshape", "configuration": {"shape": [4, 4]}}, *said], (4, 4), "int16")
 
 
 def test_an_array_whose_shards_stand_between_other_codecs(tmp_path, rng):

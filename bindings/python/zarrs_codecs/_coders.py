@@ -5,7 +5,9 @@ from typing import Any
 from ._coder import Coder, Form, Shard
 from ._layout import is_sharded
 from ._library_coder import LibraryCoder
+from ._outer_codecs import are_outer
 from ._sharding import ShardCoder, has_pythons
+from ._wrapped import WrappedShard, shard_place
 
 
 def shard_of(codecs: list[Any], form: Form) -> Shard:
@@ -15,7 +17,12 @@ def shard_of(codecs: list[Any], form: Form) -> Shard:
 
 def coder_of(codecs: list[Any], form: Form) -> Coder:
     """The coder of a list of codecs. Raises the error of the codecs for such chunks, if there is one."""
-    return shard_of(codecs, form) if has_pythons(codecs) else LibraryCoder(codecs, form, shard_of)
+    if has_pythons(codecs):
+        return shard_of(codecs, form)
+    place = shard_place(codecs, len(form.shape))
+    if place is not None and are_outer(codecs, place + 1):
+        return WrappedShard(codecs, form, place, coder_of)
+    return LibraryCoder(codecs, form, shard_of)
 
 
 def array_coder(coder: Coder, codecs: list[Any]) -> Coder:

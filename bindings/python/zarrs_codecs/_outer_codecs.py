@@ -263,5 +263,14 @@ def _first_of_pythons(codecs: list[Any]) -> int:
 def split(codecs: list[Any]) -> tuple[list[Any], list[OuterCodec]]:
     """The codecs that the library runs, and those behind them that Python runs, the first one first."""
     first = _first_of_pythons(codecs)
-    outer = (_made(codecs, place) or _checksum(codecs, place) for place in range(first, len(codecs)))
-    return codecs[:first], list(outer)
+    return codecs[:first], all_outer(codecs, first)
+
+
+def are_outer(codecs: list[Any], first: int) -> bool:
+    """Whether each codec from this place on is one that Python runs, or a checksum."""
+    return all(codec_name(codecs[at]) == CHECKSUM or _made(codecs, at) is not None for at in range(first, len(codecs)))
+
+
+def all_outer(codecs: list[Any], first: int) -> list[OuterCodec]:
+    """The codecs from this place on, which are such."""
+    return [_made(codecs, place) or _checksum(codecs, place) for place in range(first, len(codecs))]

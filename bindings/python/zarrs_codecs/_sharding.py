@@ -59,7 +59,9 @@ def _has_pythons(codecs: Any) -> bool:
     declared = codecs[0].get("configuration")
     inner = declared.get("codecs") if isinstance(declared, dict) else None
     try:
-        return isinstance(inner, (list, tuple)) and (bool(split(list(inner))[1]) or _has_pythons(inner))
+        return isinstance(inner, (list, tuple)) and (
+            bool(split(list(inner))[1]) or any(_has_pythons([codec]) for codec in inner)
+        )
     except Refused:
         # one of them, with a key that is wrong
         return True

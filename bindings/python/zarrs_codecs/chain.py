@@ -8,7 +8,7 @@ import numpy as np
 import numpy.typing as npt
 from numpy.typing import ArrayLike
 
-from ._coder import Coder, Form, Representation
+from ._coder import Coder, Form, Representation, Shard
 from ._elements import empty, held, shape_of
 from ._files import File, Source
 from ._header import codec_list, copied, json_of
@@ -31,7 +31,7 @@ class Chain:
 
     Where `gzip`, `zstd`, `blosc` or `numcodecs.*` come last, with `crc32c` or without, Python runs them, on whole values:
     nothing about them is proved, and all but the first need numcodecs. So it does where they come last in the `codecs` of
-    `sharding_indexed`, alone in the list: Python then cuts the chunk.
+    `sharding_indexed`, behind transpositions alone and before such codecs: Python then cuts the chunk.
 
     A value goes in as any buffer and comes out as an array of `uint8`. A selection is a basic index of
     numpy, or a list or an array of elements' indices, a row for each. Each error is an exception of the
@@ -138,7 +138,7 @@ class Chain:
         return f"Chain({self.codecs!r}, {self.shape}, {self.data_type!r}, {self.fill_value!r})"
 
     def __reduce__(self) -> tuple[Any, ...]:
-        made = cut_chain if self._coder.is_composed else Chain
+        made = cut_chain if isinstance(self._coder, Shard) else Chain
         return made, (self.codecs, self.shape, self.data_type, self.fill_value)
 
     def check(self) -> None:
