@@ -45,15 +45,15 @@ def metadata_of(shape, chunks, kind, fill, codecs, keys, **more):
 class Built:
     """An array in a folder, and its elements."""
 
-    def __init__(self, draws, say, folder, most=9):
+    def __init__(self, draws, say, folder, most=9, some_kind=some_kind, some_codecs=some_codecs, some_fill=None, keys=KEYS, least=0):
         self.folder = folder
         self.kind = some_kind(draws)
         axes = draws.below(4)
         self.chunks = tuple(draws.between(1, 4) for _ in range(axes))
-        self.shape = tuple(draws.between(1, most) if draws.below(12) else 0 for _ in range(axes))
-        self.fill = some_chunk(draws, self.kind, ())
+        self.shape = tuple(draws.between(1, most) if draws.below(12) else least for _ in range(axes))
+        self.fill = some_fill(draws, self.kind) if some_fill else some_chunk(draws, self.kind, ())
         self.codecs = some_codecs(draws, self.kind, self.chunks)
-        self.keys = draws.one_of(KEYS)
+        self.keys = draws.one_of(keys)
         self.stored = {}
         said = metadata_of(self.shape, self.chunks, self.kind.name, fill_json(self.kind, self.fill), self.codecs, self.keys)
         say(f"zarr.json: {json.dumps(said)}")

@@ -1,5 +1,7 @@
 """Which program a seed makes."""
 
+import importlib.metadata
+import importlib.util
 import random
 
 import array_programs
@@ -43,6 +45,10 @@ PROGRAMS = {
     "damaged": (damage_programs.damaged, 15),
     "broken-files": (damage_programs.broken_files, 5),
 }
+if importlib.util.find_spec("zarr") and int(importlib.metadata.version("zarr").split(".")[0]) >= 3:
+    import pipeline_programs
+
+    PROGRAMS["pipeline"] = (pipeline_programs.pipeline, 10)
 
 
 def chosen_of(names):

@@ -112,8 +112,8 @@ def test_whose_a_refusal_is_is_asked_once(monkeypatch):
     chain = Chain(["bytes", "crc32c"], (4,), "uint8")
     damaged = b"abcd" + bytes(4)
     asked = []
-    found = _locating._is_refused_by
-    monkeypatch.setattr(_locating, "_is_refused_by", lambda *given: asked.append(given) or found(*given))
+    found = _locating._fails
+    monkeypatch.setattr(_locating, "_fails", lambda *given: asked.append(given) or found(*given))
     with pytest.raises(z.BytesCodec, match="by codec 1, 'crc32c'"):
         chain.decode(damaged)
     assert len(asked) == 1

@@ -8,6 +8,9 @@ from samples import LITTLE, VLEN, RecordingFile, optional, same, same_masked, so
 from test_sharding import sharded
 
 from zarrs_codecs import Chain, InvalidByteRange, InvalidBytesLength, Refused
+from zarrs_codecs._lacking import Lacking
+from zarrs_codecs._library_reads import LibraryReader
+from zarrs_codecs.chain import coder_in
 
 SIDE = 128
 SELECTIONS = [np.s_[:], np.s_[::3, ::-2], np.s_[1:, 5:-7], np.s_[:, 3], "points"]
@@ -15,13 +18,13 @@ SELECTIONS = [np.s_[:], np.s_[::3, ::-2], np.s_[1:, 5:-7], np.s_[:, 3], "points"
 
 def calls_of(monkeypatch):
     """The library's calls that say what is lacking: each reads an index as a whole."""
-    calls, lacking = [], Chain._lacking
+    calls, ranges = [], Lacking.ranges
 
-    def counted(chain, *arguments):
+    def counted(lacking, *arguments):
         calls.append(arguments)
-        return lacking(chain, *arguments)
+        return ranges(lacking, *arguments)
 
-    monkeypatch.setattr(Chain, "_lacking", counted)
+    monkeypatch.setattr(Lacking, "ranges", counted)
     return calls
 
 
@@ -48,7 +51,7 @@ def test_few_calls_and_the_same_elements(codecs, selection, rng, monkeypatch):
     same(chain.read(value, index), expected)
     calls, file = calls_of(monkeypatch), RecordingFile(value)
     same(chain.read_from(file, index), expected)
-    assert len(calls) <= (4 if chain._cut else 20)
+    assert len(calls) <= (4 if coder_in(chain).cut else 20)
     out = np.empty(expected.shape, "u1")
     assert chain.read(value, index, out) is out and (out == expected).all()
     assert chain.read_from(file, index, out) is out and (out == expected).all()
@@ -98,13 +101,13 @@ def test_which_inner_chunk_is_damaged_is_found_soon(place, rng, monkeypatch):
     chain = Chain(sharded([1, 1], ["bytes", "crc32c"]), array.shape, "uint8", 0)
     value = chain.encode(array)
     value[place] ^= 255
-    read_elements, read = [], Chain._read
+    read_elements, read = [], LibraryReader._read
 
     def counted(self, inner, chosen, *more):
         read_elements.append(np.prod(chosen.shape))
         return read(self, inner, chosen, *more)
 
-    monkeypatch.setattr(Chain, "_read", counted)
+    monkeypatch.setattr(LibraryReader, "_read", counted)
     calls = calls_of(monkeypatch)
     named = f"inner chunk {0 if place == 3 else SIDE * SIDE - 1}\\b"
     for refused in (chain.decode, lambda stored: chain.read(stored, ...), lambda stored: chain.read(stored, np.s_[:, ::-1])):

@@ -17,6 +17,7 @@ from zarrs_codecs import Chain, OutOfMemory, UnknownName
 from zarrs_codecs import _kept as kept_module
 from zarrs_codecs._kept import _Handle
 from zarrs_codecs._library import Sizes, library
+from zarrs_codecs.chain import coder_in
 
 ARRAY = np.arange(12, dtype="int32").reshape(3, 4)
 BYTES = b'{"shape": [4], "data_type": "uint8", "fill_value": "09", "codecs": ["bytes"]}'
@@ -30,7 +31,7 @@ def made():
 
 def handles(chain):
     """What stands in the handles that no call uses."""
-    return [(it._obj.is_there, it._obj.at) for it in chain._kept._idle]
+    return [(it._obj.is_there, it._obj.at) for it in coder_in(chain)._kept._idle]
 
 
 def test_a_header_is_read_once(monkeypatch):
@@ -127,14 +128,14 @@ def test_where_no_more_can_be_kept(monkeypatch):
     """A call that needs a handle of its own is refused where there is no memory for it; the others go on."""
     chain = made()
     value = chain.encode(ARRAY)
-    held = chain._kept._idle.pop()
+    held = coder_in(chain)._kept._idle.pop()
     with monkeypatch.context() as refusing:
         refusing.setattr(library, "zarrs_chain_new", lambda *_: 10)
         with pytest.raises(OutOfMemory):
             chain.decode(value)
         assert not handles(chain)
     same(chain.decode(value), ARRAY)
-    chain._kept._idle.append(held)
+    coder_in(chain)._kept._idle.append(held)
     assert len(handles(chain)) == 2
     same(chain.decode(value), ARRAY)
 
@@ -199,6 +200,7 @@ import numpy as np
 from zarrs_codecs import Chain, Refused
 from zarrs_codecs._kept import Kept
 from zarrs_codecs._library import library
+from zarrs_codecs.chain import coder_in
 little = {"name": "bytes", "configuration": {"endian": "little"}}
 
 def held():
@@ -235,7 +237,7 @@ def some_threads(count, chain):
 
 def all_of_it(handles, chains, threads):
     chain = Chain([little], (2, 2), "uint16")
-    some_handles(handles, chain._header)
+    some_handles(handles, coder_in(chain)._header)
     some_chains(chains)
     some_threads(threads, chain)
 

@@ -1,6 +1,7 @@
 """The codec pipeline for zarr-python 3: what it is to zarr-python, which chunks it takes, and what it stores."""
 
 import asyncio
+import importlib
 import importlib.util
 import multiprocessing
 import os
@@ -15,7 +16,7 @@ from pathlib import Path
 
 import numpy as np
 import pytest
-from pipelines import IS_3_0, OURS, THEIRS, Far, counted, made, opened, same_bits, using
+from pipelines import IS_3_0, OURS, THEIRS, Far, counted, made, opened, same_bits, some_store, using
 
 import zarr
 import zarrs_codecs as z
@@ -167,29 +168,90 @@ def test_codecs_that_arent_zarr_pythons_own_are_run_by_zarr_python():
         assert list(stats.reasons) == ["the codec OtherBytes isn't zarr-python's own"]
 
 
-@pytest.mark.skipif(IS_3_0, reason="zarr-python 3.0 has no such types, nor such codecs of its own")
-def test_other_types_and_codecs_are_run_by_zarr_python():
+@pytest.mark.parametrize("form", [2, pytest.param(3, marks=pytest.mark.skipif(IS_3_0, reason="zarr-python 3.0 has no such type"))])
+def test_structs_are_run_by_zarr_python(form):
+    """Chunk for chunk; the statistics say why."""
     kind = np.dtype([("a", "u1"), ("b", "<f4")])
-    array = small(dtype=kind)
+    array = small(dtype=kind, zarr_format=form, fill_value=None if form == 2 else np.zeros((), kind)[()], compressors=None)
     new = np.zeros((6, 8), kind)
-    new["b"] = 1.5
+    new["b"] = np.arange(48).reshape(6, 8)
     with counted() as stats:
         array[...] = new
         same_bits(array[...], new)
-    assert stats.written == stats.read == 0 and any("UnsupportedDataType" in it for it in stats.reasons)
-    from zarr.codecs import numcodecs
+        same_bits(array[1:5, 2], new[1:5, 2])
+    assert stats.written == stats.read == 0
+    assert stats.written_by_zarr_python == 4 and stats.read_by_zarr_python == 6
+    assert dict(stats.reasons) == {"elements are a struct of a, b": 10}
+    same_bits(opened(array, THEIRS)[...], new)
 
-    array = small(compressors=[numcodecs.LZ4()])
+
+# zarr-python's names of numcodecs' codecs, and what it makes them of
+NUMCODECS = {
+    "Zlib": {"level": 1},
+    "GZip": {"level": 1},
+    "BZ2": {"level": 1},
+    "LZMA": {"preset": 1},
+    "LZ4": {"acceleration": 1},
+    "Zstd": {"level": 1},
+    "Blosc": {"cname": "lz4", "clevel": 5, "shuffle": 1, "blocksize": 0},
+    "Shuffle": {"elementsize": 2},
+    "CRC32": {},
+    "Adler32": {},
+    "Fletcher32": {},
+    "JenkinsLookup3": {},
+}
+
+
+def their_numcodecs():
+    """The module that has zarr-python's classes of numcodecs' codecs."""
+    return importlib.import_module("zarr.codecs.numcodecs" if importlib.util.find_spec("zarr.codecs.numcodecs") else "numcodecs.zarr3")
+
+
+@pytest.mark.parametrize("shards", [None, (4, 8)], ids=["chunks", "shards"])
+@pytest.mark.parametrize("name", NUMCODECS)
+def test_numcodecs_at_the_end_of_a_list(name, shards):
+    codec = getattr(their_numcodecs(), name)(**NUMCODECS[name])
+    array = small(compressors=[codec], shards=shards, chunks=(2, 4))
+    new = np.arange(48, dtype="u2").reshape(6, 8)
+    with counted() as stats:
+        array[...] = new
+        same_bits(array[1:5, 2:], new[1:5, 2:])
+        array[3, 3:6] = new[3, 3:6] = 99
+        same_bits(array[...], new)
+    assert stats.written and stats.read and not stats.reasons, stats
+    theirs = opened(array, THEIRS)
+    same_bits(theirs[...], new)
+    theirs[1, 1:7] = new[1, 1:7] = 77
+    same_bits(array[...], new)
+
+
+@pytest.mark.parametrize("behind", [None, [Crc32cCodec()], [ZstdCodec(level=1), Crc32cCodec()]], ids=["", "checksum", "zstd"])
+def test_shards_of_zstd_behind_a_transposition(behind):
+    shard = ShardingCodec(chunk_shape=(2, 2), codecs=[BytesCodec(), ZstdCodec(level=1)])
+    array = small(filters=[TransposeCodec(order=(1, 0))], serializer=shard, compressors=behind)
+    new = np.arange(48, dtype="u2").reshape(6, 8)
+    with counted() as stats:
+        array[...] = new
+        array[3, 3:6] = new[3, 3:6] = 99
+        same_bits(array[1:5, 2:], new[1:5, 2:])
+    assert stats.written and stats.read and not stats.reasons, stats
+    theirs = opened(array, THEIRS)
+    same_bits(theirs[...], new)
+
+
+def test_numcodecs_elsewhere_are_run_by_zarr_python():
+    codec = their_numcodecs().Delta(dtype="<u2")
+    array = small(filters=[codec], compressors=None)
     with counted() as stats:
         array[...] = 9
         assert (array[2:] == 9).all()
-    assert stats.written == stats.read == 0 and "numcodecs.lz4" in repr(stats)
+    assert stats.written == stats.read == 0 and "numcodecs.delta" in repr(stats)
 
 
 def test_arrays_of_zarr_2_with_other_codecs_are_run_by_zarr_python():
     import numcodecs
 
-    for more in ({"compressors": numcodecs.Zlib(1)}, {"filters": [numcodecs.Delta("u2")]}):
+    for more in ({"filters": [numcodecs.Delta("u2")]}, {"filters": [numcodecs.Shuffle(2), numcodecs.Delta("u2")]}):
         array = made(MemoryStore(), shape=(6,), chunks=(4,), dtype="u2", zarr_format=2, **more)
         with counted() as stats:
             array[...] = np.arange(6)
@@ -262,6 +324,15 @@ def spec_of(array):
     array[...]
     object.__setattr__(array._async_array, "codec_pipeline", ours)
     return asked[0]
+
+
+@pytest.mark.parametrize("store", ["memory", "folder", "far"])
+def test_one_byte_string_without_axes(store, tmp_path):
+    """zarr-python 3.0 has an array of it in the array."""
+    array = made(some_store(store, tmp_path), shape=(), chunks=(), dtype="bytes" if IS_3_0 else "variable_length_bytes")
+    array[...] = np.array(b"ab\0", object)
+    found = array[...]
+    assert (found[()] if isinstance(found, np.ndarray) else found) == b"ab\0"
 
 
 def test_an_empty_batch():

@@ -206,6 +206,9 @@ COMPRESSORS = {
     "gzip": {"id": "gzip", "level": 1},
     "blosc": {"id": "blosc", "cname": "lz4", "clevel": 5, "shuffle": 1, "blocksize": 0},
     "blosc by the size": {"id": "blosc", "cname": "zstd", "clevel": 1, "shuffle": -1, "blocksize": 0},
+    "zlib": {"id": "zlib", "level": 1},
+    "lz4": {"id": "lz4", "acceleration": 1},
+    "bz2": {"id": "bz2", "level": 1},
 }
 
 
@@ -214,12 +217,13 @@ COMPRESSORS = {
 def test_arrays_of_zarr_2(compressor, order, rng, tmp_path):
     import numcodecs
 
-    said = COMPRESSORS[compressor]
-    codec = None if said is None else numcodecs.get_codec(said)
+    declared = COMPRESSORS[compressor]
+    codec = None if declared is None else numcodecs.get_codec(declared)
     for number, name in enumerate(["u1", "<u2", ">i4", "<f8", ">c8", "?", "<M8[s]", ">m8[us]"]):
         # zarr-python 3.0 reads back complex fill values as pairs
         kind, fill = np.dtype(name), None if number % 2 or "c" in name else np.zeros((), name)[()]
-        more = {"fill_value": fill, "compressors": codec, "order": order, "zarr_format": 2}
+        filters = [numcodecs.Shuffle(kind.itemsize), numcodecs.CRC32()][number % 3 :] or None
+        more = {"fill_value": fill, "compressors": codec, "filters": filters, "order": order, "zarr_format": 2}
         store = some_store(STORES[number % 3], tmp_path / str(number))
         array = made(store, (OURS, THEIRS)[number // 4], shape=(13, 7), chunks=(5, 4), dtype=kind, **more)
         ours, theirs = opened(array, OURS), opened(array, THEIRS)

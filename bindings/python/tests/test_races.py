@@ -15,6 +15,7 @@ from test_sharding import GZIP, sharded
 from test_stores import Ranging, files_of
 
 from zarrs_codecs import Array, Chain, Refused, _chunks, _stores
+from zarrs_codecs.chain import coder_in
 
 CHUNK = "bucket/a/c/0"
 SHARDS = {
@@ -123,7 +124,7 @@ def test_texts_that_look_like_an_index(codecs, first, last, tmp_path, monkeypatc
     store = Replacing(files_of(tmp_path / "a"))
     array[...] = last
     value = array.chunk_path((0,)).read_bytes()
-    assert array._chunks._chain.decode(value[: len(store.files[CHUNK])]).tolist() not in (first, last)
+    assert array._chunks._coder.decode(value[: len(store.files[CHUNK])]).tolist() not in (first, last)
     put_behind_info(store, value, monkeypatch)
     assert Array("bucket/a", store=store)[...].tolist() == last
 
@@ -160,7 +161,7 @@ CUT = {
 def test_a_cut_value_without_an_index_behind_is_refused_or_read_rightly(name, rng):
     codecs, kind = CUT[name]
     chain = Chain(codecs, (4,), kind)
-    assert not chain._rests_on_length
+    assert not coder_in(chain).rests_on_length
     for _ in range(3):
         chunk = some_texts(rng, (4,)) if "string" in str(kind) else rng.integers(-9, 9, 4).astype("<i4")
         if "optional" in str(kind):

@@ -22,8 +22,8 @@ from samples import (
 )
 
 import zarrs_codecs
-from zarrs_codecs import Chain, _dense, _rounds, _selections
-from zarrs_codecs import chain as chain_module
+from zarrs_codecs import Chain, _dense, _library_reads, _rounds, _selections
+from zarrs_codecs.chain import coder_in
 
 
 def planned(chain, selection):
@@ -65,8 +65,8 @@ def test_no_byte_outside_the_plan(rng):
 @pytest.mark.parametrize("part, gap", [(1, 1), (8, 1), (32, 4), (64, 1 << 16)])
 def test_selections_in_parts(part, gap, together, rows, rng, monkeypatch):
     """Parts and gaps of every size answer as numpy does, and read the planned bytes of what isn't skipped."""
-    monkeypatch.setattr(chain_module, "_PART_BYTES", part)
-    monkeypatch.setattr(chain_module, "_GAP_BYTES", gap)
+    monkeypatch.setattr(_library_reads, "_PART_BYTES", part)
+    monkeypatch.setattr(_library_reads, "_GAP_BYTES", gap)
     monkeypatch.setattr(_selections, "_FEW_TOGETHER", together)
     monkeypatch.setattr(_selections, "_MANY_ROWS", rows)
     for _ in range(40):
@@ -506,9 +506,9 @@ def test_what_a_read_takes_of_a_file():
         ([{"name": "optional", "configuration": inner}], text, False, True),
     ):
         chain = Chain(codecs, (4, 6), kind)
-        assert (chain._is_planned, chain._is_read_whole) == (is_planned, is_whole)
+        assert (coder_in(chain).is_planned, coder_in(chain).is_read_whole) == (is_planned, is_whole)
     sharded = Chain([{"name": "sharding_indexed", "configuration": shards}], (4, 6), "int32")
-    assert not sharded._is_planned
+    assert not coder_in(sharded).is_planned
 
 
 def test_values_that_are_too_short(rng):
@@ -634,7 +634,7 @@ def test_a_file_that_answers_some_bytes_at_a_time(rng):
 
 def test_pieces_that_lack_a_byte(monkeypatch):
     chain = Chain([LITTLE], (4,), "int32")
-    monkeypatch.setattr(Chain, "_planned", lambda self, chosen: np.array([[0, 4]], np.uint64))
+    monkeypatch.setattr(_library_reads.LibraryReader, "_planned", lambda self, chosen: np.array([[0, 4]], np.uint64))
     with pytest.raises(zarrs_codecs.Storage):
         chain.read_from(io.BytesIO(bytes(16)), np.s_[:2])
 

@@ -8,6 +8,7 @@ from samples import LITTLE, VLEN, same, same_masked, transpose
 from test_read_from import OPTIONAL, rounds_of
 
 from zarrs_codecs import Chain, _files, _rounds, _selections
+from zarrs_codecs.chain import coder_in
 
 PAGE = Path(__file__).parents[3] / "docs" / "IN_PART.md"
 SIZE = 256
@@ -53,7 +54,7 @@ def asked_by_the_library(chain, value, selection):
     """The same of a caller who fetches what the library says."""
     rounds, fetched = [], _rounds.Fetched(_files.Held(value))
     numbers = _selections.select(selection, chain.shape).arguments()
-    while (lacking := chain._lacking(fetched.arguments(), numbers)).size:
+    while (lacking := coder_in(chain).lacking.ranges(fetched.arguments(), numbers)).size:
         fetched.fetch(lacking)
         rounds.append(lacking.tolist())
     return told(rounds)

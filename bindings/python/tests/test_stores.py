@@ -1,6 +1,7 @@
 """Arrays in stores: objects that open files, and such as fetch ranges of them by one call."""
 
 import io
+import os
 import pickle
 import zipfile
 from pathlib import Path
@@ -156,13 +157,13 @@ def test_an_index_and_offsets_are_kept(name, first, make, rng, tmp_path, monkeyp
     files = files_of(tmp_path / "a")
     store, calls, kept = None if make == "folder" else make(files), [], {}
     folder, value = (tmp_path / "a", files["bucket/a/c/0/0"]) if store is None else ("bucket/a", files["bucket/a/c/0/0"])
-    fetch = _files.File.pieces
+    fetch = _files.NearFile.pieces
 
     def counted(self, ranges):
         calls.append(ranges.tolist())
         return fetch(self, ranges)
 
-    monkeypatch.setattr(_files.File, "pieces", counted)
+    monkeypatch.setattr(_files.NearFile, "pieces", counted)
     index = np.s_[0:2, 1:3]
     for cache in (1 << 20, 0):
         array = Array(folder, store=store, cache=cache)
@@ -221,7 +222,7 @@ def test_rows_that_are_far_apart_are_fetched_by_one_call(codecs, rows, tmp_path)
     array = make_array(tmp_path / "a", numbers.shape, numbers.shape, "int32", codecs, -1)
     array[...] = numbers
     store = Ranging(files_of(tmp_path / "a"))
-    lent = Array("bucket/a", store=store)
+    lent = Array("bucket/a", store=store, coalesce=0)
     found, calls = store.calls_of(lambda: lent[::20])
     same(found, numbers[::20])
     is_shard = "chunk_shape" in str(codecs)
@@ -248,11 +249,11 @@ def test_inner_chunks_that_touch_are_fetched_as_one_range(inside, kind, elements
         value += each[place]
     path.write_bytes(value + np.array(entries, "<u8").tobytes())
     store = Ranging(files_of(tmp_path / "a"))
-    found, calls = store.calls_of(lambda: Array("bucket/a", store=store)[...])
+    found, calls = store.calls_of(lambda: Array("bucket/a", store=store, coalesce=0)[...])
     assert found.tolist() == elements * 2
     last = len(value) - len(each[3])
     assert calls == [[(len(value), len(value) + 64)], [(0, last - 1), (last, len(value))]]
-    found, calls = store.calls_of(lambda: Array("bucket/a", store=store)[1:5])
+    found, calls = store.calls_of(lambda: Array("bucket/a", store=store, coalesce=0)[1:5])
     assert found.tolist() == (elements * 2)[1:5] and calls[1] == [(0, last - 1)]
 
 
@@ -270,12 +271,73 @@ def test_lists_of_few_places_fetch_these(codecs, tmp_path):
         (lambda lent: lent.oindex[::200, None, [1, 400]], numbers[::200, None][..., [1, 400]]),
         (lambda lent: lent.oindex[510, [9, 400]], numbers[510, [9, 400]]),
     ):
-        lent = Array("bucket/a", store=store)
+        lent = Array("bucket/a", store=store, coalesce=0)
         found, calls = store.calls_of(lambda: read(lent))
         same(found, expected + 1)
         fetched = {(start, end) for call in calls for start, end in call}
         assert sum(end - start for start, end in fetched) == index + np.unique(expected).size * 4
     same(lent.oindex[[1, 2, 4], [5, 3]], numbers[np.ix_([1, 2, 4], [5, 3])] + 1)
+
+
+@pytest.mark.parametrize(
+    "codecs, requests, size",
+    [
+        # of rows of 2 KiB the first 40, and 80 bytes of each: from the first to the last byte
+        ([LITTLE], [1], 39 * 2048 + 80),
+        # the index of inner chunks of 2 KiB, and then of four of them, two of which stand 64 KiB behind the others
+        (sharded([32, 32], [LITTLE], [LITTLE]), [1, 1], None),
+    ],
+    ids=["plain", "shards"],
+)
+def test_ranges_that_are_near_are_one_request(codecs, requests, size, tmp_path):
+    """A window of 40 rows: as many requests as rounds, and no byte before the first or behind the last one that is needed."""
+    numbers = np.arange(1024 * 1024, dtype="<u2").reshape(1024, 1024)
+    array = make_array(tmp_path / "a", numbers.shape, numbers.shape, "uint16", codecs, 7)
+    array[...] = numbers
+    store = Ranging(files_of(tmp_path / "a"))
+    found, calls = store.calls_of(lambda: Array("bucket/a", store=store)[:40, :40])
+    same(found, numbers[:40, :40])
+    assert [len(call) for call in calls] == requests
+    exact, many = store.calls_of(lambda: Array("bucket/a", store=store, coalesce=0)[:40, :40])
+    same(exact, found)
+    assert sum(map(len, many)) >= 3 + len(requests)
+    for call, near in zip(many, calls, strict=True):
+        assert near == [(call[0][0], call[-1][1])]
+    if size is not None:
+        assert sum(end - start for call in calls for start, end in call) == size
+    far = Array("bucket/a", store=store, coalesce=1 << 20)
+    found, calls = store.calls_of(lambda: far[[0, 300], 5])
+    same(found, numbers[[0, 300], 5])
+    assert [len(call) for call in calls] == requests
+
+
+def test_no_request_is_too_long(tmp_path, monkeypatch):
+    monkeypatch.setattr("zarrs_codecs._stores.MOST_JOINED", 4096)
+    numbers = np.arange(64 * 512, dtype="<u2").reshape(64, 512)
+    array = make_array(tmp_path / "a", numbers.shape, numbers.shape, "uint16", [LITTLE], 7)
+    array[...] = numbers
+    store = Ranging(files_of(tmp_path / "a"))
+    stored = Array("bucket/a", store=store)
+    found, calls = store.calls_of(lambda: stored[:40, :40])
+    same(found, numbers[:40, :40])
+    (ranges,) = calls
+    assert len(ranges) == 10 and max(end - start for start, end in ranges) <= 4096
+    assert pickle.loads(pickle.dumps(stored))._coalesce == 1 << 16
+
+
+def test_near_ranges_of_a_folder_are_one_call(tmp_path, monkeypatch):
+    numbers = np.arange(512 * 512, dtype="<u2").reshape(512, 512)
+    array = make_array(tmp_path / "a", numbers.shape, numbers.shape, "uint16", [LITTLE], 7)
+    array[...] = numbers
+    calls, read = [], os.preadv
+
+    def counted(number, views, place):
+        calls.append((place, sum(map(len, views))))
+        return read(number, views, place)
+
+    monkeypatch.setattr(os, "preadv", counted)
+    same(Array(tmp_path / "a")[3:43, 5:45], numbers[3:43, 5:45])
+    assert calls == [(3 * 1024 + 10, 39 * 1024 + 80)]
 
 
 class Breaking(Ranging):

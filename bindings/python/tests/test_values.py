@@ -12,8 +12,7 @@ import numpy as np
 import pytest
 from samples import LITTLE, VLEN, same, transpose
 
-from zarrs_codecs import Chain
-from zarrs_codecs import chain as chain_module
+from zarrs_codecs import Chain, _library_reads
 
 CHAIN = Chain([LITTLE], (2, 3), "int32")
 ARRAY = np.arange(6, dtype="<i4").reshape(2, 3)
@@ -163,7 +162,7 @@ def test_calls_let_other_threads_run(monkeypatch):
     other = threading.Thread(target=count)
     other.start()
     seen = []
-    call = chain_module.library.zarrs_chain_decode
+    call = _library_reads.library.zarrs_chain_decode
 
     def counted(*arguments):
         before = turns
@@ -171,7 +170,7 @@ def test_calls_let_other_threads_run(monkeypatch):
         seen.append(turns - before)
         return code
 
-    monkeypatch.setattr(chain_module.library, "zarrs_chain_decode", counted)
+    monkeypatch.setattr(_library_reads.library, "zarrs_chain_decode", counted)
     usual = sys.getswitchinterval()
     sys.setswitchinterval(100)
     try:
@@ -208,7 +207,7 @@ def test_out_that_lies_over_the_value():
 
 
 def test_c_writes_no_array_that_lies_over_the_value(monkeypatch):
-    monkeypatch.delattr(chain_module, "told_into")
+    monkeypatch.delattr(_library_reads, "returned_into")
     memory = np.arange(8, dtype=np.uint8)
     chain = Chain(["bytes"], (4,), "uint8")
     assert chain.decode(memory[:4], memory[2:6]).tolist() == [0, 1, 2, 3]

@@ -1,7 +1,7 @@
 """Codecs of Zarr v3, proved, over numpy arrays.
 
 `Chain` encodes and decodes chunks, and reads, writes and re-encodes them in part; `Array` is a Zarr v3
-array in a folder or a store; `CodecPipeline` runs the codecs of zarr-python 3, which it needs. A refusal is an exception of
+array in a folder or a store; `CodecPipeline` runs the codecs of zarr-python 3, which it needs. An error is an exception of
 the library's name, below `Refused`. `proved` says whether the library that was loaded is a proved one;
 `bindings/build --unproved` makes one that isn't.
 """

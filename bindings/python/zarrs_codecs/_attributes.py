@@ -30,7 +30,7 @@ def bytes_of(metadata: dict[str, Any], has_nan: bool = False) -> np.ndarray[Any,
 class Attributes(MutableMapping[str, Any]):
     """Attributes by their names, in the `zarr.json` of an array.
 
-    What is read is what the file said when it was read last. A name that is set or deleted is so in the file at
+    What is read is what the file had when it was read last. A name that is set or deleted is so in the file at
     once, beside what others have written there meanwhile: threads take turns, and processes that set attributes of one
     array at a time must, as for chunks. A value that is changed itself isn't: values come out as copies. Raises
     `InvalidMetadata` where a value has no JSON.
@@ -41,21 +41,21 @@ class Attributes(MutableMapping[str, Any]):
         self._metadata = metadata
 
     @property
-    def _said(self) -> dict[str, Any]:
+    def _declared(self) -> dict[str, Any]:
         found: dict[str, Any] = self._metadata.get("attributes", {})
         return found
 
     def __getitem__(self, name: str) -> Any:
-        return copy.deepcopy(self._said[name])
+        return copy.deepcopy(self._declared[name])
 
     def __iter__(self) -> Iterator[str]:
-        return iter(self._said)
+        return iter(self._declared)
 
     def __len__(self) -> int:
-        return len(self._said)
+        return len(self._declared)
 
     def __repr__(self) -> str:
-        return repr(self._said)
+        return repr(self._declared)
 
     def update(self, *others: Any, **more: Any) -> None:
         """Sets several, in one write."""
@@ -65,7 +65,7 @@ class Attributes(MutableMapping[str, Any]):
         self._replace(set_all={name: value})
 
     def __delitem__(self, name: str) -> None:
-        if name not in self._said:
+        if name not in self._declared:
             raise KeyError(name)
         self._replace(without=name)
 
@@ -75,7 +75,7 @@ class Attributes(MutableMapping[str, Any]):
             self._replace_in_turn(set_all, without)
 
     def _replace_in_turn(self, set_all: dict[str, Any] | None, without: str | None) -> None:
-        metadata = metadata_of(self._files, self._root).said
+        metadata = metadata_of(self._files, self._root).declared
         attributes = {**metadata.get("attributes", {}), **(set_all or {})}
         attributes.pop(without, None)
         for name in attributes:

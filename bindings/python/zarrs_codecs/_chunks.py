@@ -8,18 +8,15 @@ from concurrent.futures import ThreadPoolExecutor
 from pathlib import Path
 from typing import Any
 
-
 from ._cache import Cache
-from ._data_types import DataType
+from ._coder import Coder
 from ._files import Source
 from ._metadata import Keys
 from ._rounds import Fetched
 from ._selections import Rows, select
 from ._stores import Folder
 from ._types import AnyArray, Shape
-from .chain import Chain
 from .refusals import InvalidBytesLength, Refused
-
 
 # So many times a file is read that is replaced meanwhile.
 _MOST_TRIES = 4
@@ -62,23 +59,21 @@ class Chunks:
     """Reads and writes chunks, of each as much as a selection needs, by so many threads at most.
 
     Where a chain needs whole values, they are kept when they are read, and what Python's codecs make of them
-    isn't made again; of others what tells where the elements are, an index or offsets.
+    isn't made again; of others what says where the elements are, an index or offsets.
     """
 
     def __init__(
-        self, files: Folder, root: str, keys: Keys, chain: Chain, kind: DataType, cache: int, threads: int
+        self, files: Folder, root: str, keys: Keys, coder: Coder, cache: int, threads: int
     ) -> None:
         if threads < 1 or cache < 0:
             raise ValueError(f"{threads} threads and a cache of {cache} bytes")
-        self._files, self._root, self._keys, self._chain = files, root, keys, chain
+        self._files, self._root, self._keys, self._coder = files, root, keys, coder
         self._threads = threads
         self.cache = Cache(cache)
-        self._is_plain = kind.is_plain
-        self._is_whole, self._is_planned = chain._is_read_whole, chain._is_planned
-        self._rests_on_length = chain._rests_on_length
-        representation, size = chain.representation
+        self._shape = coder.form.shape
+        representation, size = coder.representation
         # how many bytes each chunk's file has, where that is always the same
-        self._file_size = size if representation == "fixed" and not chain.unproved else None
+        self._file_size = size if representation == "fixed" and not coder.unproved else None
 
     def path(self, chunk: Shape) -> str:
         """The path of a chunk's file."""
@@ -128,7 +123,7 @@ class Chunks:
         state = source.state()
         value: AnyArray | None = self.cache.get(path, state)
         if value is None:
-            value = self._chain._inner(source.whole())
+            value = self._coder.inner(source.whole())
             self.cache.put(path, state, value)
         return value
 
@@ -136,7 +131,7 @@ class Chunks:
         """The elements of a selection of an open file's value, of which what was kept isn't read again."""
         state = source.state()
         fetched = Fetched(source, self.cache.get(path, state))
-        found = self._chain._read_fetched(fetched, selection, out)
+        found = self._coder.read_fetched(fetched, selection, out)
         if fetched.first.nbytes:
             self.cache.put(path, state, fetched.first)
         return found
@@ -154,10 +149,10 @@ class Chunks:
             try:
                 with _naming(path):
                     found = self._read(path, source, selection, out)
-                if source.is_same(self._rests_on_length):
+                if source.is_same(self._coder.rests_on_length):
                     return found
             except (Refused, EOFError):
-                if source.is_same(was_refused=True):
+                if source.is_same(has_failed=True):
                     raise
             finally:
                 source.close()
@@ -165,29 +160,29 @@ class Chunks:
 
     def _read(self, path: str, source: Source, selection: Any, out: AnyArray | None) -> Any:
         """The same of the chunk's open file."""
-        if self._is_whole:
-            return self._chain._read_inner(self._opened(path, source), selection, out)
+        if self._coder.is_read_whole:
+            return self._coder.read(self._opened(path, source), selection, out)
         size = source.length()
         self._check_size(size)
         # of a long value a read that is composed holds a part at a time
-        is_at_once = size <= _SMALL or not self._chain._is_composed
-        if is_at_once and out is not None and out.shape == self._chain.shape:
+        is_at_once = size <= _SMALL or not self._coder.is_composed
+        if is_at_once and out is not None and out.shape == self._shape:
             # all of the chunk: one call instead of two
-            return self._chain.decode(source.whole(), out)
-        if self._is_planned:
+            return self._coder.decode(source.whole(), out)
+        if self._coder.is_planned:
             needed = 0 if out is None or source.part_bytes is None else out.size
-            if _WHOLE_FROM * needed >= math.prod(self._chain.shape):
+            if _WHOLE_FROM * needed >= math.prod(self._shape):
                 # one read instead of many, and few bytes more
-                return self._chain._read_inner(source.whole(), selection, out)
-            return self._chain._read_fetched(Fetched(source), selection, out)
-        if size <= _SMALL and not self._chain._is_composed:
+                return self._coder.read(source.whole(), selection, out)
+            return self._coder.read_fetched(Fetched(source), selection, out)
+        if size <= _SMALL and not self._coder.is_composed:
             # one read instead of several
-            return self._chain._read_inner(self._opened(path, source), selection, out)
+            return self._coder.read(self._opened(path, source), selection, out)
         return self._in_rounds(path, source, selection, out)
 
     def read_into(self, chunk: Shape, inside: Any, answer: AnyArray, there: Any, fill: Any) -> None:
         """Puts the elements of a chunk into an answer, fill values where no file is there."""
-        out = answer[there] if self._is_plain and isinstance(inside, tuple) else None
+        out = answer[there] if self._coder.form.kind.is_plain and isinstance(inside, tuple) else None
         found = self.read(chunk, inside, out)
         if found is None:
             answer[there] = fill
@@ -199,12 +194,12 @@ class Chunks:
         path = self.path(chunk)
         self._files.check_written()
         self.check_folder()
-        meant = select(inside, self._chain.shape)
+        selected = select(inside, self._shape)
         with _naming(path):
-            if new.shape == self._chain.shape and not isinstance(meant, Rows):
-                value = self._chain._encode(new)
+            if new.shape == self._shape and not isinstance(selected, Rows):
+                value = self._coder.encode(new)
             else:
-                value = self._chain._write(self._stored(path), meant, new)
+                value = self._coder.write(self._stored(path), selected, new)
         self._files.replace(path, value)
         self.cache.drop(path)
 
@@ -215,10 +210,10 @@ class Chunks:
         except FileNotFoundError:
             return None
         try:
-            if self._is_whole:
+            if self._coder.is_read_whole:
                 return self._opened(path, source)
             self._check_size(source.length())
-            whole: AnyArray = self._chain._inner(source.whole())
+            whole: AnyArray = self._coder.inner(source.whole())
             return whole
         finally:
             source.close()

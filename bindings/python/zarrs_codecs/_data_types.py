@@ -93,7 +93,7 @@ _KINDS = {"i": "int", "u": "uint", "f": "float", "c": "complex"}
 
 
 def _unknown(name: str) -> UnsupportedDataType:
-    """The refusal of a name; of a short one of numpy's it says the long one."""
+    """The error of a name; of a short one of numpy's it says the long one."""
     error = UnsupportedDataType(f"no data type is named {name!r}")
     short = re.fullmatch(r"[<>=|]?([iufc])([1248]|16)", name)
     if short is not None:
@@ -159,14 +159,14 @@ def _optional(inner: DataType) -> DataType:
     return replace(inner, header={"optional": inner.header}, is_optional=True)
 
 
-def zarrs_own(said: Any) -> Any:
+def zarrs_own(declared: Any) -> Any:
     """A type of numpy's, or one of Python's numbers, as `zarr.json` has it; anything else as it is."""
-    if isinstance(said, dict) and said.keys() == {"optional"} and not isinstance(said["optional"], dict):
-        return {"optional": zarrs_own(said["optional"])}
-    of_python = isinstance(said, type) and issubclass(said, (np.generic, bool, int, float, complex))
-    if not isinstance(said, np.dtype) and not of_python:
-        return said
-    kind = np.dtype(said)
+    if isinstance(declared, dict) and declared.keys() == {"optional"} and not isinstance(declared["optional"], dict):
+        return {"optional": zarrs_own(declared["optional"])}
+    of_python = isinstance(declared, type) and issubclass(declared, (np.generic, bool, int, float, complex))
+    if not isinstance(declared, np.dtype) and not of_python:
+        return declared
+    kind = np.dtype(declared)
     if kind.kind in "mM":
         unit, factor = np.datetime_data(kind)
         name = "numpy.datetime64" if kind.kind == "M" else "numpy.timedelta64"
@@ -177,19 +177,19 @@ def zarrs_own(said: Any) -> Any:
     return {"name": sized[kind.kind], "configuration": {"length_bytes": kind.itemsize}}
 
 
-def data_type(said: Any) -> DataType:
+def data_type(declared: Any) -> DataType:
     """The type of a Zarr name, or of an object with a name; `{"optional": TYPE}` is a type too.
 
     Raises `UnsupportedDataType` where there is no such type.
     """
     try:
-        return _data_type(said)
+        return _data_type(declared)
     except RecursionError as error:
         raise UnsupportedDataType("a data type is nested too deeply") from error
 
 
-def _data_type(said: Any) -> DataType:
-    match said:
+def _data_type(declared: Any) -> DataType:
+    match declared:
         case str(name):
             return _named(name)
         case {"optional": inner, **rest} if not rest:
@@ -200,4 +200,4 @@ def _data_type(said: Any) -> DataType:
             return _configured(name, configuration)
         case {"name": str(name), **rest} if not rest.get("configuration"):
             return _named(name)
-    raise UnsupportedDataType(f"no data type is {reprlib.repr(said)}")
+    raise UnsupportedDataType(f"no data type is {reprlib.repr(declared)}")

@@ -1,15 +1,13 @@
 """Reads of so many inner chunks of a shard that the shard is decoded whole: one by one they would take longer."""
 
 import math
-from typing import TYPE_CHECKING, Any
+from typing import Any
 
 import numpy as np
 
+from ._layout import Layout
 from ._selections import Rows, Selection
 from ._types import AnyArray, Shape
-
-if TYPE_CHECKING:
-    from .chain import Chain
 
 # A shard of so many inner chunks is read in no time, one by one or whole.
 _MANY = 1 << 10
@@ -34,13 +32,14 @@ def touched_chunks(chosen: Selection, sizes: Shape) -> int:
     return math.prod(counts)
 
 
-def is_dense(chain: "Chain", chosen: Selection, length: int, is_at_hand: bool = False) -> bool:
+def is_dense(layout: Layout, chosen: Selection, length: int, is_at_hand: bool = False) -> bool:
     """Whether a read of a value of so many bytes takes less time when all of it is decoded."""
-    if chain._finest is None or chain._finest[1] <= _MANY:
+    finest = layout.finest
+    if finest is None or finest[1] <= _MANY:
         return False
-    sizes, whole = chain._finest
+    sizes, whole = finest
     touched = touched_chunks(chosen, sizes)
-    has_shards = chain._has_shards_inside
+    has_shards = layout.has_shards_inside
     if is_at_hand:
         return touched * (_SHARDS_AT_HAND if has_shards else _AT_HAND) >= whole
     times = _SHARDS_IN_FILE if has_shards else _IN_FILE

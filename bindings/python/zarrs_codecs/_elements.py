@@ -41,18 +41,18 @@ def mask_of(array: AnyArray) -> AnyArray:
 
 def _all_there(array: Any) -> Any:
     """The same, where no element is absent; of Python's own, as numpy takes it."""
-    said = plain(array) if is_pythons(array) else np.asanyarray(array)
-    has_none = is_pythons(array) and said is not array and np.equal(as_objects(said), cast(Any, None)).any()
-    if has_none or _ma.is_masked(said):
+    found = plain(array) if is_pythons(array) else np.asanyarray(array)
+    has_none = is_pythons(array) and found is not array and np.equal(as_objects(found), cast(Any, None)).any()
+    if has_none or _ma.is_masked(found):
         raise InvalidElement("an element is absent, and the data type isn't an optional one")
-    return said
+    return found
 
 
 def _blank(kind: DataType, dtype: np.dtype[Any]) -> Any:
     """What stands under an absent element, as numpy holds it in this type."""
     if dtype == object and kind.is_variable:
         return "" if kind.is_text else b""
-    # among objects only what isn't a number tells its kind
+    # among objects only what isn't a number has a known kind
     return np.zeros((), kind.dtype if dtype == object and kind.dtype.kind in _NO_NUMBERS else dtype)[()]
 
 
@@ -72,7 +72,9 @@ def _check_size(kind: DataType, array: AnyArray) -> None:
     itemsize = kind.dtype.itemsize
     if kind.dtype.kind == "V" and array.dtype.itemsize != itemsize:
         raise InvalidElement(f"elements of {array.dtype.itemsize} bytes aren't of {kind.name}")
-    if kind.dtype.kind in "US" and array.dtype.itemsize > itemsize // (4 if array.dtype.kind == "S" and kind.dtype.kind == "U" else 1):
+    # of byte strings for texts each byte is a character
+    each = 4 if array.dtype.kind == "S" and kind.dtype.kind == "U" else 1
+    if kind.dtype.kind in "US" and array.dtype.itemsize > itemsize // each:
         longest = int(np.char.str_len(array).max())
         if longest > itemsize // (4 if kind.dtype.kind == "U" else 1):
             raise InvalidElement(f"an element of length {longest} isn't of {kind.name}")
@@ -161,6 +163,14 @@ def _absent_too(kind: DataType, array: Any) -> tuple[AnyArray, AnyArray]:
     return data, absent
 
 
+def words_of(array: AnyArray) -> AnyArray:
+    """The bits of elements of one size, a row of whole numbers for each."""
+    size = array.dtype.itemsize
+    word = f"u{size}" if size in (1, 2, 4, 8) else "u1"
+    words: AnyArray = np.ascontiguousarray(array).reshape(-1).view(word).reshape(-1, size // np.dtype(word).itemsize)
+    return words
+
+
 def held(kind: DataType, array: Any) -> AnyArray:
     """Elements as the type holds them; whatever stands under absent ones, it is of the type.
 
@@ -193,8 +203,8 @@ def given(kind: DataType, array: AnyArray) -> tuple[Any, ...]:
     return *masks, start(offsets), offsets.size, *lent(whole)
 
 
-def _told_texts(kind: DataType, call: Callable[..., Any], masks: tuple[Any, ...], count: int, size: int) -> AnyArray:
-    """The texts that a call tells, whose bytes are as many as `size` or not."""
+def _returned_texts(kind: DataType, call: Callable[..., Any], masks: tuple[Any, ...], count: int, size: int) -> AnyArray:
+    """The texts that a call returns, whose bytes are as many as `size` or not."""
     offsets, whole, sizes = room((count + 1,), np.dtype(np.uint64)), np.empty(size, np.uint8), Sizes()
     code = call(*masks, start(offsets), offsets.size, start(whole), whole.size, byref(sizes))
     if code == SHORT:
@@ -204,8 +214,8 @@ def _told_texts(kind: DataType, call: Callable[..., Any], masks: tuple[Any, ...]
     return parted(offsets, whole[: sizes.bytes].tobytes(), kind.is_text)
 
 
-def told_into(array: AnyArray, call: Callable[..., Any]) -> None:
-    """Writes the elements that a call tells, of one size and all there, into an array in one piece."""
+def returned_into(array: AnyArray, call: Callable[..., Any]) -> None:
+    """Writes the elements that a call returns, of one size and all there, into an array in one piece."""
     checked(call(None, 0, None, 0, start(array), array.nbytes, byref(Sizes())))
 
 
@@ -222,17 +232,17 @@ def room(shape: tuple[int, ...], dtype: np.dtype[Any]) -> AnyArray:
         raise OutOfMemory(str(error)) from error
 
 
-def told(kind: DataType, call: Callable[..., Any], shape: tuple[int, ...], size: int = 0) -> AnyArray:
-    """The elements that a call tells, which takes three buffers and their sizes last."""
+def returned(kind: DataType, call: Callable[..., Any], shape: tuple[int, ...], size: int = 0) -> AnyArray:
+    """The elements that a call returns, which takes three buffers and their sizes last."""
     if kind.is_plain:
         array = room(shape, kind.dtype)
-        told_into(array, call)
+        returned_into(array, call)
         return array
     count = math.prod(shape)
     present = room((count if kind.is_optional else 0,), np.dtype(bool))
     masks = (start(present), present.size)
     if kind.is_variable:
-        array = _told_texts(kind, call, masks, count, size).reshape(shape)
+        array = _returned_texts(kind, call, masks, count, size).reshape(shape)
     else:
         array = room(shape, kind.dtype)
         checked(call(*masks, None, 0, start(array), array.nbytes, byref(Sizes())))
@@ -241,8 +251,8 @@ def told(kind: DataType, call: Callable[..., Any], shape: tuple[int, ...], size:
     return masked(array, np.logical_not(present, out=present).reshape(shape))
 
 
-def told_many(kind: DataType, call: Callable[..., Any], shapes: Sequence[tuple[int, ...]], room: int = 0) -> list[AnyArray]:
-    """The elements that a call tells of several selections, of these shapes, each behind the one before it."""
+def returned_many(kind: DataType, call: Callable[..., Any], shapes: Sequence[tuple[int, ...]], room: int = 0) -> list[AnyArray]:
+    """The elements that a call returns of several selections, of these shapes, each behind the one before it."""
     counts = [math.prod(shape) for shape in shapes]
     count = sum(counts)
     present = np.empty(count if kind.is_optional else 0, bool)

@@ -21,6 +21,10 @@ from ._types import AnyArray, listed
 UNFINISHED = re.compile(r".*\.[0-9a-f]{16}\.tmp", re.DOTALL)
 # How many bytes of a file are fetched at a time, where a read needs more.
 PART_BYTES = 1 << 20
+# Ranges of a file that are as near as this are read by one call, since a call takes as long as so many bytes.
+_NEAR_IN_FILE = 1 << 13
+# A request of a far value, which has ranges in it that are near, has so many bytes at most.
+MOST_JOINED = 1 << 24
 
 
 def joined(ranges: AnyArray) -> AnyArray:
@@ -82,21 +86,21 @@ def _descriptor(file: Any) -> int | None:
     return raw.fileno() if type(raw) is io.FileIO else None
 
 
-def counted(said: Any, most: int | None = None) -> int:
-    """A number of bytes that a file or a store tells. Raises `OSError` where it can't be one."""
-    if isinstance(said, float) and said.is_integer():
-        said = int(said)
-    if not hasattr(said, "__index__") or not 0 <= said or most is not None and said > most:
-        raise OSError(f"a file told {reprlib.repr(said)}, where a number of bytes is due")
-    return int(said)
+def counted(returned: Any, most: int | None = None) -> int:
+    """A number of bytes that a file or a store returns. Raises `OSError` where it can't be one."""
+    if isinstance(returned, float) and returned.is_integer():
+        returned = int(returned)
+    if not hasattr(returned, "__index__") or not 0 <= returned or most is not None and returned > most:
+        raise OSError(f"a file returned {reprlib.repr(returned)}, where a number of bytes is due")
+    return int(returned)
 
 
-def bytes_of(said: Any, most: int | None = None) -> Any:
+def bytes_of(returned: Any, most: int | None = None) -> Any:
     """Bytes that a file or a store answers, so many at most. Raises `OSError` where they are none."""
     try:
-        found = memoryview(said).cast("B")
+        found = memoryview(returned).cast("B")
     except TypeError as error:
-        raise OSError(f"a file answered {reprlib.repr(said)}, where bytes are due") from error
+        raise OSError(f"a file answered {reprlib.repr(returned)}, where bytes are due") from error
     if most is not None and len(found) > most:
         raise OSError(f"a file answered {len(found)} bytes, where {most} were asked for")
     return found
@@ -126,9 +130,9 @@ class Source:
         """What it is, by which a later change is seen; None where one might not be."""
         return None
 
-    def is_same(self, rests_on_length: bool = False, was_refused: bool = False) -> bool:
+    def is_same(self, rests_on_length: bool = False, has_failed: bool = False) -> bool:
         """Whether all that was read is of one value, or may be so, and so the length, where the read rests on it; of what was
-        refused, whether it is still the one that was begun with."""
+        failed, whether it is still the one that was begun with."""
         return True
 
     def close(self) -> None:
@@ -221,6 +225,16 @@ class File(Source):
         fetched = np.empty(end - begin, np.uint8)
         self._read(fetched.data, begin)
         return fetched
+
+
+class NearFile(File):
+    """An open file at hand, by its number: of ranges of it those that are near are read by one call."""
+
+    def pieces(self, ranges: AnyArray) -> AnyArray:
+        covering = near(listed(ranges), _NEAR_IN_FILE)
+        if len(covering) == len(ranges):
+            return super().pieces(ranges)
+        return cut(ranges, covering, [self.one_piece(*one) for one in covering])
 
 
 def _created(path: str) -> int:

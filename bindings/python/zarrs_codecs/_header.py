@@ -3,6 +3,7 @@
 import ctypes
 import json
 import math
+import reprlib
 from typing import Any
 
 from ._data_types import DataType
@@ -10,16 +11,23 @@ from ._elements import empty, given, held
 from ._fill_values import fill_hex
 from ._library import SHORT, library, name_of
 from ._types import Shape
-from .refusals import Syntax
+from .refusals import InvalidConfiguration, Syntax
 
-# A refusal of a chunk of more elements than these is told without the codec, which a chunk is written to find.
+# An error of a chunk of more elements than these has no codec, which a chunk is written to find.
 _MOST_ELEMENTS = 1 << 20
 
 
-def json_of(said: Any) -> str:
+def codec_list(codecs: Any) -> list[Any]:
+    """A list of codecs; `InvalidConfiguration` is raised of a name or a codec alone."""
+    if isinstance(codecs, (str, bytes, dict)):
+        raise InvalidConfiguration(f"codecs are a list, and not {reprlib.repr(codecs)}")
+    return list(codecs)
+
+
+def json_of(declared: Any) -> str:
     """JSON of codecs or of a header. Raises `Syntax` where there is none."""
     try:
-        return json.dumps(said)
+        return json.dumps(declared)
     except RecursionError as error:
         raise Syntax("codecs are nested too deeply") from error
     except (TypeError, ValueError) as error:
@@ -40,15 +48,15 @@ class Header:
 
     def __init__(self, shape: Shape, kind: DataType, fill_value: Any) -> None:
         self._shape, self._kind = shape, kind
-        said = {"shape": shape, "data_type": kind.header, "fill_value": fill_hex(kind, fill_value)}
-        self._begin = json_of(said)[:-1]
+        declared = {"shape": shape, "data_type": kind.header, "fill_value": fill_hex(kind, fill_value)}
+        self._begin = json_of(declared)[:-1]
 
     def text(self, codecs: str) -> bytes:
         """The header with these codecs, a list in JSON."""
         return f'{self._begin}, "codecs": {codecs}}}'.encode()
 
     def checked(self, codecs: list[Any]) -> str:
-        """What the library says of codecs for such chunks: the name of a refusal, or "Done"."""
+        """What the library says of codecs for such chunks: the name of an error, or "Done"."""
         header = self.text(json_of(codecs))
         return name_of(library.zarrs_check(header, len(header)))
 

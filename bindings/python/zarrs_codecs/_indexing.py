@@ -20,7 +20,7 @@ class Step(NamedTuple):
     there: tuple[AnyArray, ...]
 
     def is_sparse(self, box: Box) -> bool:
-        """Whether the elements are few among those of the box that the basic index means."""
+        """Whether the elements are few among those of the box that the basic index selects."""
         count = math.prod(one.size for one in self.inside)
         return count <= MOST_APART and count * SPARSE <= math.prod(box.shape)
 
@@ -42,9 +42,9 @@ def is_list(entry: Any) -> bool:
     return isinstance(entry, (list, range)) or (isinstance(entry, np.ndarray) and entry.ndim > 0)
 
 
-def counted(said: Any, axis: int, size: int) -> AnyArray:
+def counted(given: Any, axis: int, size: int) -> AnyArray:
     """Places on an axis, counted from its begin. Raises `IndexError` where they are none."""
-    places = as_places(said)
+    places = as_places(given)
     if places.size == 0:
         return places.astype(np.int64)
     if places.dtype.kind not in "iu":
@@ -124,7 +124,7 @@ class Outer:
         self._axes: list[_Axis] = []
         number = 0
         entries = entries_of(selection, len(shape))[0]
-        # what is no index is refused where the answer has no elements too
+        # what is no index fails where the answer has no elements too
         box(tuple(slice(None) if is_list(entry) else entry for entry in entries), shape)
         for entry in entries:
             if entry is None:

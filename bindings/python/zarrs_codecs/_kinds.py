@@ -44,8 +44,8 @@ def _moments(kind: DataType, array: AnyArray) -> AnyArray:
         return array.astype(f"{kind.dtype.kind}8")
     except ValueError as error:
         is_texts = all(isinstance(one, str) for one in elements)
-        refused: type[Exception] = InvalidElement if is_texts else TypeError
-        raise refused(f"an element isn't of {kind.name}: {error}") from error
+        error_type: type[Exception] = InvalidElement if is_texts else TypeError
+        raise error_type(f"an element isn't of {kind.name}: {error}") from error
 
 
 def _of_python(kind: DataType, array: AnyArray) -> AnyArray:

@@ -98,8 +98,13 @@ def name_of(code: int) -> str:
     return name.raw[: needed.value].decode()
 
 
-def checked(code: int) -> None:
-    """Raises the refusal of a code, if it is one."""
-    if code:
-        name = name_of(code)
+def checked_name(name: str) -> None:
+    """Raises the error of a name, if it is one's."""
+    if name != "Done":
         raise getattr(refusals, name, refusals.Refused)(name)
+
+
+def checked(code: int) -> None:
+    """Raises the error of a code, if it is one's."""
+    if code:
+        checked_name(name_of(code))

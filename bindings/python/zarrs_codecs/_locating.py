@@ -1,4 +1,4 @@
-"""Which codec refuses, and for which key: found by asking the library about lists that differ from the refused one."""
+"""Which codec an error is of, and which key: found by asking the library about lists that differ from the one that fails."""
 
 import bisect
 import contextlib
@@ -8,12 +8,14 @@ import reprlib
 from collections.abc import Callable, Iterator
 from typing import Any
 
-from ._elements import told
+from ._checksum import LENGTH as CHECKSUM_LENGTH
+from ._checksum import NAME as CHECKSUM
+from ._checksum import without_checksum
 from .refusals import Refused
 
-# What the library says of a list of codecs, or of one codec: the name of a refusal, or "Done".
+# What the library says of a list of codecs, or of one codec: the name of a failure, or "Done".
 Ask = Callable[[Any], str]
-# The refusals that rest on codecs and on what they are given, and not on what is stored.
+# The errors that rest on codecs and on what they are given, and not on what is stored.
 OF_CODECS = {
     "Syntax",
     "UnknownName",
@@ -37,7 +39,7 @@ OF_CODECS = {
     "IndexNotFixed",
 }
 
-# The refusals that rest on what is stored, or on what elements make of it.
+# The errors that rest on what is stored, or on what elements make of it.
 OF_VALUES = {
     "InvalidBytesLength",
     "InvalidByteRange",
@@ -58,11 +60,8 @@ _OF_ELEMENTS = ("OffsetTooLarge", "OffsetNotKept", "NotInPlace")
 # Those of a codec as such.
 _OF_NO_KEY = ("UnknownName", "IndexNotFixed")
 
-# So many bytes of codecs are asked about to find where a refusal is, which takes some 50 ms.
+# So many bytes of codecs are asked about to find where a failure is, which takes some 50 ms.
 _MOST_BYTES = 1 << 20
-
-# How many bytes longer the library's bytes-to-bytes codecs make a value.
-_LONGER = {"crc32c": 4}
 
 _LITTLE = {"name": "bytes", "configuration": {"endian": "little"}}
 _VLEN = {
@@ -120,7 +119,7 @@ class _Spent(Exception):
 
 
 def _bounded(ask: Ask, codecs: list[Any]) -> Ask:
-    """The same, until as much was asked as is worth it to say where a refusal is."""
+    """The same, until as much was asked as is worth it to say where a failure is."""
     left = iter(range(_MOST_BYTES // len(json.dumps(codecs)) + 1))
 
     def asked(other: Any) -> str:
@@ -131,20 +130,20 @@ def _bounded(ask: Ask, codecs: list[Any]) -> Ask:
     return asked
 
 
-def _comes(ask: Ask, begin: list[Any], refusal: str, willing: Any) -> bool:
-    """Whether the refusal comes with the first codecs of a list, whatever follows them."""
-    if refusal == "MultipleArrayToBytes":
-        return ask(begin) == refusal
+def _comes(ask: Ask, begin: list[Any], failure: str, willing: Any) -> bool:
+    """Whether the failure comes with the first codecs of a list, whatever follows them."""
+    if failure == "MultipleArrayToBytes":
+        return ask(begin) == failure
     answer = ask([*begin, willing])
-    return answer == refusal or answer != "Done" and ask(begin) == refusal
+    return answer == failure or answer != "Done" and ask(begin) == failure
 
 
-def _place(ask: Ask, codecs: list[Any], refusal: str, willing: Any) -> int | None:
-    """The place of the first codec with which the refusal comes, whatever follows it; it comes with all longer lists."""
-    if not codecs or not _comes(ask, codecs, refusal, willing):
+def _place(ask: Ask, codecs: list[Any], failure: str, willing: Any) -> int | None:
+    """The place of the first codec with which the failure comes, whatever follows it; it comes with all longer lists."""
+    if not codecs or not _comes(ask, codecs, failure, willing):
         return None
     counts = range(1, len(codecs) + 1)
-    return bisect.bisect_left(counts, True, key=lambda count: _comes(ask, codecs[:count], refusal, willing))
+    return bisect.bisect_left(counts, True, key=lambda count: _comes(ask, codecs[:count], failure, willing))
 
 
 def _lists_of(configuration: Any, right: dict[str, list[Any]]) -> dict[str, list[Any]]:
@@ -158,8 +157,8 @@ def _lists_of(configuration: Any, right: dict[str, list[Any]]) -> dict[str, list
     }
 
 
-def _refused_list(ask: Ask, codec: Any, refusal: str) -> tuple[str, list[Any], Ask] | None:
-    """The list of codecs in a codec that the refusal is of: its key, itself, and how to ask about others."""
+def _failing_list(ask: Ask, codec: Any, failure: str) -> tuple[str, list[Any], Ask] | None:
+    """The list of codecs in a codec that the failure is of: its key, itself, and how to ask about others."""
     configuration = codec.get("configuration") if isinstance(codec, dict) else None
     lists = _lists_of(configuration, _right_of(codec))
     if not isinstance(configuration, dict) or not lists:
@@ -173,7 +172,7 @@ def _refused_list(ask: Ask, codec: Any, refusal: str) -> tuple[str, list[Any], A
             def ask_list(other: Any, key: str = key) -> str:
                 return ask({**codec, "configuration": {**all_right, key: other}})
 
-            if ask_list(codecs) == refusal:
+            if ask_list(codecs) == failure:
                 return key, codecs, ask_list
     return None
 
@@ -194,50 +193,50 @@ def _other_configurations(
             yield from ((key, {**configuration, key: value}) for value in values)
 
 
-def _key(ask: Ask, codec: Any, refusal: str) -> str | None:
-    """The key of a codec that the refusal is of: with another value of it, or without it, it doesn't come."""
+def _key(ask: Ask, codec: Any, failure: str) -> str | None:
+    """The key of a codec that the failure is of: with another value of it, or without it, it doesn't come."""
     codec = codec if isinstance(codec, dict) else {"name": codec}
     configuration = codec.get("configuration", {})
     if not isinstance(configuration, dict):
-        return "configuration" if refusal == "InvalidConfiguration" else None
+        return "configuration" if failure == "InvalidConfiguration" else None
     found = (
         key
         for key, other in _other_configurations(configuration, _right_of(codec))
-        if ask({**codec, "configuration": other}) not in (refusal, "InvalidConfiguration")
+        if ask({**codec, "configuration": other}) not in (failure, "InvalidConfiguration")
     )
-    return next(found, None) or _first_key(ask, codec, configuration, refusal)
+    return next(found, None) or _first_key(ask, codec, configuration, failure)
 
 
-def _first_key(ask: Ask, codec: dict[str, Any], configuration: dict[str, Any], refusal: str) -> str | None:
-    """The first of several keys that are wrong or missing: it is refused where all others are right."""
+def _first_key(ask: Ask, codec: dict[str, Any], configuration: dict[str, Any], failure: str) -> str | None:
+    """The first of several keys that are wrong or missing: it fails where all others are right."""
     rights = _right_of(codec)
     for right in itertools.product(*rights.values()):
         others = dict(zip(rights, right))
-        if ask({**codec, "configuration": others}) != refusal:
+        if ask({**codec, "configuration": others}) != failure:
             break
     else:
         return None
     for key, value in configuration.items():
-        if ask({**codec, "configuration": {**others, key: value}}) == refusal:
+        if ask({**codec, "configuration": {**others, key: value}}) == failure:
             return key
     for key in others:
-        if ask({**codec, "configuration": _without(others, key)}) == refusal:
+        if ask({**codec, "configuration": _without(others, key)}) == failure:
             return key
     return None
 
 
 def locate(error: Refused, ask: Ask, codecs: list[Any]) -> None:
-    """Puts into a refusal which of these codecs it is of, and which key, where that is found."""
+    """Puts into an error which of these codecs it is of, and which key, where that is found."""
     with contextlib.suppress(_Spent):
         _locate(error, _bounded(ask, codecs), codecs)
 
 
 def _locate(error: Refused, ask: Ask, codecs: list[Any]) -> None:
     """The same, level by level of lists in codecs."""
-    refusal = type(error).__name__
+    failure = type(error).__name__
     key: str | None = None
     while (willing := _willing(ask)) is not None:
-        place = _place(ask, codecs, refusal, willing)
+        place = _place(ask, codecs, failure, willing)
         if place is None:
             error.key = key
             return
@@ -251,32 +250,27 @@ def _locate(error: Refused, ask: Ask, codecs: list[Any]) -> None:
             answer = ask([*begin, other])
             return ask([*begin, other, willing]) if answer == "MissingArrayToBytes" else answer
 
-        found = _refused_list(ask_one, codec, refusal)
+        found = _failing_list(ask_one, codec, failure)
         if found is None:
-            error.key = None if refusal in _OF_NO_KEY else _key(ask_one, codec, refusal)
+            error.key = None if failure in _OF_NO_KEY else _key(ask_one, codec, failure)
             return
         key, codecs, ask = found
     error.key = key
 
 
-def _is_refused_by(codec: Any, value: Any) -> tuple[bool, Any]:
-    """Whether a bytes-to-bytes codec of the library refuses a value, and what it makes of it else."""
-    size = memoryview(value).nbytes - _LONGER[name_of(codec)]
+def _fails(codec: Any, value: Any) -> tuple[bool, Any]:
+    """Whether a bytes-to-bytes codec of the library fails to decode a value, and what it makes of it else."""
+    size = memoryview(value).nbytes - CHECKSUM_LENGTH
     if size <= 0:
         return size < 0 or any(memoryview(value).cast("B")), b""
-    from .chain import Chain
-
-    chain = Chain(["bytes", codec], (size,), "uint8")
-    # without `decode`, which looks where a refusal is of and so asks this again
-    call, _ = chain._decoding(value)
     try:
-        return False, told(chain._type, call, chain.shape)
+        return False, without_checksum(codec, value)
     except Refused:
         return True, None
 
 
 def locate_stored(error: Refused, ask: Ask, codecs: list[Any], value: Any) -> None:
-    """Puts into a refusal of a value which of these codecs it is of, where that is found: bytes-to-bytes codecs are
+    """Puts into an error of a value which of these codecs it is of, where that is found: bytes-to-bytes codecs are
     asked from the last one on, and where they take the value it is of the array-to-bytes codec. That a value isn't
     edited in place is of the codec behind this one, where there is one."""
     place = next(at for at in range(len(codecs)) if ask(codecs[: at + 1]) != "MissingArrayToBytes")
@@ -284,10 +278,10 @@ def locate_stored(error: Refused, ask: Ask, codecs: list[Any], value: Any) -> No
         place = min(place + 1, len(codecs) - 1)
     behind = () if type(error).__name__ in _OF_ELEMENTS else range(len(codecs) - 1, place, -1)
     for at in behind:
-        if value is None or name_of(codecs[at]) not in _LONGER:
+        if value is None or name_of(codecs[at]) != CHECKSUM:
             return
-        is_refused, value = _is_refused_by(codecs[at], value)
-        if is_refused:
+        has_failed, value = _fails(codecs[at], value)
+        if has_failed:
             place = at
             break
     error.codec = place, name_of(codecs[place])

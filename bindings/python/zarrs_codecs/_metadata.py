@@ -22,9 +22,9 @@ _KNOWN = _NEEDED | {
 }
 
 
-def _named(said: Any) -> tuple[str, dict[str, Any]]:
+def _named(declared: Any) -> tuple[str, dict[str, Any]]:
     """The name and the configuration of an extension point, which may be its name alone."""
-    match said:
+    match declared:
         case str(name):
             return name, {}
         case {"name": str(name), **rest}:
@@ -34,18 +34,18 @@ def _named(said: Any) -> tuple[str, dict[str, Any]]:
             if isinstance(configuration, dict):
                 return name, configuration
             raise InvalidMetadata(f"zarr.json has the configuration {reprlib.repr(configuration)} of {name!r}")
-    raise InvalidMetadata(f"zarr.json has no name in {reprlib.repr(said)}")
+    raise InvalidMetadata(f"zarr.json has no name in {reprlib.repr(declared)}")
 
 
-def _sizes(said: Any, key: str, least: int) -> tuple[int, ...]:
+def _sizes(declared: Any, key: str, least: int) -> tuple[int, ...]:
     """The sizes that a key has: those that numpy can count, from the least one on."""
-    if not isinstance(said, list) or any(type(size) is not int or not least <= size < 1 << 63 for size in said):
-        raise InvalidMetadata(f"zarr.json has the {key} {reprlib.repr(said)}")
-    return tuple(said)
+    if not isinstance(declared, list) or any(type(size) is not int or not least <= size < 1 << 63 for size in declared):
+        raise InvalidMetadata(f"zarr.json has the {key} {reprlib.repr(declared)}")
+    return tuple(declared)
 
 
 def _checked(metadata: Any) -> dict[str, Any]:
-    """A `zarr.json` of an array that is read here; `InvalidMetadata` says why not."""
+    """A `zarr.json` of an array that is read here; else `InvalidMetadata` is raised."""
     if not isinstance(metadata, dict):
         raise InvalidMetadata("zarr.json is no object")
     if metadata.get("zarr_format") != 3:
@@ -72,8 +72,8 @@ def _checked(metadata: Any) -> dict[str, Any]:
 class Keys:
     """Where chunks are: the encoding of their numbers in names."""
 
-    def __init__(self, said: Any) -> None:
-        name, configuration = _named(said)
+    def __init__(self, declared: Any) -> None:
+        name, configuration = _named(declared)
         if name not in ("default", "v2"):
             raise InvalidMetadata(f"no encoding of chunk keys is named {reprlib.repr(name)}")
         self._is_v2 = name == "v2"
@@ -89,9 +89,9 @@ class Keys:
         return self._separator.join(["c", *numbers])
 
 
-def _chunks(said: Any, axes: int) -> tuple[int, ...]:
+def _chunks(declared: Any, axes: int) -> tuple[int, ...]:
     """The shape of chunks that a grid has."""
-    name, configuration = _named(said)
+    name, configuration = _named(declared)
     if name != "regular":
         raise InvalidMetadata(f"a chunk grid that is {reprlib.repr(name)}, where regular ones are read")
     chunks = _sizes(configuration.get("chunk_shape"), "chunk shape", 1)
@@ -100,40 +100,40 @@ def _chunks(said: Any, axes: int) -> tuple[int, ...]:
     return chunks
 
 
-def _names(said: Any, axes: int) -> tuple[str | None, ...] | None:
+def _names(declared: Any, axes: int) -> tuple[str | None, ...] | None:
     """The names of the axes; None where none are given."""
-    if said is None:
+    if declared is None:
         return None
     if (
-        not isinstance(said, list)
-        or len(said) != axes
-        or not all(name is None or isinstance(name, str) for name in said)
+        not isinstance(declared, list)
+        or len(declared) != axes
+        or not all(name is None or isinstance(name, str) for name in declared)
     ):
-        raise InvalidMetadata(f"zarr.json has the dimension names {reprlib.repr(said)}")
-    return tuple(said)
+        raise InvalidMetadata(f"zarr.json has the dimension names {reprlib.repr(declared)}")
+    return tuple(declared)
 
 
 @dataclass(frozen=True)
 class ArrayMetadata:
     """What the `zarr.json` of an array says: itself, and what follows from it."""
 
-    said: dict[str, Any]
+    declared: dict[str, Any]
     shape: tuple[int, ...]
     chunks: tuple[int, ...]
     keys: Keys
     names: tuple[str | None, ...] | None
 
 
-def parsed(said: Any) -> ArrayMetadata:
+def parsed(declared: Any) -> ArrayMetadata:
     """What a `zarr.json` says. Raises `InvalidMetadata` where it isn't one of an array that is read here."""
-    said = _checked(said)
-    shape = _sizes(said["shape"], "shape", 0)
+    declared = _checked(declared)
+    shape = _sizes(declared["shape"], "shape", 0)
     return ArrayMetadata(
-        said,
+        declared,
         shape,
-        _chunks(said["chunk_grid"], len(shape)),
-        Keys(said["chunk_key_encoding"]),
-        _names(said.get("dimension_names"), len(shape)),
+        _chunks(declared["chunk_grid"], len(shape)),
+        Keys(declared["chunk_key_encoding"]),
+        _names(declared.get("dimension_names"), len(shape)),
     )
 
 
@@ -155,12 +155,12 @@ def metadata_of(files: Folder, root: str) -> ArrayMetadata:
             raise InvalidMetadata("the folder has an array of Zarr v2, where v3 is read") from None
         raise
     try:
-        said = json.loads(whole.decode())
+        declared = json.loads(whole.decode())
     except RecursionError as error:
         raise InvalidMetadata("zarr.json is nested too deeply") from error
     except ValueError as error:
         raise InvalidMetadata(f"zarr.json is no JSON: {error}") from error
-    return parsed(said)
+    return parsed(declared)
 
 
 _LITTLE = {"name": "bytes", "configuration": {"endian": "little"}}
@@ -177,14 +177,14 @@ def usual_codecs(kind: DataType) -> list[Any]:
     return [codec]
 
 
-def _named_type(said: Any) -> Any:
+def _named_type(declared: Any) -> Any:
     """A data type in the form of `zarr.json`, where `{"optional": TYPE}` has none."""
-    match said:
+    match declared:
         case {"optional": str(name), **rest} if not rest:
             return {"name": "zarrs.optional", "configuration": {"name": name}}
         case {"optional": dict(inner), **rest} if not rest:
             return {"name": "zarrs.optional", "configuration": inner}
-    return said
+    return declared
 
 
 def _as_objects(codecs: Sequence[Any]) -> list[Any]:

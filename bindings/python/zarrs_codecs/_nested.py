@@ -5,20 +5,15 @@ from typing import Any
 
 import numpy as np
 
+from ._coder import Coder, Cut
 from ._rounds import Fetched, Ranges
 from ._selections import Selection, select
-from ._sharding import ShardedChain
 from ._types import listed
-from .chain import Chain
-
-
-# The order of a chunk's axes in a shard, and the shard.
-Cut = tuple[tuple[int, ...], ShardedChain]
 
 
 def lacking_inside(cut: Cut, chosen: Selection, fetched: Fetched) -> Ranges:
     """The ranges of the next round: the index, then those of the shards inside, then what their inner chunks are read
-    by. Raises refusals where an index is damaged."""
+    by. Raises errors where an index is damaged."""
     asked = sorted(_asked(cut, chosen, 0, fetched.length, fetched))
     return fetched.without(np.array(asked, np.uint64).reshape(-1, 2))
 
@@ -26,27 +21,27 @@ def lacking_inside(cut: Cut, chosen: Selection, fetched: Fetched) -> Ranges:
 def _asked(cut: Cut, chosen: Selection, begin: int, length: int, fetched: Fetched) -> Iterator[tuple[int, int]]:
     """What a shard that begins at this byte of the value is asked for: its index where that isn't there, else what its
     inner chunks are."""
-    order, parts = cut
-    first, last = (begin + place for place in parts._index_range(length))
+    order, shard = cut
+    first, last = (begin + place for place in shard.index_range(length))
     index = fetched.bytes_of(first, last)
     if index is None:
         yield first, last
         return
-    entries = parts._entries(index)
-    for piece in parts._pieces(chosen.moved(order)):
-        where = parts._range(entries, piece.number, length)
+    entries = shard.entries(index)
+    for piece in shard.pieces(chosen.moved(order)):
+        where = shard.place_of(entries, piece.number, length)
         if where is not None:
-            yield from _asked_inside(parts._chunk, piece.inside, begin + where[0], where[1] - where[0], fetched)
+            yield from _asked_inside(shard.chunk, piece.inside, begin + where[0], where[1] - where[0], fetched)
 
 
 def _asked_inside(
-    chunk: Chain, inside: Any, begin: int, length: int, fetched: Fetched
+    chunk: Coder, inside: Any, begin: int, length: int, fetched: Fetched
 ) -> Iterator[tuple[int, int]]:
     """The same of an inner chunk: of a shard what a shard is asked for, of others what is planned, or all of it."""
-    if chunk._cut is not None and not chunk._outer:
-        yield from _asked(chunk._cut, select(inside, chunk.shape), begin, length, fetched)
+    if chunk.cut is not None and not chunk.has_outer:
+        yield from _asked(chunk.cut, select(inside, chunk.form.shape), begin, length, fetched)
         return
-    planned = chunk.planned_ranges(inside) if chunk._is_planned else None
+    planned = chunk.planned_ranges(inside) if chunk.is_planned else None
     ranges = [(0, length)] if planned is None else listed(planned)
     for first, last in ranges:
         # that one ends behind the inner chunk, the library says

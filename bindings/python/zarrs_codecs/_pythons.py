@@ -12,46 +12,46 @@ _ma: Any = np.ma  # numpy says no types of it
 _NUMPYS = (_ma.MaskedArray, np.str_, np.bytes_, np.bool_)
 
 
-def is_pythons(said: Any) -> bool:
+def is_pythons(given: Any) -> bool:
     """Whether it is no array of numpy's and none is made of it but by looking at its elements."""
-    return isinstance(said, (str, bytes)) or not hasattr(said, "__array__")
+    return isinstance(given, (str, bytes)) or not hasattr(given, "__array__")
 
 
-def plain(said: Any) -> Any:
+def plain(given: Any) -> Any:
     """The same, in lists and tuples that numpy takes as they are: with None where an element is absent, and Python's
     truth values, texts and byte strings where numpy's stood, of which it would leave out ending zeros."""
-    return _plain(said) if _has_numpys(said) else said
+    return _plain(given) if _has_numpys(given) else given
 
 
-def as_objects(said: Any) -> AnyArray:
+def as_objects(given: Any) -> AnyArray:
     """Lists, or one element, in an array of Python's objects."""
-    if not isinstance(said, (str, bytes)):
-        return np.asarray(said, object)
+    if not isinstance(given, (str, bytes)):
+        return np.asarray(given, object)
     alone = np.empty((), object)
-    alone[()] = said
+    alone[()] = given
     return alone
 
 
-def _has_numpys(said: Any) -> bool:
+def _has_numpys(given: Any) -> bool:
     """Whether something stands in nested lists that numpy holds another way, or is it."""
-    if not isinstance(said, (list, tuple)):
-        return isinstance(said, _NUMPYS)
-    kinds = set(map(type, said))
+    if not isinstance(given, (list, tuple)):
+        return isinstance(given, _NUMPYS)
+    kinds = set(map(type, given))
     if any(issubclass(kind, _NUMPYS) for kind in kinds):
         return True
-    return any(issubclass(kind, (list, tuple)) for kind in kinds) and any(map(_has_numpys, said))
+    return any(issubclass(kind, (list, tuple)) for kind in kinds) and any(map(_has_numpys, given))
 
 
-def _plain(said: Any) -> Any:
+def _plain(given: Any) -> Any:
     """What `plain` makes, element by element."""
-    if isinstance(said, np.str_):
-        return "".join([said])
-    if isinstance(said, np.bytes_):
-        return b"".join([said])
-    if isinstance(said, np.bool_):
-        return bool(said)
-    if isinstance(said, (list, tuple)) or isinstance(said, _ma.MaskedArray) and said.ndim:
-        return [_plain(one) for one in said]
-    if isinstance(said, _ma.MaskedArray):
-        return None if _ma.getmaskarray(said)[()] else said.data[()]
-    return said
+    if isinstance(given, np.str_):
+        return "".join([given])
+    if isinstance(given, np.bytes_):
+        return b"".join([given])
+    if isinstance(given, np.bool_):
+        return bool(given)
+    if isinstance(given, (list, tuple)) or isinstance(given, _ma.MaskedArray) and given.ndim:
+        return [_plain(one) for one in given]
+    if isinstance(given, _ma.MaskedArray):
+        return None if _ma.getmaskarray(given)[()] else given.data[()]
+    return given

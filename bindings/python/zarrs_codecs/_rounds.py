@@ -9,10 +9,8 @@ import numpy.typing as npt
 
 from ._buffers import counted, start
 from ._files import Held, Source, joined
-from ._header import copied, json_of
 from ._library import SHORT, checked
-from ._locating import name_of
-from ._types import AnyArray, Shape, listed
+from ._types import AnyArray, listed
 
 Ranges = npt.NDArray[np.uint64]
 
@@ -40,7 +38,7 @@ class Fetched:
         self.length = source.length()
         source.has_kept |= kept is not None
         self._pieces = _NOTHING if kept is None else kept
-        # what every round but the last has fetched: it tells where the elements are
+        # what every round but the last has fetched: it says where the elements are
         self.first = self._pieces
 
     @property
@@ -97,7 +95,7 @@ class Fetched:
         return np.ascontiguousarray(rows[rows[:, 0] < rows[:, 1]], np.uint64)
 
     def index(self, begin: int, end: int) -> AnyArray:
-        """The bytes of the range that tells where the elements are."""
+        """The bytes of the range that says where the elements are."""
         if not self.size or self.bytes_of(begin, end) is None:
             asked = np.array([[begin, end]], np.uint64)
             self.fetch(self.without(asked) if self.size else asked)
@@ -119,8 +117,8 @@ def at_hand(value: Any) -> Fetched:
     return Fetched(Held(b"" if value is None else value))
 
 
-def told_ranges(call: Callable[..., Any], guess: int) -> Ranges:
-    """The ranges that a call tells, rows of a start and an end; `guess` is how many numbers there may be."""
+def returned_ranges(call: Callable[..., Any], guess: int) -> Ranges:
+    """The ranges that a call returns, rows of a start and an end; `guess` is how many numbers there may be."""
     numbers, needed = np.empty(guess, np.uint64), ctypes.c_size_t()
     code = call(start(numbers), numbers.size, ctypes.byref(needed))
     if code == SHORT:
@@ -142,58 +140,6 @@ class Window(Source):
     def pieces(self, ranges: AnyArray) -> AnyArray:
         found = [self._fetched.there(self._begin + begin, self._begin + end) for begin, end in listed(ranges)]
         return np.concatenate(found)
-
-
-def behind_transpositions(codecs: list[Any], axes: int) -> tuple[tuple[int, ...], list[Any]]:
-    """The axes in the order that the transpositions before other codecs give them, and the other codecs."""
-    order = tuple(range(axes))
-    for place, codec in enumerate(codecs):
-        if name_of(codec) != "transpose":
-            return order, codecs[place:]
-        order = tuple(order[axis] for axis in codec["configuration"]["order"])
-    return order, []
-
-
-def layout_of(codecs: list[Any], axes: int) -> tuple[tuple[int, ...], Shape | None]:
-    """The axes in the order of the stored elements, the slowest first, and the sizes of the innermost inner chunks; None
-    where these aren't known, or there are none. Codecs of other forms leave the order of the elements as it is."""
-    order, rest = behind_transpositions(codecs, axes)
-    sizes: Shape | None = None
-    while rest and name_of(rest[0]) == "sharding_indexed":
-        said = rest[0]["configuration"]
-        on_axes = dict(zip(order, said["chunk_shape"], strict=True))
-        sizes = tuple(on_axes[axis] for axis in range(axes))
-        moved, rest = behind_transpositions(said["codecs"], axes)
-        order = tuple(order[axis] for axis in moved)
-    return order, sizes
-
-
-def _inside_shard(codecs: list[Any]) -> list[Any] | None:
-    """The codecs of a shard's inner chunks, as they stand in these; None where there is no shard."""
-    for codec in codecs:
-        if name_of(codec) == "sharding_indexed":
-            said = codec.get("configuration") if isinstance(codec, dict) else None
-            inner = said.get("codecs") if isinstance(said, dict) else None
-            # one that is skipped may have none
-            return inner if isinstance(inner, list) else None
-    return None
-
-
-def has_shards_inside(codecs: list[Any]) -> bool:
-    """Whether these codecs have a shard whose inner chunks are shards."""
-    inner = _inside_shard(codecs)
-    return inner is not None and any(name_of(one) == "sharding_indexed" for one in inner)
-
-
-def with_whole_inside(codecs: list[Any]) -> list[Any] | None:
-    """These codecs with a checksum behind those of a shard's inner chunks, by which a read of them lacks all of their
-    bytes; None where there is no shard."""
-    found = copied(json_of(codecs))
-    inner = _inside_shard(found)
-    if inner is None:
-        return None
-    inner.append("crc32c")
-    return found
 
 
 def _merged(*parts: Pieces) -> Pieces:

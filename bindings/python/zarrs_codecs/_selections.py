@@ -90,7 +90,7 @@ class Box:
 
     @property
     def has_gaps(self) -> bool:
-        """Whether there are elements between those that are meant."""
+        """Whether there are elements between those that are selected."""
         return any(one.step > 1 for one in self.on_axes)
 
     def numbers(self) -> tuple[int, AnyArray]:
@@ -133,7 +133,7 @@ class Box:
         return Box([self.on_axes[axis] for axis in order], None)
 
     def without_gaps(self) -> "Box | Rows":
-        """The same elements in the same order, as rows where there are elements between those that are meant."""
+        """The same elements in the same order, as rows where there are elements between those that are selected."""
         return Rows(self._rows()) if self.has_gaps else self
 
     def parts(self, limit: int, together: int | None = None) -> Iterator["Box | Rows"]:
@@ -222,7 +222,7 @@ def _rising(places: range) -> range:
 
 
 def box(selection: Any, shape: Shape) -> Box:
-    """The places that a basic index means. Raises `IndexError` where it is none, and `TypeError`
+    """The places that a basic index selects. Raises `IndexError` where it is none, and `TypeError`
     where a slice has other ends than integers."""
     entries, has_ellipsis = entries_of(selection, len(shape))
     on_axes: list[range] = []
@@ -248,15 +248,15 @@ def box(selection: Any, shape: Shape) -> Box:
     return Box(on_axes, (*after, ...) if has_ellipsis else tuple(after))
 
 
-def as_places(said: Any) -> AnyArray:
+def as_places(given: Any) -> AnyArray:
     """Places, or a mask, as an array. Raises `IndexError` where lists of several lengths are none."""
     try:
-        return np.asarray(said)
+        return np.asarray(given)
     except ValueError as error:
         raise IndexError(f"lists of places of several lengths: {error}") from error
 
 
-def _check_inside(rows: AnyArray, shape: Shape) -> None:
+def check_inside(rows: AnyArray, shape: Shape) -> None:
     """Raises `OutOfBounds` where an element's indices are outside, as the library does, and says which."""
     outside = rows >= np.array(shape, np.uint64)
     if outside.any():
@@ -277,7 +277,7 @@ def _rows(selection: Any, shape: Shape) -> Rows:
     if is_behind.any():
         # 2^64 numbers go round: one that stays below zero is above each size
         rows = np.where(is_behind, rows + np.array(shape, np.uint64), rows)
-    _check_inside(rows, shape)
+    check_inside(rows, shape)
     return Rows(rows if rows.flags.aligned else rows.copy())
 
 

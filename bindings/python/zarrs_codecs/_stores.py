@@ -14,15 +14,15 @@ from typing import Any
 import numpy as np
 
 from ._cache import State
-from ._files import File, Source, bytes_of, counted, joined, opened, replace
+from ._files import MOST_JOINED, File, NearFile, Source, bytes_of, counted, cut, near, opened, replace
 from ._types import AnyArray, listed
 
-# Words of `info` that tell of a change, in whatever case: tags, of which each value has its own, and times.
+# Words of `info` that differ after a change, in whatever case: tags, of which each value has its own, and times.
 _TAG = re.compile("etag|generation|md5|digest|checksum|^version(_?id)?$", re.IGNORECASE)
 _TIME = re.compile("modified|mtime|created|updated", re.IGNORECASE)
 # Those that a read may change.
 _OF_READS = re.compile("^a?time$|access", re.IGNORECASE)
-# A file that was changed fewer seconds ago may be changed again and have the same time: some stores tell whole seconds.
+# A file that was changed fewer seconds ago may be changed again and have the same time: some stores report whole seconds.
 _SETTLED_SECONDS = 2
 # A greater number is one of milliseconds.
 _MOST_SECONDS = 1e11
@@ -54,9 +54,10 @@ class Folder:
 
 class Store(Folder):
     """The files that an object opens by their paths. Where it has `info` and `cat_ranges`, as fsspec's file systems
-    have, it fetches all ranges of a file that a read needs by one call. It isn't written."""
+    have, it fetches all ranges of a file that a read needs by one call, those that are near as one. It isn't written."""
 
-    def __init__(self, store: Any) -> None:
+    def __init__(self, store: Any, near: int) -> None:
+        self._near = near
         if not hasattr(store, "open"):
             raise TypeError(f"a {type(store).__name__} opens no files")
         self._store = store
@@ -64,7 +65,7 @@ class Store(Folder):
 
     def open(self, path: str) -> Source:
         with _named(path):
-            return _Ranged(self._store, path) if self._has_ranges else _Opened(self._store.open(path))
+            return _Ranged(self._store, path, self._near) if self._has_ranges else _Opened(self._store.open(path))
 
     def read(self, path: str) -> bytes:
         with _named(path), closing(self._store.open(path)) as file:
@@ -89,7 +90,7 @@ def _named(path: str) -> Iterator[None]:
         raise FileNotFoundError(f"the store has no {path}") from error
 
 
-class _Own(File):
+class _Own(NearFile):
     """A file that was opened for a read, by its number."""
 
     def close(self) -> None:
@@ -103,40 +104,40 @@ class _Opened(File):
         self._file.close()
 
 
-def _moment(said: Any) -> float | None:
-    """The moment that `info` tells, in seconds; None where it isn't known."""
-    if isinstance(said, str):
+def _moment(reported: Any) -> float | None:
+    """The moment that `info` reports, in seconds; None where it isn't known."""
+    if isinstance(reported, str):
         try:
-            said = datetime.fromisoformat(re.sub("Z$", "+00:00", said))
+            reported = datetime.fromisoformat(re.sub("Z$", "+00:00", reported))
         except ValueError:
             try:
-                said = parsedate_to_datetime(said)
+                reported = parsedate_to_datetime(reported)
             except (TypeError, ValueError):
                 return None
-    if isinstance(said, datetime):
-        # of one without a zone the later one of the two that may be meant
-        zones = (None, timezone.utc) if said.tzinfo is None else (said.tzinfo,)
-        return max(said.replace(tzinfo=zone).timestamp() for zone in zones)
-    if type(said) not in (int, float):
+    if isinstance(reported, datetime):
+        # of one without a zone the later one of the two that it may be
+        zones = (None, timezone.utc) if reported.tzinfo is None else (reported.tzinfo,)
+        return max(reported.replace(tzinfo=zone).timestamp() for zone in zones)
+    if type(reported) not in (int, float):
         return None
-    return float(said) / (1000 if said > _MOST_SECONDS else 1)
+    return float(reported) / (1000 if reported > _MOST_SECONDS else 1)
 
 
 class _Ranged(Source):
     """A file of a store of which several ranges are fetched by one call, each time by its path."""
 
-    def __init__(self, store: Any, path: str) -> None:
-        self._store, self._path = store, path
-        self._info = self._told()
+    def __init__(self, store: Any, path: str, near: int) -> None:
+        self._store, self._path, self._near = store, path, near
+        self._info = self._reported()
         if self._info.get("type") == "directory":
             raise FileNotFoundError(f"{path} is a folder")
         if self._info.get("size") is None:
-            raise OSError(f"the store doesn't tell how many bytes {path} has")
+            raise OSError(f"the store doesn't report how many bytes {path} has")
 
-    def _told(self) -> dict[str, Any]:
-        """What the store tells of the file, but for what a read may change."""
-        said = self._store.info(self._path)
-        return {name: said[name] for name in sorted(said) if not _OF_READS.search(name)}
+    def _reported(self) -> dict[str, Any]:
+        """What the store reports of the file, but for what a read may change."""
+        reported = self._store.info(self._path)
+        return {name: reported[name] for name in sorted(reported) if not _OF_READS.search(name)}
 
     @property
     def part_bytes(self) -> int | None:
@@ -153,14 +154,14 @@ class _Ranged(Source):
             return None
         return self.length(), repr(self._info)
 
-    def is_same(self, rests_on_length: bool = False, was_refused: bool = False) -> bool:
-        # what was kept is of the moment when `info` told of the file, and so is the length
+    def is_same(self, rests_on_length: bool = False, has_failed: bool = False) -> bool:
+        # what was kept is of the moment when `info` reported of the file, and so is the length
         moments = self.calls + (self.has_kept or rests_on_length)
-        if moments < 2 and not was_refused:
+        if moments < 2 and not has_failed:
             return True
         try:
             with _named(self._path):
-                return self._told() == self._info
+                return self._reported() == self._info
         except FileNotFoundError:
             return False
 
@@ -168,7 +169,8 @@ class _Ranged(Source):
         if not len(ranges):
             return np.empty(0, np.uint8)
         self.calls += 1
-        begins, ends = (listed(column) for column in joined(ranges).T)
+        covering = near(listed(ranges), self._near, MOST_JOINED)
+        begins, ends = (list(column) for column in zip(*covering, strict=True))
         parts = self._store.cat_ranges([self._path] * len(begins), begins, ends)
         if not isinstance(parts, (list, tuple)) or len(parts) != len(begins):
             raise OSError(f"a store answered {reprlib.repr(parts)}, where {len(begins)} parts are due")
@@ -177,4 +179,4 @@ class _Ranged(Source):
                 raise part
             if len(bytes_of(part, end - begin)) < end - begin:
                 raise EOFError("the file ended while it was read")
-        return np.frombuffer(bytearray().join(parts), np.uint8)
+        return cut(ranges, covering, [np.frombuffer(part, np.uint8) for part in parts])

@@ -1,6 +1,5 @@
 """A Zarr v3 array in a folder, or in a store."""
 
-import itertools
 import math
 import operator
 import os
@@ -12,38 +11,21 @@ import numpy as np
 from numpy.typing import ArrayLike, DTypeLike
 
 from ._attributes import Attributes, bytes_of
-from ._chunks import Chunks, Each, one_by_one
+from ._chunks import Chunks
 from ._data_types import data_type as data_type_of
 from ._data_types import zarrs_own
-from ._elements import empty, held, picked, spread
 from ._files import UNFINISHED, replace
 from ._fill_values import fill_json, is_absent
-from ._indexing import Outer, Points, Step, is_list
+from ._header import codec_list
+from ._indexing import Outer
 from ._metadata import made, metadata_of, parsed, usual_codecs
-from ._selections import Box, box
-from ._sharding import array_chain
+from ._regions import Elements
 from ._stores import Folder, Store
 from ._types import AnyArray, Shape, sizes_of
-from .chain import codec_list
+from .chain import array_chain, coder_in
 from .refusals import InvalidFillValue, Refused
-
-# A chunk's numbers, the places in it, and those in the answer.
-Part = tuple[tuple[int, ...], tuple[slice, ...], tuple[slice, ...]]
-
-
-def _on_axis(on_axis: range, size: int) -> list[tuple[int, slice, slice]]:
-    """The chunks that rising places touch on an axis: each one's number, the places in it, and those of the
-    answer."""
-    found = []
-    first = 0
-    while first < len(on_axis):
-        number, inside = divmod(on_axis[first], size)
-        end = (number + 1) * size
-        last = min(first + -((on_axis[first] - end) // on_axis.step), len(on_axis))
-        stop = on_axis[last - 1] - number * size + 1
-        found.append((number, slice(inside, stop, on_axis.step), slice(first, last)))
-        first = last
-    return found
+# Ranges of a store's file with so many bytes between them, or fewer, are one request.
+_NEAR = 1 << 16
 
 
 class Info(dict[str, Any]):
@@ -67,29 +49,64 @@ class Array:
     elements what their own codecs need; a chunk that isn't there has fill values. Values that are needed whole
     are kept, `cache` bytes at most, behind the codecs that Python runs, for as long as the file is the same; of
     others an index, or the offsets of texts.
+
     Writing replaces whole files, each by a rename of one that is on the disk as a whole, with the mode that the
-    file had, so a reader sees a chunk as it was or as it is; two writers of one chunk must take turns. `threads`
-    chunks are read or written at a time.
+    file had, so a reader sees a chunk as it was or as it is; two writers of one chunk must take turns.
 
-    The folder is that of the moment when it is opened, whatever folder is the current one later;
-    `FileNotFoundError` is raised where it isn't there or has no `zarr.json` any more. Raises `InvalidMetadata`
-    where its `zarr.json` is of no such array, the refusals of `Chain`, those of `decode` where a chunk is read
-    whole and else those of `read`, `InvalidBytesLength` for a chunk of another length than its codecs always
-    write, `OSError` for what is no file, as a pipe is, `IndexError` for an index that is none, `ValueError` for elements that don't broadcast or aren't of
-    the type, and `TypeError` for those of another kind.
-
-    `shape`, `dtype`, `ndim` and `size` are as numpy has them, and `chunks` is the shape of a chunk;
-    `dimension_names` has the axes' names, or is None; `metadata` is what `zarr.json` said, `chain` the `Chain` of
-    its chunks, and `folder` where they are.
-
-    `store` is an object that opens files by `store.open(path)`, whose paths begin with `folder`: each file has
-    `seek`, and `readinto` or `read`, and one that isn't there is a `FileNotFoundError` or a `KeyError`, as
-    `zipfile.ZipFile` has it. Where it has `info` and `cat_ranges`, as fsspec's file systems have, all ranges of a
-    round of `Chain.read_from` are fetched by one call, and what `info` tells must differ
+    Where `store` has `info` and `cat_ranges`, as fsspec's file systems have, all ranges of a
+    round of `Chain.read_from` are fetched by one call, and what `info` reports must differ
     where a file was changed, else nothing of it is kept; a read of several calls, or that looks for an index at the end,
-    is made anew where it was changed meanwhile, and `OSError` is raised where it is so each time. Such an array isn't
-    written: `io.UnsupportedOperation` is raised.
+    is made anew where it was changed meanwhile, and `OSError` is raised where it is so each time.
 
+    Parameters
+    ----------
+    folder : str or os.PathLike
+        Where it is: that of the moment when it is opened, whatever folder is the current one later.
+    cache : int, optional
+        How many bytes of values are kept.
+    threads : int, optional
+        How many chunks are read or written at a time.
+    store : object, optional
+        What opens files by `store.open(path)`, whose paths begin with `folder`: each file has `seek`, and `readinto` or
+        `read`, and one that isn't there is a `FileNotFoundError` or a `KeyError`, as `zipfile.ZipFile` has it. Such an array
+        isn't written: `io.UnsupportedOperation` is raised.
+    coalesce : int, optional
+        Ranges of a store's file with so many bytes between them, or fewer, are one request, of 16 MiB at most: as many as
+        come in the time that a request takes.
+
+    Attributes
+    ----------
+    shape, dtype, ndim, size
+        As numpy has them.
+    chunks : tuple of int
+        The shape of a chunk.
+    dimension_names : tuple of str or None, or None
+        The axes' names.
+    metadata : dict
+        What `zarr.json` declared.
+    chain : Chain
+        The chain of the chunks.
+    folder : pathlib.Path
+        Where they are.
+
+    Raises
+    ------
+    FileNotFoundError
+        The folder isn't there or has no `zarr.json` any more.
+    InvalidMetadata
+        Its `zarr.json` is of no such array.
+    Refused
+        The errors of `Chain`, those of `decode` where a chunk is read whole and else those of `read`; `InvalidBytesLength`
+        for a chunk of another length than its codecs always write.
+    OSError
+        It is no file, as a pipe isn't.
+    IndexError
+        An index is none.
+    ValueError, TypeError
+        Elements don't broadcast, or aren't of the type; or are of another kind.
+
+    Examples
+    --------
     >>> import tempfile
     >>> folder = tempfile.TemporaryDirectory()
     >>> array = Array.create(folder.name, (4, 6), (2, 3), "float32", fill_value=0.5)
@@ -104,32 +121,40 @@ class Array:
     """
 
     def __init__(
-        self, folder: str | os.PathLike[str], *, cache: int = 1 << 25, threads: int = 1, store: Any = None
+        self,
+        folder: str | os.PathLike[str],
+        *,
+        cache: int = 1 << 25,
+        threads: int = 1,
+        store: Any = None,
+        coalesce: int = _NEAR,
     ) -> None:
         self._store, self._settings = store, {"cache": operator.index(cache), "threads": operator.index(threads)}
+        self._coalesce = operator.index(coalesce)
         self._folder = os.path.abspath(folder) if store is None else os.fspath(folder).rstrip("/")
         self.folder = Path(self._folder)
         path = self.folder / "zarr.json"
-        files = Folder() if store is None else Store(store)
+        files = Folder() if store is None else Store(store, coalesce)
         root = f"{self._folder}/" if self._folder else ""
         try:
             found = metadata_of(files, root)
-            said, self.shape, self.chunks = found.said, found.shape, found.chunks
-            self._type = data_type_of(said["data_type"])
-            if said["fill_value"] is None and not self._type.is_optional:
+            declared, self.shape, self.chunks = found.declared, found.shape, found.chunks
+            self._type = data_type_of(declared["data_type"])
+            if declared["fill_value"] is None and not self._type.is_optional:
                 raise InvalidFillValue(f"null isn't of {self._type.name}")
-            self.chain = array_chain(said["codecs"], self.chunks, said["data_type"], said["fill_value"])
+            self.chain = array_chain(declared["codecs"], self.chunks, declared["data_type"], declared["fill_value"])
         except Refused as error:
             error.path = path
             raise
-        self.metadata: dict[str, Any] = said
+        self.metadata: dict[str, Any] = declared
         self.dimension_names = found.names
-        self._attributes = Attributes(files, root, said)
+        self._attributes = Attributes(files, root, declared)
         self.dtype = self._type.dtype
         self.ndim = len(self.shape)
         self.size = math.prod(self.shape)
         self._fill: Any = self.chain.read(None, (0,) * self.ndim)
-        self._chunks = Chunks(files, root, found.keys, self.chain, self._type, **self._settings)
+        self._chunks = Chunks(files, root, found.keys, coder_in(self.chain), **self._settings)
+        self._elements = Elements(self.shape, self.chunks, self._type, self._fill, self._chunks)
 
     @classmethod
     def create(
@@ -146,14 +171,42 @@ class Array:
         cache: int = 1 << 25,
         threads: int = 1,
     ) -> "Array":
-        """A new array, in a folder that isn't there or is empty: else `FileExistsError` is raised, and the
-        refusals of opening such an array where there is none; what a killed writer left behind doesn't matter.
+        """A new array.
 
-        `data_type` is as `zarr.json` has it, or numpy's; `fill_value` is so too, or as Python has it, and None is
-        zero, empty or absent.
-        Without `codecs` the elements are stored as they are, the lowest byte first, and texts and byte strings
-        as zarr-python stores them, by `vlen-utf8` and `vlen-bytes`; `zarrs.vlen` reads a few of them by themselves.
+        Parameters
+        ----------
+        folder : str or os.PathLike
+            A folder that isn't there or is empty; what a killed writer left behind doesn't matter.
+        shape, chunks : int or sequence of int
+            The shape of the array and that of a chunk.
+        data_type : str, dict, numpy.dtype or type
+            The type of the elements, as `zarr.json` has it, or numpy's.
+        fill_value : object, optional
+            The element where nothing is stored, as `zarr.json` or Python has it; None is zero, empty or absent.
+        codecs : sequence of str or dict, optional
+            Without them the elements are stored as they are, the lowest byte first, and texts and byte strings
+            as zarr-python stores them, by `vlen-utf8` and `vlen-bytes`; `zarrs.vlen` reads a few of them by themselves.
+        attributes : dict, optional
+            Attributes by their names.
+        dimension_names : sequence of str or None, optional
+            The axes' names.
+        cache, threads : int, optional
+            As `Array` takes them.
 
+        Returns
+        -------
+        Array
+            The array, opened.
+
+        Raises
+        ------
+        FileExistsError
+            The folder has something in it.
+        Refused
+            There is no such array.
+
+        Examples
+        --------
         >>> import tempfile
         >>> with tempfile.TemporaryDirectory() as folder:
         ...     array = Array.create(folder, [3], [2], "string", fill_value="?", dimension_names=["x"])
@@ -182,6 +235,8 @@ class Array:
     def attrs(self) -> Attributes:
         """The attributes, by their names. One that is set or deleted is so in `zarr.json` at once.
 
+        Examples
+        --------
         >>> import tempfile
         >>> with tempfile.TemporaryDirectory() as folder:
         ...     Array.create(folder, [3], [2], "int8", attributes={"unit": "m"}).attrs["by"] = "hand"
@@ -194,6 +249,8 @@ class Array:
     def fill_value(self) -> Any:
         """The element that is everywhere where nothing is stored, as numpy holds it; None where it is absent.
 
+        Examples
+        --------
         >>> import tempfile
         >>> with tempfile.TemporaryDirectory() as folder:
         ...     print(Array.create(folder, [3], [2], "float32", fill_value="NaN").fill_value)
@@ -205,6 +262,8 @@ class Array:
     def nbytes(self) -> int:
         """How many bytes all elements have in numpy's array of them, without those of texts themselves.
 
+        Examples
+        --------
         >>> import tempfile
         >>> with tempfile.TemporaryDirectory() as folder:
         ...     Array.create(folder, [3], [2], "float32").nbytes
@@ -216,6 +275,8 @@ class Array:
     def info(self) -> Info:
         """What the array is, a dict by names, which prints a line each.
 
+        Examples
+        --------
         >>> import tempfile
         >>> with tempfile.TemporaryDirectory() as folder:
         ...     print(Array.create(folder, [3], [2], "int8").info)  # doctest: +ELLIPSIS
@@ -247,7 +308,7 @@ class Array:
         return f"Array({self._folder!r})"
 
     def __reduce__(self) -> tuple[Any, ...]:
-        return _opened, (self._folder, self._store, self._settings)
+        return _opened, (self._folder, self._store, {**self._settings, "coalesce": self._coalesce})
 
     def __len__(self) -> int:
         if not self.shape:
@@ -268,8 +329,20 @@ class Array:
         return np.asanyarray(self[...], dtype)
 
     def chunk_path(self, chunk: Shape) -> Path:
-        """The file of the chunk of these numbers, which may not be there.
+        """The file of a chunk, which may not be there.
 
+        Parameters
+        ----------
+        chunk : tuple of int
+            The chunk's numbers on the axes.
+
+        Returns
+        -------
+        pathlib.Path
+            Its path.
+
+        Examples
+        --------
         >>> import tempfile
         >>> with tempfile.TemporaryDirectory() as folder:
         ...     str(Array.create(folder, [9], [3], "int8").chunk_path((2,)).relative_to(folder))
@@ -277,20 +350,13 @@ class Array:
         """
         return Path(self._chunks.path(chunk))
 
-    def _parts(self, on_axes: list[range]) -> Iterator[Part]:
-        """The parts of a basic index, one of each chunk that has some of it."""
-        if not all(on_axes):
-            return
-        touched = [_on_axis(on_axis, size) for on_axis, size in zip(on_axes, self.chunks)]
-        for each in itertools.product(*touched):
-            numbers, inside, there = zip(*each) if each else ((), (), ())
-            yield numbers, inside, there
-
     @property
     def oindex(self) -> "OuterIndex":
         """`array.oindex[..]` takes a list of places or a mask for each axis that has one, each with each. The
         answer has an axis for each list and slice, in their order.
 
+        Examples
+        --------
         >>> import tempfile
         >>> with tempfile.TemporaryDirectory() as folder:
         ...     array = Array.create(folder, [3, 4], [2, 2], "int8")
@@ -299,13 +365,15 @@ class Array:
         array([[ 8, 11],
                [ 0,  3]], dtype=int8)
         """
-        return OuterIndex(self)
+        return OuterIndex(self._elements)
 
     @property
     def vindex(self) -> "PointIndex":
         """`array.vindex[..]` takes points: an index for each axis, which are broadcast and have the shape of the
         answer; or a mask of all.
 
+        Examples
+        --------
         >>> import tempfile
         >>> with tempfile.TemporaryDirectory() as folder:
         ...     array = Array.create(folder, [3, 4], [2, 2], "int8")
@@ -313,138 +381,39 @@ class Array:
         ...     array[...].tolist()
         [[0, 5, 0, 0], [0, 0, 0, 0], [0, 0, 0, 6]]
         """
-        return PointIndex(self)
+        return PointIndex(self._elements)
 
     def __getitem__(self, selection: Any) -> Any:
-        if _is_mask(selection, self.shape):
-            return self.vindex[selection]
-        if _has_list(selection):
-            return self._read_outer(*self._numpys(selection))
-        chosen = box(selection, self.shape)
-        self._chunks.check_folder()
-        return self._read_box(chosen, self._chunks.each)
-
-    def _read_box(self, chosen: Box, each: Each) -> Any:
-        """The elements of a basic index."""
-        answer = empty(self._type, chosen.shape)
-        parts = self._parts(chosen.on_axes)
-        fill = self._fill
-        each(
-            self._chunks.read_into,
-            ((chunk, (*inside, ...), answer, (*there, ...), fill) for chunk, inside, there in parts),
-        )
-        return picked(answer, chosen.after)
-
-    def _write_box(self, new: AnyArray, chosen: Box, each: Each) -> None:
-        """Writes elements that the type holds, broadcast, at the places of a basic index."""
-        parts = self._parts(chosen.on_axes)
-        whole: Any = spread(self._type, new, chosen.shape, chosen.after)
-        each(
-            self._chunks.write,
-            ((chunk, (*inside, ...), whole[(*there, ...)]) for chunk, inside, there in parts),
-        )
-
-    def _numpys(self, selection: Any) -> tuple[Outer, int | None]:
-        """An outer index with one list, which is numpy's too, and the axis that numpy puts first."""
-        chosen = Outer(selection, self.shape)
-        if chosen.lists > 1:
-            raise IndexError("several lists of places: oindex takes each with each, vindex points")
-        return chosen, chosen.front
-
-    def _read_outer(self, chosen: Outer, front: int | None = None) -> AnyArray:
-        self._chunks.check_folder()
-        answer = empty(self._type, chosen.shape)
-
-        def read(step: Step) -> None:
-            place = box((*step.place, ...), self.shape)
-            if step.is_sparse(place):
-                answer[step.there] = self._read_points(Points(step.points(place), self.shape), one_by_one)
-            else:
-                answer[step.there] = self._read_box(place, one_by_one)[step.inside]
-
-        self._chunks.each(read, ((step,) for step in chosen.steps(self.chunks)))
-        return answer if front is None else np.moveaxis(answer, front, 0)
-
-    def _write_outer(self, array: ArrayLike, chosen: Outer, front: int | None = None) -> None:
-        shape = list(chosen.shape)
-        if front is not None:
-            shape.insert(0, shape.pop(front))
-        new = spread(self._type, held(self._type, array), tuple(shape), None)
-        if front is not None:
-            new = np.moveaxis(new, 0, front)
-        self._chunks.check_folder()
-
-        def write(step: Step) -> None:
-            place = box((*step.place, ...), self.shape)
-            elements = self._read_box(place, one_by_one)
-            elements[step.inside] = new[step.there]
-            self._write_box(elements, place, one_by_one)
-
-        self._chunks.each(write, ((step,) for step in chosen.steps(self.chunks)))
-
-    def _read_points(self, points: Points, each: Each) -> Any:
-        """The elements at points."""
-        answer = empty(self._type, points.shape)
-        in_a_row = answer.reshape(-1)
-        parts = points.by_chunk(self.chunks)
-        each(
-            self._chunks.read_into,
-            ((chunk, rows, in_a_row, numbers, self._fill) for chunk, rows, numbers in parts),
-        )
-        return picked(answer, ())
-
-    def _write_points(self, array: ArrayLike, points: Points) -> None:
-        new = spread(self._type, held(self._type, array), points.shape, None).reshape(-1)
-        parts = points.by_chunk(self.chunks)
-        self._chunks.each(self._chunks.write, ((chunk, rows, new[numbers]) for chunk, rows, numbers in parts))
+        return self._elements.read(selection)
 
     def __setitem__(self, selection: Any, array: ArrayLike) -> None:
-        if _is_mask(selection, self.shape):
-            self.vindex[selection] = array
-            return
-        if _has_list(selection):
-            self._write_outer(array, *self._numpys(selection))
-            return
-        self._write_box(held(self._type, array), box(selection, self.shape), self._chunks.each)
+        self._elements.write(selection, array)
 
 
 class OuterIndex:
     """Reads and writes an array by outer indices: a list of places or a mask for each axis that has one."""
 
-    def __init__(self, array: Array) -> None:
-        self._array = array
+    def __init__(self, elements: Elements) -> None:
+        self._elements = elements
 
     def __getitem__(self, selection: Any) -> AnyArray:
-        return self._array._read_outer(Outer(selection, self._array.shape))
+        return self._elements.read_outer(Outer(selection, self._elements.shape))
 
     def __setitem__(self, selection: Any, array: ArrayLike) -> None:
-        self._array._write_outer(array, Outer(selection, self._array.shape))
+        self._elements.write_outer(array, Outer(selection, self._elements.shape))
 
 
 class PointIndex:
     """Reads and writes an array by points: an index for each axis, or a mask of all."""
 
-    def __init__(self, array: Array) -> None:
-        self._array = array
+    def __init__(self, elements: Elements) -> None:
+        self._elements = elements
 
     def __getitem__(self, selection: Any) -> Any:
-        points = Points(selection, self._array.shape)
-        self._array._chunks.check_folder()
-        return self._array._read_points(points, self._array._chunks.each)
+        return self._elements.read_points(selection)
 
     def __setitem__(self, selection: Any, array: ArrayLike) -> None:
-        self._array._write_points(array, Points(selection, self._array.shape))
-
-
-def _has_list(selection: Any) -> bool:
-    """Whether a list of places or a mask is in an index."""
-    return any(map(is_list, selection if isinstance(selection, tuple) else (selection,)))
-
-
-def _is_mask(selection: Any, shape: tuple[int, ...]) -> bool:
-    """Whether an index is a mask of all elements, of an array with several axes."""
-    mask = isinstance(selection, np.ndarray) and selection.dtype == bool
-    return mask and selection.ndim > 1 and selection.shape == shape
+        self._elements.write_points(selection, array)
 
 
 def _opened(folder: str, store: Any, settings: dict[str, int]) -> Array:

@@ -10,17 +10,18 @@ from zarr.codecs._v2 import V2Codec
 from zarr.core.codec_pipeline import fill_value_or_default
 
 from .._data_types import zarrs_own
-from .._rounds import behind_transpositions
+from .._layout import SHARDS, behind_transpositions
+from .._numcodecs import NAMES as NUMCODECS
 from .._types import Shape
-from ..chain import Chain, is_read_whole
+from ..chain import Chain, coder_in
 from ..refusals import Refused
 from ._zarr2 import codecs_of
 
-# The codecs that mean the same there and here.
-_CODECS = frozenset(
-    {"bytes", "endian", "transpose", "crc32c", "vlen-utf8", "vlen-bytes", "sharding_indexed", "gzip", "zstd", "blosc"}
-)
-_SHARDS = "sharding_indexed"
+# The codecs that are the same there and here, and where zarr-python has the classes of its own.
+_CODECS = NUMCODECS | {
+    *("bytes", "endian", "transpose", "crc32c", "vlen-utf8", "vlen-bytes", "sharding_indexed", "gzip", "zstd", "blosc")
+}
+_THEIR_MODULES = ("zarr.codecs.", "numcodecs.zarr3")
 # A value of so many bytes, or fewer, is read at once.
 _SMALL = 1 << 16
 # Chains of so many forms of chunks are kept.
@@ -42,13 +43,13 @@ class Coding:
     @cached_property
     def is_read_whole(self) -> bool:
         """Whether a read of any element takes all of a value's bytes."""
-        return is_read_whole(self.chain)
+        return coder_in(self.chain).is_read_whole
 
     @cached_property
     def inner_shape(self) -> Shape | None:
         """The sizes of a shard's inner chunks, behind transpositions too; None of other chunks."""
         order, rest = behind_transpositions(self.chain.codecs, len(self.shape))
-        if not rest or rest[0]["name"] != _SHARDS:
+        if not rest or rest[0]["name"] != SHARDS:
             return None
         sizes = dict(zip(order, rest[0]["configuration"]["chunk_shape"], strict=True))
         return tuple(sizes[axis] for axis in range(len(order)))
@@ -68,7 +69,7 @@ class Coding:
     @cached_property
     def decodes_into(self) -> bool:
         """Whether a chunk may be decoded straight into an array."""
-        return self.dtype != object and _SHARDS not in self.chain.unproved
+        return self.dtype != object and SHARDS not in self.chain.unproved
 
     @cached_property
     def least_bytes(self) -> int:
@@ -81,7 +82,7 @@ class Coding:
 def _check_codec(codec: Any) -> None:
     """Raises `NotTaken` of a codec that isn't zarr-python's own: of one that somebody has registered in its place another
     meaning is taken."""
-    if not type(codec).__module__.startswith("zarr.codecs."):
+    if not type(codec).__module__.startswith(_THEIR_MODULES):
         raise NotTaken(f"the codec {type(codec).__qualname__} isn't zarr-python's own")
     for inner in (*getattr(codec, "codecs", ()), *getattr(codec, "index_codecs", ())):
         _check_codec(inner)
@@ -118,7 +119,10 @@ def native(dtype: Any) -> np.dtype[Any]:
 
 def coding_of(codecs: "str | V2Codec", spec: Any) -> Coding:
     """How the library codes chunks, whose form zarr-python declares so. Raises `NotTaken` where it doesn't."""
-    dtype, fill = native(spec.dtype), fill_value_or_default(spec)
+    dtype = native(spec.dtype)
+    if dtype.fields is not None:
+        raise NotTaken(f"elements are a struct of {', '.join(dtype.fields)}")
+    fill = fill_value_or_default(spec)
     if isinstance(codecs, V2Codec):
         declared = codecs_of(codecs, dtype, spec.order, len(spec.shape))
         if declared is None:
@@ -141,7 +145,7 @@ def coding_of(codecs: "str | V2Codec", spec: Any) -> Coding:
 
 @lru_cache(_MOST_CHAINS)
 def _coding(codecs: str, shape: Shape, dtype: np.dtype[Any], fill: bytes | str) -> Coding | str:
-    """The same of a fill value by its bits; why not, where the library doesn't."""
+    """The same of a fill value by its bits; the reason, where the library doesn't."""
     declared = json.loads(codecs)
     try:
         if dtype.kind in "TO":

@@ -23,20 +23,29 @@ Job = tuple[Any, Any, Any, Any, bool]
 @dataclass(frozen=True)
 class CodecPipeline(abc.CodecPipeline):
     """The codecs of an array of zarr-python 3, as the library runs them. zarr-python takes it by one line, and so does all
-    that stands on zarr-python:
+    that stands on zarr-python.
 
+    Chunks whose codecs, type or buffers the library doesn't take are read and written by zarr-python's own pipeline, each by
+    itself; `CodecPipeline.stats` counts which way they go, and why. Where the package isn't installed but only on the path,
+    `zarrs_codecs.CodecPipeline` is to be looked at once before, by which zarr-python learns of it.
+
+    Attributes
+    ----------
+    codecs : tuple
+        zarr-python's codecs.
+    plain : zarr.core.codec_pipeline.BatchedCodecPipeline
+        zarr-python's own pipeline, of the same codecs.
+    stats : Statistics
+        Which way chunks went, of all pipelines of the process.
+
+    Examples
+    --------
     >>> import zarr, zarrs_codecs
     >>> with zarr.config.set({"codec_pipeline.path": "zarrs_codecs.CodecPipeline"}):
     ...     array = zarr.create_array({}, shape=(4, 6), chunks=(2, 3), dtype="uint8")
     >>> array[1:, 4:] = 7
     >>> array[:2, 3:].tolist()
     [[0, 0, 0], [0, 7, 7]]
-
-    Where the package isn't installed but only on the path, `zarrs_codecs.CodecPipeline` is to be looked at once before, by
-    which zarr-python learns of it.
-
-    Chunks whose codecs, type or buffers the library doesn't take are read and written by zarr-python's own pipeline, each by
-    itself; `CodecPipeline.stats` counts which way they go, and why.
     """
 
     codecs: tuple[Any, ...]
@@ -48,6 +57,18 @@ class CodecPipeline(abc.CodecPipeline):
     def from_codecs(cls, codecs: Iterable[Any]) -> "CodecPipeline":
         """The pipeline of a list of codecs.
 
+        Parameters
+        ----------
+        codecs : iterable
+            zarr-python's codecs.
+
+        Returns
+        -------
+        CodecPipeline
+            The pipeline.
+
+        Examples
+        --------
         >>> import zarr.codecs
         >>> len(CodecPipeline.from_codecs([zarr.codecs.BytesCodec()]).codecs)
         1
@@ -56,7 +77,18 @@ class CodecPipeline(abc.CodecPipeline):
         return cls(listed, BatchedCodecPipeline.from_codecs(listed))
 
     def evolve_from_array_spec(self, array_spec: Any) -> "CodecPipeline":
-        """The pipeline of these codecs, with what an array's type and chunks leave of their configuration."""
+        """The pipeline of these codecs for an array's chunks.
+
+        Parameters
+        ----------
+        array_spec : zarr.core.array_spec.ArraySpec
+            The form of the chunks, which decides some of the codecs' configuration.
+
+        Returns
+        -------
+        CodecPipeline
+            The pipeline.
+        """
         evolved = self.plain.evolve_from_array_spec(array_spec)
         return type(self)(tuple(evolved), evolved)
 
@@ -77,11 +109,30 @@ class CodecPipeline(abc.CodecPipeline):
         return bool(self.plain.supports_partial_encode)
 
     def validate(self, **declared: Any) -> None:
-        """Raises what a codec has against such an array."""
+        """Raise what a codec has against such an array.
+
+        Parameters
+        ----------
+        **declared
+            The array's shape, type and chunk grid.
+        """
         self.plain.validate(**declared)
 
     def compute_encoded_size(self, byte_length: int, array_spec: Any) -> int:
-        """How many bytes the codecs make of so many."""
+        """How many bytes the codecs make of so many.
+
+        Parameters
+        ----------
+        byte_length : int
+            How many bytes a chunk's elements have.
+        array_spec : zarr.core.array_spec.ArraySpec
+            The form of the chunk.
+
+        Returns
+        -------
+        int
+            How many bytes its value has.
+        """
         return int(self.plain.compute_encoded_size(byte_length, array_spec))
 
     @cached_property
@@ -117,7 +168,18 @@ class CodecPipeline(abc.CodecPipeline):
         return coding_of(self._declared, spec)
 
     async def decode(self, chunk_bytes_and_specs: Iterable[tuple[Any, Any]]) -> Iterable[Any]:
-        """The chunks of values at hand, each with its form; None of None."""
+        """The chunks of values at hand.
+
+        Parameters
+        ----------
+        chunk_bytes_and_specs : iterable of tuple
+            Values, or None, each with the form of its chunk.
+
+        Returns
+        -------
+        list
+            Their chunks, as zarr-python's buffers of elements; None of None.
+        """
         batch = list(chunk_bytes_and_specs)
         codings = self._codings("read", [spec for _, spec in batch])
         theirs = iter(await self.plain.decode([job for job, coding in zip(batch, codings, strict=True) if coding is None]))
@@ -132,7 +194,18 @@ class CodecPipeline(abc.CodecPipeline):
         return found
 
     async def encode(self, chunk_arrays_and_specs: Iterable[tuple[Any, Any]]) -> Iterable[Any]:
-        """The values of chunks at hand, each with its form; None of None."""
+        """The values of chunks at hand.
+
+        Parameters
+        ----------
+        chunk_arrays_and_specs : iterable of tuple
+            Chunks, or None, each with its form.
+
+        Returns
+        -------
+        list
+            Their values, as zarr-python's buffers of bytes; None of None.
+        """
         batch = list(chunk_arrays_and_specs)
         codings = self._codings("written", [spec for _, spec in batch])
         theirs = iter(await self.plain.encode([job for job, coding in zip(batch, codings, strict=True) if coding is None]))
@@ -154,15 +227,31 @@ class CodecPipeline(abc.CodecPipeline):
         return [None] * len(batch)
 
     async def read(self, batch_info: Iterable[Job], out: Any, drop_axes: tuple[int, ...] = ()) -> Any:
-        """Reads parts of chunks into an array; for each whether it is "present" or "missing" in the store."""
+        """Read parts of chunks into an array.
+
+        Parameters
+        ----------
+        batch_info : iterable of tuple
+            For each chunk what gets its value, its form, the places in it, those in the array, and whether these are all of
+            the chunk.
+        out : zarr.core.buffer.NDBuffer
+            The array.
+        drop_axes : tuple of int, optional
+            Axes of one element that the array hasn't.
+
+        Returns
+        -------
+        tuple of dict
+            For each chunk whether it is "present" or "missing" in the store.
+        """
         batch, array = list(batch_info), out.as_ndarray_like()
         codings = self._taken("read", batch, array)
         found: list[Any] = [{"status": "present"}] * len(batch)
         theirs = [place for place, coding in enumerate(codings) if coding is None]
         if theirs:
-            told = await self.plain.read([batch[place] for place in theirs], out, drop_axes)
+            statuses = await self.plain.read([batch[place] for place in theirs], out, drop_axes)
             # zarr-python 3.0 says nothing of them
-            for place, status in zip(theirs, told or (), strict=False):
+            for place, status in zip(theirs, statuses or (), strict=False):
                 found[place] = status
         ours = {
             place: Read(Part(coding, batch[place][2]), *batch[place][:2], array, batch[place][3], drop_axes)
@@ -175,7 +264,17 @@ class CodecPipeline(abc.CodecPipeline):
         return tuple(found)
 
     async def write(self, batch_info: Iterable[Job], value: Any, drop_axes: tuple[int, ...] = ()) -> None:
-        """Writes parts of chunks from an array."""
+        """Write parts of chunks from an array.
+
+        Parameters
+        ----------
+        batch_info : iterable of tuple
+            For each chunk what sets its value, and the rest, as `read` takes it.
+        value : zarr.core.buffer.NDBuffer
+            The array.
+        drop_axes : tuple of int, optional
+            Axes of one element that the array hasn't.
+        """
         batch, given = list(batch_info), value.as_ndarray_like()
         codings = self._taken("written", batch, given)
         theirs = [job for job, coding in zip(batch, codings, strict=True) if coding is None]

@@ -7,6 +7,7 @@ from typing import Any
 import numpy as np
 
 from .._dense import touched_chunks
+from .._elements import words_of
 from .._files import Source
 from .._selections import Selection, select
 from .._types import AnyArray, Bytes, Shape
@@ -111,7 +112,8 @@ class Part:
         if self.is_whole:
             return self._decoded(value, target)
         if self.chosen is None:
-            return coding.chain.decode(value)[self.selection]
+            found: AnyArray = coding.chain.decode(value)[self.selection]
+            return found
         return self._shaped(coding.chain.read(value, self.chosen))
 
     def of_source(self, source: Source) -> AnyArray:
@@ -160,7 +162,5 @@ def is_filled(elements: AnyArray, fill: Any) -> bool:
     first: Any = (*(0,) * elements.ndim, ...)
     if elements[first].tobytes() != bits:
         return False
-    size = elements.dtype.itemsize
-    word = f"u{size}" if size in (1, 2, 4, 8) else "u1"
-    words = np.ascontiguousarray(elements).reshape(-1).view(word).reshape(-1, len(bits) // np.dtype(word).itemsize)
-    return bool((words == np.frombuffer(bits, word)).all())
+    words = words_of(elements)
+    return bool((words == np.frombuffer(bits, words.dtype)).all())

@@ -6,6 +6,7 @@ from dataclasses import dataclass
 from functools import partial
 from typing import Any
 
+import numpy as np
 from zarr.core.codec_pipeline import fill_value_or_default
 from zarr.core.config import config
 
@@ -48,7 +49,10 @@ class Read:
                 error.path = str(self.getter)
             raise
         if found is not None:
-            self.answer[self.there] = found.squeeze(axis=self.drop_axes) if self.drop_axes else found
+            found = found.squeeze(axis=self.drop_axes) if self.drop_axes else found
+            # an array of one byte string numpy would put into an array of objects as it is
+            is_one = self.answer.dtype == object and isinstance(found, np.ndarray) and found.ndim == 0
+            self.answer[self.there] = found[()] if is_one else found
         return True
 
     def from_value(self, value: Any) -> bool:
@@ -118,7 +122,7 @@ async def read_all(reads: list[Read], statistics: Statistics) -> list[bool]:
     paths = [file_of(read.getter) for read in reads]
     files = [partial(read.from_file, path) for read, path in zip(reads, paths, strict=True) if path is not None]
     if len(files) == len(reads):
-        return await in_thread(partial(run_all, files))
+        return await in_thread(lambda: run_all(files))
     limit = config.get("async.concurrency")
     turn = asyncio.Semaphore(limit or 1 << 30)
     return await run_together([partial(read.from_far, turn, statistics) for read in reads], limit)

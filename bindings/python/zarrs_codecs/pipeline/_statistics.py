@@ -13,11 +13,22 @@ _WAYS = {
 
 
 class Statistics:
-    """How many chunks went which way in this process, since it began or `clear` was called: `read` and `written` by the
-    library, `read_by_zarr_python` and `written_by_zarr_python` by zarr-python's own pipeline, and how many `requests` the
-    former made of stores that are neither a folder nor in memory. `reasons` has why chunks went zarr-python's way, each
-    with how many; a chunk that was read and then written counts twice.
+    """How many chunks went which way in this process, since it began or `clear` was called. A chunk that was read and then
+    written counts twice.
 
+    Attributes
+    ----------
+    read, written : int
+        Chunks by the library.
+    read_by_zarr_python, written_by_zarr_python : int
+        Chunks by zarr-python's own pipeline.
+    requests : int
+        How many requests the library's reads made of stores that are neither a folder nor in memory.
+    reasons : collections.Counter
+        Why chunks went zarr-python's way, each with how many.
+
+    Examples
+    --------
     >>> found = Statistics()
     >>> found.add("read", 3)
     >>> found.add("read_by_zarr_python", 1, "an example")
@@ -30,8 +41,10 @@ class Statistics:
         self.clear()
 
     def clear(self) -> None:
-        """Begins to count anew.
+        """Begin to count anew.
 
+        Examples
+        --------
         >>> found = Statistics()
         >>> found.add("written", 2)
         >>> found.clear()
@@ -45,8 +58,19 @@ class Statistics:
             self.requests = 0
 
     def add(self, way: str, count: int, reason: str | None = None) -> None:
-        """Counts so many chunks, or requests, of a way, which is one of the attributes' names.
+        """Count some chunks, or requests.
 
+        Parameters
+        ----------
+        way : str
+            One of the attributes' names.
+        count : int
+            How many.
+        reason : str, optional
+            Why they went zarr-python's way.
+
+        Examples
+        --------
         >>> found = Statistics()
         >>> found.add("requests", 2)
         >>> found.requests

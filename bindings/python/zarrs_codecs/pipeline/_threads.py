@@ -25,8 +25,8 @@ def _cores() -> int:
 
 def thread_count() -> int:
     """How many threads code chunks: as zarr-python's configuration has it, or as many as there are cores."""
-    said = config.get("codec_pipeline.max_workers", None) or config.get("threading.max_workers", None)
-    return max(int(said), 1) if said else _cores()
+    declared = config.get("codec_pipeline.max_workers", None) or config.get("threading.max_workers", None)
+    return max(int(declared), 1) if declared else _cores()
 
 
 def pool() -> ThreadPoolExecutor:

@@ -10,17 +10,14 @@ from zarr.abc.store import RangeByteRequest, SuffixByteRequest
 from zarr.core.config import config
 from zarr.storage import LocalStore, MemoryStore, StorePath
 
-from .._files import File, Source, cut, near, opened_with_size
+from .._files import MOST_JOINED, NearFile, Source, cut, near, opened_with_size
 from .._types import AnyArray, listed
 from ..refusals import InvalidByteRange
 
 # No store is asked how long a value is: of one of this length what lacks at its end is fetched by a request of a suffix.
 _LENGTH = 1 << 62
-# Ranges of a file that are as near as this are read by one call, since a call takes as long as so many bytes.
-_NEAR_IN_FILE = 1 << 13
-# Ranges of a far value that are as near as this are one request, of so many bytes at most, where zarr-python's configuration
-# has no other numbers.
-_NEAR, _MOST_JOINED = 1 << 20, 1 << 24
+# Ranges that are as near as this are one request, where zarr-python's configuration has no other number.
+_NEAR = 1 << 20
 
 
 class Missing(Exception):
@@ -58,9 +55,8 @@ def is_set_in_threads(setter: Any) -> bool:
     return is_near and hasattr(setter.store, "set_sync") and not setter.store.read_only
 
 
-class ChunkFile(File):
-    """A value's file, which is open in a `with` block; of ranges of it those that are near are read by one call. Raises
-    `Missing` where there is none."""
+class ChunkFile(NearFile):
+    """A value's file, which is open in a `with` block. Raises `Missing` where there is none."""
 
     def __init__(self, path: str) -> None:
         try:
@@ -81,12 +77,6 @@ class ChunkFile(File):
     def whole(self) -> AnyArray:
         return self.one_piece(0, self._size)
 
-    def pieces(self, ranges: AnyArray) -> AnyArray:
-        covering = near(listed(ranges), _NEAR_IN_FILE)
-        if len(covering) == len(ranges):
-            return super().pieces(ranges)
-        return cut(ranges, covering, [self.one_piece(*one) for one in covering])
-
 
 def _setting(spec: Any, name: str, default: int) -> int:
     """A number of an array's configuration, which zarr-python 3.0 doesn't have."""
@@ -103,7 +93,7 @@ class FarValue(Source):
     def __init__(self, getter: Any, spec: Any, turn: asyncio.Semaphore) -> None:
         self._getter, self._prototype, self._turn = getter, spec.prototype, turn
         self._near = _setting(spec, "sharding_coalesce_max_gap_bytes", _NEAR)
-        self._most = _setting(spec, "sharding_coalesce_max_bytes", _MOST_JOINED)
+        self._most = _setting(spec, "sharding_coalesce_max_bytes", MOST_JOINED)
         # ranges that were fetched, in order, and their bytes
         self._there: list[list[int]] = []
         self._parts: list[AnyArray] = []

@@ -15,7 +15,7 @@ from ._parts import Part
 from ._threads import IN_LOOP, in_thread, run_all, run_at_hand, run_together
 from ._values import is_at_hand, is_set_in_threads
 
-# The type of a buffer's bytes: int8 in zarr-python 3.0, uint8 later, and each refuses the other.
+# The type of a buffer's bytes: int8 in zarr-python 3.0, uint8 later, and each rejects the other.
 _BYTE = cpu.Buffer.create_zero_length().as_numpy_array().dtype
 
 
@@ -92,7 +92,7 @@ async def write_all(writes: list[Write]) -> None:
     first, work = writes[0].setter, sum(write.work for write in writes)
     if is_set_in_threads(first):
         calls = [write.in_thread for write in writes]
-        await (run_at_hand(calls, work) if is_at_hand(first) else in_thread(partial(run_all, calls)))
+        await (run_at_hand(calls, work) if is_at_hand(first) else in_thread(lambda: run_all(calls)))
     elif is_at_hand(first):
         values = await run_at_hand([partial(write.value, await write.get()) for write in writes], work)
         for write, value in zip(writes, values, strict=True):

@@ -4,6 +4,8 @@ from typing import Any
 
 import numpy as np
 
+from .._numcodecs import NAMES, PREFIX
+
 _SHUFFLES = {0: "noshuffle", 1: "shuffle", 2: "bitshuffle"}
 _TEXTS = ("vlen-utf8", "vlen-bytes")
 
@@ -14,31 +16,39 @@ def codecs_of(codec: Any, dtype: np.dtype[Any], order: str, axes: int) -> list[A
     found: list[Any] = []
     if order == "F" and axes > 1:
         found.append({"name": "transpose", "configuration": {"order": list(reversed(range(axes)))}})
-    filters = [one.get_config().get("id") for one in codec.filters or ()]
-    if not filters and dtype.kind not in "OT":
+    filters = [one.get_config() for one in codec.filters or ()]
+    if dtype.kind not in "OT":
         found.append({"name": "bytes", "configuration": {"endian": "big" if dtype.byteorder == ">" else "little"}})
-    elif len(filters) == 1 and filters[0] in _TEXTS:
-        found.append({"name": filters[0]})
+    elif filters and filters[0].get("id") in _TEXTS:
+        found.append({"name": filters.pop(0)["id"]})
     else:
         return None
-    if codec.compressor is None:
-        return found
-    compressor = _compressor(codec.compressor.get_config(), dtype.itemsize)
-    return None if compressor is None else [*found, compressor]
+    found += [_of_numcodecs(one) for one in filters]
+    if codec.compressor is not None:
+        found.append(_compressor(codec.compressor.get_config(), 1 if filters else dtype.itemsize))
+    return None if None in found else found
+
+
+def _of_numcodecs(declared: dict[str, Any]) -> dict[str, Any] | None:
+    """A bytes-to-bytes codec of numcodecs by zarr-python's name for it; None of another one."""
+    name = f"{PREFIX}{declared.get('id')}"
+    if name not in NAMES:
+        return None
+    return {"name": name, "configuration": {key: value for key, value in declared.items() if key != "id"}}
 
 
 def _compressor(declared: dict[str, Any], size: int) -> dict[str, Any] | None:
     """A compressor of numcodecs as a codec of Zarr v3; None of another one."""
     match declared.get("id"):
         case "zstd":
-            said = {"level": declared["level"], "checksum": bool(declared.get("checksum", False))}
+            configuration = {"level": declared["level"], "checksum": bool(declared.get("checksum", False))}
         case "gzip":
-            said = {"level": declared["level"]}
+            configuration = {"level": declared["level"]}
         case "blosc":
             # -1 is a choice by the elements' size
             shuffle = _SHUFFLES.get(declared["shuffle"], "bitshuffle" if size == 1 else "shuffle")
-            said = {"cname": declared["cname"], "clevel": declared["clevel"], "shuffle": shuffle, "typesize": min(size, 255)}
-            said["blocksize"] = declared["blocksize"]
+            configuration = {key: declared[key] for key in ("cname", "clevel", "blocksize")}
+            configuration |= {"shuffle": shuffle, "typesize": min(size, 255)}
         case _:
-            return None
-    return {"name": declared["id"], "configuration": said}
+            return _of_numcodecs(declared)
+    return {"name": declared["id"], "configuration": configuration}

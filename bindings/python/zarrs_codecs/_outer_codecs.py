@@ -1,9 +1,10 @@
-"""Bytes codecs that Python runs behind a chain, on whole values. Nothing about them is proved."""
+"""Bytes-to-bytes codecs that Python runs behind a chain, on whole values. Nothing about them is proved."""
 
 import ctypes
 import ctypes.util
 import gzip
 import importlib
+import lzma
 import reprlib
 import zlib
 from collections.abc import Callable
@@ -13,27 +14,36 @@ from typing import Any, NoReturn
 
 import numpy as np
 
+from ._checksum import LENGTH as CHECKSUM_LENGTH
+from ._checksum import NAME as CHECKSUM
+from ._checksum import header_of, with_checksum, without_checksum
+from ._library import checked_name
+from ._locating import locate
 from ._locating import name_of as codec_name
+from ._numcodecs import NAMES, functions_of
+from ._opening import TooLong, blosc_part, check_size, gunzipped, zstd_size
 from ._types import AnyArray, Bytes
 from .refusals import BytesCodec, InvalidBytesLength, InvalidConfiguration, OutOfMemory, Refused
 
 _SHUFFLES = {"noshuffle": 0, "shuffle": 1, "bitshuffle": 2}
 _MISSING = object()
-# zlib's word for a gzip header and trailer, and how a frame of zstd begins.
-_GZIP_BITS, _ZSTD_FRAME = 31, b"\x28\xb5\x2f\xfd"
 # The parameters of libzstd.
 _ZSTD_LEVEL, _ZSTD_CHECKSUM = 100, 201
 # No compressor makes a value more than twice as long and so many bytes more.
 _LONGER_BYTES = 1 << 16
 # How many times as long as what is written here another writer's value may be, and how many bytes more.
 _TIMES_WRITTEN, _GAP_BYTES = 4, 1 << 20
+# What Python's and numcodecs' codecs raise of what they can't decode; the last one of too few bytes for a checksum.
+_FAILURES = (
+    *(OSError, EOFError, ValueError, RuntimeError, OverflowError, SystemError, zlib.error, lzma.LZMAError, IndexError),
+)
 
 
 @dataclass(frozen=True)
 class OuterCodec:
-    """A bytes codec's name, what it makes of bytes and back, and how many bytes it makes of so many at most.
+    """A bytes-to-bytes codec's name, what it makes of bytes and back, and how many bytes it makes of so many at most.
 
-    What makes a value of bytes is told how many that has at most, where that is known, and opens no more."""
+    What makes a value of bytes is given how many that has at most, where that is known, and opens no more."""
 
     name: str
     compress: Callable[[AnyArray], Any]
@@ -51,18 +61,14 @@ class OuterCodec:
             return np.frombuffer(self.decompress(stored, most), np.uint8)
         except MemoryError as error:
             raise OutOfMemory(f"{self.name}: {error}") from error
-        except _TooLong as error:
+        except TooLong as error:
             raise InvalidBytesLength(f"{self.name}: more than {most} bytes, where no more are due") from error
-        except (OSError, EOFError, ValueError, RuntimeError, OverflowError, SystemError, zlib.error) as error:
+        except _FAILURES as error:
             raise BytesCodec(f"{self.name}: {error}") from error
 
     def longest(self, size: int) -> int:
         """How many bytes are stored at most of a value of so many."""
-        return size + 4 if self.name == _CHECKSUM else 2 * size + _LONGER_BYTES
-
-
-class _TooLong(Exception):
-    """A value has more bytes than are due."""
+        return size + CHECKSUM_LENGTH if self.name == CHECKSUM else 2 * size + _LONGER_BYTES
 
 
 def most_of_each(codecs: list[OuterCodec], kind: str, size: int | None) -> list[int | None]:
@@ -80,9 +86,9 @@ def most_of_each(codecs: list[OuterCodec], kind: str, size: int | None) -> list[
 
 
 def wrong(key: str, value: Any) -> NoReturn:
-    """Raises the refusal of a key that has this value, or of one that is missing."""
-    said = "is missing" if value is _MISSING else f"is {reprlib.repr(value)}"
-    error = InvalidConfiguration(f"{key} {said}")
+    """Raises the error of a key that has this value, or of one that is missing."""
+    state = "is missing" if value is _MISSING else f"is {reprlib.repr(value)}"
+    error = InvalidConfiguration(f"{key} {state}")
     error.key = key
     raise error
 
@@ -103,39 +109,9 @@ def _one_of(configuration: dict[str, Any], key: str, values: Any, default: Any =
     return value
 
 
-def _gunzipped(stored: Any, most: int | None) -> bytes:
-    """What gzip's members hold, one behind another, and zeros behind them."""
-    parts, left, size = [], memoryview(stored).cast("B"), 0
-    while len(left):
-        member = zlib.decompressobj(_GZIP_BITS)
-        # 0 is as many as there are
-        parts.append(member.decompress(left, 0 if most is None else most - size + 1))
-        size += len(parts[-1])
-        if most is not None and size > most:
-            raise _TooLong
-        if not member.eof:
-            raise EOFError("it ends before its end-of-stream marker")
-        left = memoryview(member.unused_data.lstrip(b"\0"))
-    return parts[0] if len(parts) == 1 else b"".join(parts)
-
-
 def _gzip(configuration: dict[str, Any]) -> OuterCodec:
     level = _integer(configuration, "level", 0, 9)
-    return OuterCodec("gzip", lambda value: gzip.compress(value.data, level, mtime=0), _gunzipped)
-
-
-def _zstd_size(stored: Any) -> int | None:
-    """How many bytes a frame's header says that it opens to; None where it doesn't, or is no frame's."""
-    head = bytes(memoryview(stored).cast("B")[:18])
-    if len(head) < 6 or head[:4] != _ZSTD_FRAME:
-        return None
-    said = head[4]
-    is_single = bool(said & 32)
-    size = (1 if is_single else 0, 2, 4, 8)[said >> 6]
-    begin = 5 + (not is_single) + (0, 1, 2, 4)[said & 3]
-    if not size or len(head) < begin + size:
-        return None
-    return int.from_bytes(head[begin : begin + size], "little") + (256 if size == 2 else 0)
+    return OuterCodec("gzip", lambda value: gzip.compress(value.data, level, mtime=0), gunzipped)
 
 
 def _zstd(configuration: dict[str, Any]) -> OuterCodec:
@@ -152,9 +128,7 @@ def _zstd(configuration: dict[str, Any]) -> OuterCodec:
             compress = partial(_with_checksum, level=level)
 
     def decompress(stored: Any, most: int | None) -> Any:
-        size = _zstd_size(stored)
-        if most is not None and size is not None and size > most:
-            raise _TooLong
+        check_size(zstd_size(stored), most)
         return plain.decode(stored)
 
     return OuterCodec("zstd", compress, decompress)
@@ -183,17 +157,6 @@ def _with_checksum(value: AnyArray, level: int) -> Any:
         zstd.ZSTD_freeCCtx(context)
 
 
-def _blosc_part(stored: Any, most: int | None) -> memoryview:
-    """What is stored, which has as many bytes as its header says, and opens to as many as are due: numcodecs looks at
-    neither."""
-    part = memoryview(stored).cast("B")
-    if len(part) < 16 or len(part) != int.from_bytes(part[12:16], "little"):
-        raise ValueError(f"{len(part)} bytes, where its header says another number")
-    if most is not None and int.from_bytes(part[4:8], "little") > most:
-        raise _TooLong
-    return part
-
-
 def _blosc(configuration: dict[str, Any]) -> OuterCodec:
     blosc = importlib.import_module("numcodecs.blosc")
     name = _one_of(configuration, "cname", blosc.list_compressors())
@@ -203,41 +166,51 @@ def _blosc(configuration: dict[str, Any]) -> OuterCodec:
     codec = blosc.Blosc(name, level, shuffle, _integer(configuration, "blocksize", 0, (1 << 31) - 1, 0))
 
     def compress(value: AnyArray) -> Any:
-        # the size of what is shuffled is told by the array's type
+        # the size of what is shuffled is known by the array's type
         has_whole_items = size > 1 and value.size % size == 0
         return codec.encode(value.view(f"V{size}") if has_whole_items else value)
 
-    return OuterCodec("blosc", compress, lambda stored, most: codec.decode(_blosc_part(stored, most)))
-
-
-_CHECKSUM = "crc32c"
+    return OuterCodec("blosc", compress, lambda stored, most: codec.decode(blosc_part(stored, most)))
 
 
 def _checksum(codecs: list[Any], place: int) -> OuterCodec:
-    """The library's own codec, behind those of Python. A refusal says that it is of this one."""
-    from .chain import Chain
-
-    def chain(size: int) -> Any:
-        return Chain(["bytes", codecs[place]], (size,), "uint8")
+    """The library's own codec, behind those of Python. An error says that it is of this one."""
+    codec = codecs[place]
 
     def decompress(stored: Any, most: int | None) -> Any:
         size = memoryview(stored).nbytes
-        if size < 5:
+        if size <= CHECKSUM_LENGTH:
             raise ValueError(f"{size} bytes, where there are more behind another codec")
         try:
-            return chain(size - 4).decode(stored)
+            return without_checksum(codec, stored)
         except BytesCodec as error:
             raise ValueError("the checksum is another one") from error
 
+    ask = header_of(1).checked
     try:
-        chain(1)
+        checked_name(ask(["bytes", codec]))
     except Refused as error:
-        error.codec = place, _CHECKSUM
+        locate(error, ask, ["bytes", codec])
+        error.codec = place, CHECKSUM
         raise
-    return OuterCodec(_CHECKSUM, lambda value: chain(value.size).encode(value), decompress, True)
+    return OuterCodec(CHECKSUM, partial(with_checksum, codec), decompress, True)
 
 
-_MAKERS = {"gzip": _gzip, "zstd": _zstd, "blosc": _blosc}
+def _numcodecs(name: str, configuration: dict[str, Any]) -> OuterCodec | None:
+    """One of numcodecs' own, where it has it."""
+    try:
+        functions = functions_of(name, configuration)
+    except (TypeError, ValueError) as error:
+        raise InvalidConfiguration(f"numcodecs doesn't take {reprlib.repr(configuration)}: {error}") from error
+    return None if functions is None else OuterCodec(name, *functions)
+
+
+_MAKERS: dict[str, Callable[[dict[str, Any]], OuterCodec | None]] = {
+    "gzip": _gzip,
+    "zstd": _zstd,
+    "blosc": _blosc,
+    **{name: partial(_numcodecs, name) for name in NAMES},
+}
 # Names that the library has in another form.
 _OTHER_NAMES = {"squeeze": "zarrs.squeeze", "vlen": "zarrs.vlen"}
 
@@ -253,7 +226,7 @@ def hint(name: str) -> str | None:
 
 
 def _made(codecs: list[Any], place: int) -> OuterCodec | None:
-    """The codec at a place, where it is one of those that Python runs and what it needs is installed. A refusal says that
+    """The codec at a place, where it is one of those that Python runs and what it needs is installed. An error says that
     it is of this one."""
     try:
         return _made_of(codecs[place])
@@ -282,7 +255,7 @@ def _first_of_pythons(codecs: list[Any]) -> int:
     for place in reversed(range(len(codecs))):
         if _made(codecs, place) is not None:
             first = place
-        elif codec_name(codecs[place]) != _CHECKSUM:
+        elif codec_name(codecs[place]) != CHECKSUM:
             break
     return first
 
@@ -290,5 +263,14 @@ def _first_of_pythons(codecs: list[Any]) -> int:
 def split(codecs: list[Any]) -> tuple[list[Any], list[OuterCodec]]:
     """The codecs that the library runs, and those behind them that Python runs, the first one first."""
     first = _first_of_pythons(codecs)
-    outer = (_made(codecs, place) or _checksum(codecs, place) for place in range(first, len(codecs)))
-    return codecs[:first], list(outer)
+    return codecs[:first], all_outer(codecs, first)
+
+
+def are_outer(codecs: list[Any], first: int) -> bool:
+    """Whether each codec from this place on is one that Python runs, or a checksum."""
+    return all(codec_name(codecs[at]) == CHECKSUM or _made(codecs, at) is not None for at in range(first, len(codecs)))
+
+
+def all_outer(codecs: list[Any], first: int) -> list[OuterCodec]:
+    """The codecs from this place on, which are such."""
+    return [_made(codecs, place) or _checksum(codecs, place) for place in range(first, len(codecs))]
