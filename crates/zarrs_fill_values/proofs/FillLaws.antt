@@ -17,7 +17,7 @@ use Rattle.zarrs_chunk.specs.Answer.{seen}
 use Rattle.zarrs_data_type.specs.ElementType.{ElementType, fixed, text as text_type, bytes as bytes_type, optional}
 use Rattle.zarrs_data_type.specs.FillValue.{is_null, ends_in_one, front_of, fill_fits}
 use Rattle.zarrs_fill_values.specs.ElementName.{float_bits, integer_bits, is_signed, is_raw, plain_type, optional_round, type_of}
-use Rattle.zarrs_fill_values.specs.FillValues.{truth_fill, byte_in, bytes_in, bytes_fill, floats_in, item_count, complex_fill, text_fill, raw_fill, plain_fill, present, lone, optional_fill, fill_in}
+use Rattle.zarrs_fill_values.specs.FillValues.{truth_fill, json_byte, json_bytes, bytes_fill, floats_in, item_count, complex_pair, text_fill, raw_fill, plain_fill, present, lone, optional_fill, fill_in}
 use Rattle.zarrs_fill_values.specs.Floats.{float_size, float_fill, float_shown}
 use Rattle.zarrs_fill_values.specs.Integers.{integer_size, integer_fill, integer_sized}
 use Rattle.zarrs_fill_values.specs.Laws.{ShownIsRead, ReadIsShown, ReadFits}
@@ -52,7 +52,7 @@ truth-again fill tree h = by_tests (bytes_eq fill (0 ∷ [])) (bytes_eq fill (1 
         ap (λ t. option_map truth_fill (as_bool t)) (sym shown) ∙ ap Some (sym is)
     by_tests false false e f h = absurd (cc)
 
-complex-again : (name : FloatName) (fill : List ℕ) → IsBytes fill → length fill ≡ 2 * float_size name → option_and_then (complex_fill name) (as_array (complex_shown name fill)) ≡ Some fill
+complex-again : (name : FloatName) (fill : List ℕ) → IsBytes fill → length fill ≡ 2 * float_size name → option_and_then (complex_pair name) (as_array (complex_shown name fill)) ≡ Some fill
 complex-again name fill bytes is =
     let size = float_size name in
     let front = take size fill in
@@ -66,11 +66,11 @@ complex-again name fill bytes is =
     ∙ ap (λ o. option_map (λ r. front ++ r) (option_and_then (λ g. option_map (λ r. g ++ r) (Some [])) o)) imaginary
     ∙ ap Some whole
 
-bytes-again : (fill : List ℕ) → IsBytes fill → bytes_in (items_of (map (λ byte. number (unsigned byte)) fill)) ≡ Some fill
+bytes-again : (fill : List ℕ) → IsBytes fill → json_bytes (items_of (map (λ byte. number (unsigned byte)) fill)) ≡ Some fill
 bytes-again [] h = refl
 bytes-again (byte ∷ rest) h =
     let small : nat_lt byte 256 ≡ true = lt-ltb byte 256 (h zero) in
-    ap (λ b. option_and_then (λ first. option_map (λ r. first ∷ r) (bytes_in (items_of (map (λ byte. number (unsigned byte)) rest)))) (cond b (Some byte) None)) small
+    ap (λ b. option_and_then (λ first. option_map (λ r. first ∷ r) (json_bytes (items_of (map (λ byte. number (unsigned byte)) rest)))) (cond b (Some byte) None)) small
     ∙ ap (λ o. option_map (λ r. byte ∷ r) o) (bytes-again rest (λ i. h (suc i)))
 
 text-again : (fill : List ℕ) (tree : Data) → option_map string (text_fill fill) ≡ Some tree → option_and_then text_fill (as_str tree) ≡ Some fill
@@ -94,7 +94,7 @@ plain-again (plain.Float name) fill tree h e =
     ap (float_fill name) (sym is.1) ∙ float-again name fill h is.0
 plain-again (plain.Complex name) fill tree h e =
     let is = of_length-mapped (2 * float_size name) fill (complex_shown name) tree e in
-    ap (λ t. option_and_then (complex_fill name) (as_array t)) (sym is.1) ∙ complex-again name fill h is.0
+    ap (λ t. option_and_then (complex_pair name) (as_array t)) (sym is.1) ∙ complex-again name fill h is.0
 plain-again (plain.Raw bits) fill tree h e =
     let is = of_length-mapped (bits / 8) fill bytes_list tree e in
     ap (raw_fill bits) (sym is.1) ∙ ap (λ o. option_and_then (of_length (bits / 8)) o) (bytes-again fill h) ∙ of_length-found (bits / 8) fill is.0
@@ -186,9 +186,9 @@ floats-length name (item tree items) fill h =
     float_first name (item_count items) tree fill (float_fill name tree) (floats_in name items) (λ it e. float-length name tree it e) (λ more e. floats-length name items more e) h
 
 -- a complex number has two floats
-complex-length : (name : FloatName) (tree : Data) (fill : List ℕ) → option_and_then (complex_fill name) (as_array tree) ≡ Some fill → length fill ≡ 2 * float_size name
+complex-length : (name : FloatName) (tree : Data) (fill : List ℕ) → option_and_then (complex_pair name) (as_array tree) ≡ Some fill → length fill ≡ 2 * float_size name
 complex-length name tree fill h =
-    let found = read_with (complex_fill name) (as_array tree) fill h in
+    let found = read_with (complex_pair name) (as_array tree) fill h in
     by_test found.0 (item_count found.0 == 2) refl found.1
   where
     by_test : (items : Items) (b : Bool) → (item_count items == 2) ≡ b → cond b (floats_in name items) None ≡ Some fill → length fill ≡ 2 * float_size name

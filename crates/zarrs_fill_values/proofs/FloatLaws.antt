@@ -11,12 +11,12 @@ use lib.Dec.{T}
 use lib.Ieee.{Float, Format, nan, inf, fin, is_nan, top}
 use lib.Ieee.Bits.{to_bits-of_bits, of_bits-fits}
 use Rattle.zarrs_fill_values.specs.Floats.{float_size, infinity_word, nan_word, minus_infinity_word, hex_word, text_word, nearest_to, finite_word, number_word, float_word, float_fill, finite, number_of_bits, hex_text, float_text, shown_as, float_shown}
-use Rattle.zarrs_fill_values.specs.Words.{low_first, number_of, IsBytes}
+use Rattle.zarrs_fill_values.specs.Words.{low_first, low_first_number, IsBytes}
 use Rattle.zarrs_fill_values.specs.declared.element_name.FloatName.{FloatName}
 use Rattle.zarrs_fill_values.specs.declared.element_name.FloatName.TheVariants.{Float16, Bfloat16, Float32, Float64}
 use Rattle.zarrs_fill_values.proofs.ExactFloats.{round_to_format-fits}
 use Rattle.zarrs_fill_values.proofs.Lengths.{IsBytes-reverse}
-use Rattle.zarrs_fill_values.proofs.LowBytes.{length-low_first, number_of-low_first, number_of-below, low_first-number_of, IsBytes-low_first}
+use Rattle.zarrs_fill_values.proofs.LowBytes.{length-low_first, low_first_number-low_first, low_first_number-below, low_first-low_first_number, IsBytes-low_first}
 
 -- the digits of bits say these bits
 hex_again : (name : FloatName) (word : ℕ) → word < 256 ^ float_size name → hex_word name (encode_lower (reverse (low_first (float_size name) word))) ≡ Some word
@@ -25,9 +25,9 @@ hex_again name word h =
     let many : length (reverse low) ≡ float_size name = length-reverse low ∙ length-low_first (float_size name) word in
     let decoded : decode_sized (encode_lower (reverse low)) (float_size name) ≡ Ok (reverse low) =
         decode_sized-encode_lower (reverse low) (float_size name) many (IsBytes-reverse low (IsBytes-low_first (float_size name) word)) in
-    ap (λ r. option_map (λ bytes. number_of (reverse bytes)) (result_ok r)) decoded
-    ∙ ap (λ bytes. Some (number_of bytes)) (reverse-reverse low)
-    ∙ ap Some (number_of-low_first (float_size name) word h)
+    ap (λ r. option_map (λ bytes. low_first_number (reverse bytes)) (result_ok r)) decoded
+    ∙ ap (λ bytes. Some (low_first_number bytes)) (reverse-reverse low)
+    ∙ ap Some (low_first_number-low_first (float_size name) word h)
 
 -- the text of bits says these bits
 text_again : (name : FloatName) (word : ℕ) → word < 256 ^ float_size name → text_word name (float_text name word) ≡ Some word
@@ -93,10 +93,10 @@ word_again name word h = by_number (number_of_bits name word) refl
 -- what is shown of a float is read again, whatever its bits are
 pub float-again : (name : FloatName) (fill : List ℕ) → IsBytes fill → length fill ≡ float_size name → float_fill name (float_shown name fill) ≡ Some fill
 float-again name fill bytes is =
-    let small : number_of fill < 256 ^ float_size name = subst (λ n. number_of fill < 256 ^ n) is (number_of-below fill bytes) in
-    ap (option_map (low_first (float_size name))) (word_again name (number_of fill) small)
-    ∙ ap (λ n. Some (low_first n (number_of fill))) (sym is)
-    ∙ ap Some (low_first-number_of fill bytes)
+    let small : low_first_number fill < 256 ^ float_size name = subst (λ n. low_first_number fill < 256 ^ n) is (low_first_number-below fill bytes) in
+    ap (option_map (low_first (float_size name))) (word_again name (low_first_number fill) small)
+    ∙ ap (λ n. Some (low_first n (low_first_number fill))) (sym is)
+    ∙ ap Some (low_first-low_first_number fill bytes)
 
 -- as many bytes as the type has
 pub float-length : (name : FloatName) (tree : Data) (fill : List ℕ) → float_fill name tree ≡ Some fill → length fill ≡ float_size name

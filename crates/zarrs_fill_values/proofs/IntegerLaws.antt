@@ -7,10 +7,10 @@ use Rattle.serde_json.specs.Data.{Num, Data, unsigned, negative, float, number}
 use Rattle.serde_json.specs.Find.{as_i64, as_u64, as_number, of_integer}
 use Rattle.zarrs_fill_values.specs.ElementName.{integer_bits, is_signed}
 use Rattle.zarrs_fill_values.specs.Integers.{integer_size, half_range, is_within, signed_word, unsigned_word, integer_word, integer_fill, signed_of, signed_number, sign_bit, number_of_word, integer_shown, integer_sized}
-use Rattle.zarrs_fill_values.specs.Words.{low_first, number_of, IsBytes, of_length}
+use Rattle.zarrs_fill_values.specs.Words.{low_first, low_first_number, IsBytes, of_length}
 use Rattle.zarrs_fill_values.specs.declared.element_name.IntegerName.{IntegerName}
 use Rattle.zarrs_fill_values.specs.declared.element_name.IntegerName.TheVariants.{Int2, Int4, Int8, Int16, Int32, Int64, Uint2, Uint4, Uint8, Uint16, Uint32, Uint64}
-use Rattle.zarrs_fill_values.proofs.LowBytes.{length-low_first, number_of-low_first, number_of-below, low_first-number_of, low_first-more}
+use Rattle.zarrs_fill_values.proofs.LowBytes.{length-low_first, low_first_number-low_first, low_first_number-below, low_first-low_first_number, low_first-more}
 use Rattle.zarrs_fill_values.proofs.Lengths.{of_length-is, of_length-found}
 
 -- What holds of the sizes of each type: `room` is how many times over 64 bits hold its bytes, less once.
@@ -107,25 +107,25 @@ word_again integer word n small h = by_sign (is_signed integer) h
 pub integer-again : (integer : IntegerName) (fill : List ℕ) (tree : Data) → IsBytes fill → integer_sized integer fill ≡ Some tree → option_and_then (integer_fill integer) (as_number tree) ≡ Some fill
 integer-again integer fill tree bytes h =
     let sized = of_length-is (integer_size integer) fill (integer_shown integer) tree h in
-    let found = mapped number (number_of_word integer (number_of fill)) tree sized.1 in
-    let small : number_of fill < 256 ^ integer_size integer = subst (λ n. number_of fill < 256 ^ n) sized.0 (number_of-below fill bytes) in
-    rw (sym found.2) (word_again integer (number_of fill) found.0 small found.1 ∙ ap (λ n. Some (low_first n (number_of fill))) (sym sized.0) ∙ ap Some (low_first-number_of fill bytes))
+    let found = mapped number (number_of_word integer (low_first_number fill)) tree sized.1 in
+    let small : low_first_number fill < 256 ^ integer_size integer = subst (λ n. low_first_number fill < 256 ^ n) sized.0 (low_first_number-below fill bytes) in
+    rw (sym found.2) (word_again integer (low_first_number fill) found.0 small found.1 ∙ ap (λ n. Some (low_first n (low_first_number fill))) (sym sized.0) ∙ ap Some (low_first-low_first_number fill bytes))
 
 -- ---- what is read is shown
 
 -- the number whose bytes those of a number with a sign are is in the range again
-signed_within : (size half top room : ℕ) (z : ℤ) → half ≤ top → 2 * top ≡ 256 ^ size → 2 ^ 64 ≡ 256 ^ size + 256 ^ size * room → is_within half z ≡ true → is_within half (signed_of top (number_of (low_first size (cast_unsigned w64 z)))) ≡ true
+signed_within : (size half top room : ℕ) (z : ℤ) → half ≤ top → 2 * top ≡ 256 ^ size → 2 ^ 64 ≡ 256 ^ size + 256 ^ size * room → is_within half z ≡ true → is_within half (signed_of top (low_first_number (low_first size (cast_unsigned w64 z)))) ≡ true
 signed_within size half top room (pos n) within twice whole h =
     let below : n < half = ltb-true n half h in
     let small : n < 256 ^ size = omega (arith, below, within, twice) in
     let here : nat_lt n top ≡ true = lt-ltb n top (omega (arith, below, within)) in
-    rw (number_of-low_first size n small, here) h
+    rw (low_first_number-low_first size n small, here) h
 signed_within size half top room (negsuc n) within twice whole h =
     let below : n < half = ltb-true n half h in
     let small : n < 256 ^ size = omega (arith, below, within, twice) in
     let word : ℕ = 256 ^ size - suc n in
     let less : word < 256 ^ size = omega (arith, small) in
-    let is : number_of (low_first size (2 ^ 64 - suc n)) ≡ word = ap number_of (below_zero size n room small whole) ∙ number_of-low_first size word less in
+    let is : low_first_number (low_first size (2 ^ 64 - suc n)) ≡ word = ap low_first_number (below_zero size n room small whole) ∙ low_first_number-low_first size word less in
     let high : nat_lt word top ≡ false = not_less word top (omega (arith, below, within, twice)) in
     let back : 2 * top - suc word ≡ n = omega (arith, small, twice) in
     rw (is, high, back) h
@@ -137,7 +137,7 @@ signed_within size half top room (negsuc n) within twice whole h =
         by_test true e = let less : a < b = ltb-true a b e in absurd (omega (arith, less, l))
         by_test false e = refl
 
-word_shown : (integer : IntegerName) (word : ℕ) (n : Num) → integer_word integer n ≡ Some word → IsSome (number_of_word integer (number_of (low_first (integer_size integer) word)))
+word_shown : (integer : IntegerName) (word : ℕ) (n : Num) → integer_word integer n ≡ Some word → IsSome (number_of_word integer (low_first_number (low_first (integer_size integer) word)))
 word_shown integer word n h = by_sign (is_signed integer) h
   where
     it : Sizes (half_range integer) (sign_bit integer) (256 ^ integer_size integer)
@@ -150,12 +150,12 @@ word_shown integer word n h = by_sign (is_signed integer) h
     chained f None y h = absurd (cc)
     chained f (Some x) y h = (x, h)
     by_sign : (b : Bool) → cond b (option_and_then (signed_word half) (as_i64 n)) (option_and_then (unsigned_word (2 * half)) (as_u64 n)) ≡ Some word
-        → IsSome (cond b (signed_number half (signed_of (sign_bit integer) (number_of (low_first size word)))) (option_map unsigned (unsigned_word (2 * half) (number_of (low_first size word)))))
+        → IsSome (cond b (signed_number half (signed_of (sign_bit integer) (low_first_number (low_first size word)))) (option_map unsigned (unsigned_word (2 * half) (low_first_number (low_first size word)))))
     by_sign true h =
         let found = chained (signed_word half) (as_i64 n) word h in
         let z = found.0 in
         let is = passed (is_within half z) (cast_unsigned w64 z) word found.1 in
-        let ok : is_within half (signed_of (sign_bit integer) (number_of (low_first size (cast_unsigned w64 z)))) ≡ true =
+        let ok : is_within half (signed_of (sign_bit integer) (low_first_number (low_first size (cast_unsigned w64 z)))) ≡ true =
             signed_within size half (sign_bit integer) it.room z it.within it.twice it.whole is.0 in
         rw (sym is.1, ok) refl
     by_sign false h =
@@ -163,7 +163,7 @@ word_shown integer word n h = by_sign (is_signed integer) h
         let is = passed (nat_lt found.0 (2 * half)) found.0 word found.1 in
         let below : word < 2 * half = subst (λ m. m < 2 * half) is.1 (ltb-true found.0 (2 * half) is.0) in
         let small : word < 256 ^ size = omega (arith, below, it.within, it.twice) in
-        rw (number_of-low_first size word small, lt-ltb word (2 * half) below) refl
+        rw (low_first_number-low_first size word small, lt-ltb word (2 * half) below) refl
 
 -- a whole number that is read can be shown
 pub integer-shown : (integer : IntegerName) (n : Num) (fill : List ℕ) → integer_fill integer n ≡ Some fill → IsSome (integer_sized integer fill)
@@ -172,7 +172,7 @@ integer-shown integer n fill h =
     let size = integer_size integer in
     subst (λ bytes. IsSome (integer_sized integer bytes)) found.2
         (rw (of_length-found size (low_first size found.0) (length-low_first size found.0))
-            (some_mapped (number_of_word integer (number_of (low_first size found.0))) (word_shown integer found.0 n found.1)))
+            (some_mapped (number_of_word integer (low_first_number (low_first size found.0))) (word_shown integer found.0 n found.1)))
   where
     some_mapped : (o : Option Num) → IsSome o → IsSome (option_map number o)
     some_mapped None s = s

@@ -9,5 +9,7 @@ pub mod LowBytes
 pub mod NameLaws
 pub mod NameTrees
 pub mod OptionalRound
+pub mod Pairs
 pub mod RawNames
+pub mod ShownAgain
 pub mod Texts

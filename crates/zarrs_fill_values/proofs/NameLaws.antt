@@ -7,7 +7,7 @@ use Rattle.zarrs_chunk.specs.Answer.{seen}
 use Rattle.zarrs_fill_values.specs.ElementName.{is_raw, plain_name}
 use Rattle.zarrs_fill_values.specs.Laws.{IsNamed, NameIsRead}
 use Rattle.zarrs_fill_values.specs.Names.{plain_named, text_of, raw_text}
-use Rattle.zarrs_fill_values.specs.NameTree.{named, is_optional_name, name_in, level_round, one_level_more, optional_object, name_object, name_written, name_tree}
+use Rattle.zarrs_fill_values.specs.NameTree.{named, is_optional_text, name_in, level_round, one_level_more, optional_object, name_object, name_written, name_tree}
 use Rattle.zarrs_fill_values.specs.declared.element_error.ElementError.{ElementError}
 use Rattle.zarrs_fill_values.specs.declared.element_error.ElementError.TheVariants.{UnsupportedDataType}
 use Rattle.zarrs_fill_values.specs.declared.element_name.FloatName.{FloatName}
@@ -55,7 +55,7 @@ plain-named (plain.Raw bits) h = ap (option_map plain.Raw) (raw_bits_of-found (d
 plain-named plain.String h = refl
 plain-named plain.Bytes h = refl
 
-integer-other : (integer : IntegerName) → is_optional_name (text_of (plain.Integer integer)) ≡ false
+integer-other : (integer : IntegerName) → is_optional_text (text_of (plain.Integer integer)) ≡ false
 integer-other Int2 = refl
 integer-other Int4 = refl
 integer-other Int8 = refl
@@ -69,20 +69,20 @@ integer-other Uint16 = refl
 integer-other Uint32 = refl
 integer-other Uint64 = refl
 
-float-other : (name : FloatName) → is_optional_name (text_of (plain.Float name)) ≡ false
+float-other : (name : FloatName) → is_optional_text (text_of (plain.Float name)) ≡ false
 float-other Float16 = refl
 float-other Bfloat16 = refl
 float-other Float32 = refl
 float-other Float64 = refl
 
-complex-other : (name : FloatName) → is_optional_name (text_of (plain.Complex name)) ≡ false
+complex-other : (name : FloatName) → is_optional_text (text_of (plain.Complex name)) ≡ false
 complex-other Float16 = refl
 complex-other Bfloat16 = refl
 complex-other Float32 = refl
 complex-other Float64 = refl
 
 -- it isn't the name of an optional type
-plain-other : (it : PlainName) → is_optional_name (text_of it) ≡ false
+plain-other : (it : PlainName) → is_optional_text (text_of it) ≡ false
 plain-other plain.Bool = refl
 plain-other (plain.Integer integer) = integer-other integer
 plain-other (plain.Float name) = float-other name
@@ -92,7 +92,7 @@ plain-other plain.String = refl
 plain-other plain.Bytes = refl
 
 -- an object of a name alone names what the text names
-lone_name : (text : List ℕ) → is_optional_name text ≡ false → name_in (object (member (codes "name") (string text) no_members)) ≡ named (Some text)
+lone_name : (text : List ℕ) → is_optional_text text ≡ false → name_in (object (member (codes "name") (string text) no_members)) ≡ named (Some text)
 lone_name text h = rw h refl
 
 -- the type that an object of an optional type names

@@ -11,12 +11,12 @@ element_memory OutOfMemory = true
 element_memory _ = false
 
 -- The answer, seen by `view`, is the expected value, or the first error; only lack of memory may come in its place.
-abbrev pub Says : {T V : Type 0} → (T → V) → Result T ElementError → Result V ElementError → Type 0
-Says view result expected = Answers element_memory view result expected
+abbrev pub ElementAnswers : {T V : Type 0} → (T → V) → Result T ElementError → Result V ElementError → Type 0
+ElementAnswers view result expected = Answers element_memory view result expected
 
 -- the same of a vector, which is seen by its items
-abbrev pub SaysItems : {A : Type 0} → Result (Vec A Global) ElementError → Result (List A) ElementError → Type 0
-SaysItems result expected = Says (λ v. v.items) result expected
+abbrev pub ElementBytes : {A : Type 0} → Result (Vec A Global) ElementError → Result (List A) ElementError → Type 0
+ElementBytes result expected = ElementAnswers (λ v. v.items) result expected
 
 -- the name of an error, as its bytes
 abbrev pub element_error_name : ElementError → List ℕ

@@ -25,13 +25,13 @@ abbrev pub below_256 : ℕ → Option ℕ
 below_256 n = if nat_lt n 256 then Some n else None
 
 -- the byte that a JSON number is
-abbrev pub byte_in : Data → Option ℕ
-byte_in tree = option_and_then below_256 (option_and_then as_u64 (as_number tree))
+abbrev pub json_byte : Data → Option ℕ
+json_byte tree = option_and_then below_256 (option_and_then as_u64 (as_number tree))
 
 -- the bytes that the items of a list are
-abbrev pub bytes_in : Items → Option (List ℕ)
-bytes_in no_items = Some []
-bytes_in (item tree items) = option_and_then (λ byte. option_map (λ rest. byte ∷ rest) (bytes_in items)) (byte_in tree)
+abbrev pub json_bytes : Items → Option (List ℕ)
+json_bytes no_items = Some []
+json_bytes (item tree items) = option_and_then (λ byte. option_map (λ rest. byte ∷ rest) (json_bytes items)) (json_byte tree)
 
 -- the bytes of a list of them, or of a text in base64, padded, as RFC 4648 has it
 abbrev pub bytes_fill : Data → Option (List ℕ)
@@ -39,7 +39,7 @@ bytes_fill null = None
 bytes_fill (boolean truth) = None
 bytes_fill (number n) = None
 bytes_fill (string text) = decoded_of standard text
-bytes_fill (array items) = bytes_in items
+bytes_fill (array items) = json_bytes items
 bytes_fill (object members) = None
 
 -- how many items a list has
@@ -52,9 +52,13 @@ abbrev pub floats_in : FloatName → Items → Option (List ℕ)
 floats_in name no_items = Some []
 floats_in name (item tree items) = option_and_then (λ fill. option_map (λ rest. fill ++ rest) (floats_in name items)) (float_fill name tree)
 
--- a complex number: a list of two floats, of the real part and of the imaginary one
-abbrev pub complex_fill : FloatName → Items → Option (List ℕ)
-complex_fill name items = if item_count items == 2 then floats_in name items else None
+-- the bytes of two floats, of the real part and of the imaginary one
+abbrev pub complex_pair : FloatName → Items → Option (List ℕ)
+complex_pair name items = if item_count items == 2 then floats_in name items else None
+
+-- a complex number: a list of two floats
+abbrev pub complex_fill : FloatName → Data → Option (List ℕ)
+complex_fill name tree = option_and_then (complex_pair name) (as_array tree)
 
 -- a text
 abbrev pub text_fill : List ℕ → Option (List ℕ)
@@ -69,7 +73,7 @@ abbrev pub plain_fill : PlainName → Data → Option (List ℕ)
 plain_fill plain.Bool tree = option_map truth_fill (as_bool tree)
 plain_fill (plain.Integer integer) tree = option_and_then (integer_fill integer) (as_number tree)
 plain_fill (plain.Float name) tree = float_fill name tree
-plain_fill (plain.Complex name) tree = option_and_then (complex_fill name) (as_array tree)
+plain_fill (plain.Complex name) tree = complex_fill name tree
 plain_fill (plain.Raw bits) tree = raw_fill bits tree
 plain_fill plain.String tree = option_and_then text_fill (as_str tree)
 plain_fill plain.Bytes tree = bytes_fill tree

@@ -8,7 +8,7 @@ use Rattle.std.specs.Str.{bytes_eq}
 use Rattle.hex.specs.Hex.{decode_sized, encode_lower}
 use Rattle.serde_json.specs.Data.{Num, unsigned, negative, float, Data, null, boolean, number, string, array, object}
 use Rattle.zarrs_fill_values.specs.ElementName.{float_bits}
-use Rattle.zarrs_fill_values.specs.Words.{low_first, number_of, behind}
+use Rattle.zarrs_fill_values.specs.Words.{low_first, low_first_number, behind_prefix}
 use Rattle.zarrs_fill_values.specs.declared.element_name.FloatName.{FloatName}
 use Rattle.zarrs_fill_values.specs.declared.element_name.FloatName.TheVariants.{Float16, Bfloat16, Float32, Float64}
 
@@ -39,7 +39,7 @@ minus_infinity_word Float64 = 0xfff0_0000_0000_0000
 
 -- the number of hex digits, the highest first, where they are those of so many bytes, no fewer and no more
 abbrev pub digits_word : ℕ → List ℕ → Option ℕ
-digits_word size digits = option_map (λ bytes. number_of (reverse bytes)) (result_ok (decode_sized digits size))
+digits_word size digits = option_map (λ bytes. low_first_number (reverse bytes)) (result_ok (decode_sized digits size))
 
 -- the bits that hex digits say
 abbrev pub hex_word : FloatName → List ℕ → Option ℕ
@@ -51,7 +51,7 @@ text_word name text =
     if bytes_eq text (codes "NaN") then Some (nan_word name)
     else if bytes_eq text (codes "Infinity") then Some (infinity_word name)
     else if bytes_eq text (codes "-Infinity") then Some (minus_infinity_word name)
-    else option_and_then (hex_word name) (behind (codes "0x") text)
+    else option_and_then (hex_word name) (behind_prefix (codes "0x") text)
 
 -- the float nearest to a binary64
 abbrev pub nearest_to : Format → Float → Float
@@ -118,4 +118,4 @@ shown_as name word None = string (float_text name word)
 
 -- how a float's bytes are shown
 abbrev pub float_shown : FloatName → List ℕ → Data
-float_shown name fill = shown_as name (number_of fill) (number_of_bits name (number_of fill))
+float_shown name fill = shown_as name (low_first_number fill) (number_of_bits name (low_first_number fill))

@@ -6,7 +6,7 @@ use Rattle.serde_json.specs.Data.{Num, Data, unsigned, number}
 use Rattle.serde_json.specs.Find.{as_i64, as_u64, of_integer}
 use Rattle.zarrs_data_type.specs.ElementType.{component_bytes}
 use Rattle.zarrs_fill_values.specs.ElementName.{integer_bits, is_signed}
-use Rattle.zarrs_fill_values.specs.Words.{low_first, number_of, of_length}
+use Rattle.zarrs_fill_values.specs.Words.{low_first, low_first_number, of_length}
 use Rattle.zarrs_fill_values.specs.declared.element_name.IntegerName.{IntegerName}
 
 -- how many bytes a number has: two's complement where it may be negative, with the sign in all bits above its own
@@ -60,7 +60,7 @@ number_of_word integer n =
 
 -- the JSON number of a number's bytes
 abbrev pub integer_shown : IntegerName → List ℕ → Option Data
-integer_shown integer fill = option_map number (number_of_word integer (number_of fill))
+integer_shown integer fill = option_map number (number_of_word integer (low_first_number fill))
 
 -- the same of as many bytes as the type has, else none
 abbrev pub integer_sized : IntegerName → List ℕ → Option Data

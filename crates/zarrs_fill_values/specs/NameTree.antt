@@ -19,8 +19,8 @@ abbrev pub named : Option (List ℕ) → Result ElementName ElementError
 named name = seen plain_name (ok_or (option_and_then plain_named name) UnsupportedDataType)
 
 -- a text is one of the two names of optional types
-abbrev pub is_optional_name : List ℕ → Bool
-is_optional_name name = bytes_eq name (codes "zarrs.optional") || bytes_eq name (codes "optional")
+abbrev pub is_optional_text : List ℕ → Bool
+is_optional_text name = bytes_eq name (codes "zarrs.optional") || bytes_eq name (codes "optional")
 
 -- the text at the key `name`
 abbrev pub name_at : Members → Option (List ℕ)
@@ -33,7 +33,7 @@ configuration_at members = get_member (codes "configuration") members
 -- an object names an optional type
 abbrev pub names_optional : Option (List ℕ) → Bool
 names_optional None = false
-names_optional (Some name) = is_optional_name name
+names_optional (Some name) = is_optional_text name
 
 -- an object has no members
 abbrev pub has_no_members : Members → Bool
@@ -41,11 +41,11 @@ has_no_members no_members = true
 has_no_members (member key tree members) = false
 
 -- nothing is configured: the key is missing, or it is null or an object without members
-abbrev pub is_bare : Option Data → Bool
-is_bare None = true
-is_bare (Some null) = true
-is_bare (Some (object members)) = has_no_members members
-is_bare _ = false
+abbrev pub is_unconfigured : Option Data → Bool
+is_unconfigured None = true
+is_unconfigured (Some null) = true
+is_unconfigured (Some (object members)) = has_no_members members
+is_unconfigured _ = false
 
 -- an object, where there is one
 abbrev pub object_in : Option Data → Option Data
@@ -58,7 +58,7 @@ inner_tree members = if names_optional (name_at members) then object_in (configu
 
 -- the type that an object names without a configuration
 abbrev pub bare_name : Members → Result ElementName ElementError
-bare_name members = if is_bare (configuration_at members) then named (name_at members) else Err UnsupportedDataType
+bare_name members = if is_unconfigured (configuration_at members) then named (name_at members) else Err UnsupportedDataType
 
 -- one optional type more round it: at most 255 stand one in another
 abbrev pub one_level_more : ElementName → Result ElementName ElementError
@@ -68,8 +68,8 @@ one_level_more name = if nat_lt name.levels 255 then Ok (record { plain = name.p
 abbrev pub level_round : Result ElementName ElementError → Result ElementName ElementError
 level_round inner = inner >>= one_level_more
 
--- The type that a tree names, or the error. An object has a name, and of an optional type a configuration, which is an object that names the type inside. Other keys are passed over.
 abbrev mutual
+  -- The type that a tree names, or the error. An object has a name, and of an optional type a configuration, which is an object that names the type inside. Other keys are passed over.
   pub name_in : Data → Result ElementName ElementError
   name_in null = Err UnsupportedDataType
   name_in (boolean truth) = Err UnsupportedDataType
@@ -98,6 +98,6 @@ abbrev pub name_written : ℕ → PlainName → Data
 name_written zero plain = string (text_of plain)
 name_written (suc levels) plain = object (name_object (suc levels) plain)
 
--- the same of a name
+-- how a type is written, with the optional types round it
 abbrev pub name_tree : ElementName → Data
 name_tree name = name_written name.levels name.plain

@@ -4,7 +4,7 @@ use Rattle.std.specs.Prelude.{ℕ, ◌^◌, ◌&&◌, ◌++◌, nat_lt, List, Op
 use Rattle.std.specs.Str.{bytes_eq}
 use Rattle.std.specs.Str.Parse.{digits_value}
 use Rattle.zarrs_fill_values.specs.ElementName.{is_raw}
-use Rattle.zarrs_fill_values.specs.Words.{behind}
+use Rattle.zarrs_fill_values.specs.Words.{behind_prefix}
 use Rattle.zarrs_fill_values.specs.declared.element_name.IntegerName.{IntegerName}
 use Rattle.zarrs_fill_values.specs.declared.element_name.IntegerName.TheVariants.{Int2, Int4, Int8, Int16, Int32, Int64, Uint2, Uint4, Uint8, Uint16, Uint32, Uint64}
 use Rattle.zarrs_fill_values.specs.declared.element_name.FloatName.{FloatName}
@@ -24,7 +24,7 @@ raw_bits_of digits =
 
 -- how many bits a name of raw bits says
 abbrev pub raw_bits_in : List ℕ → Option ℕ
-raw_bits_in name = option_and_then raw_bits_of (behind (codes "r") name)
+raw_bits_in name = option_and_then raw_bits_of (behind_prefix (codes "r") name)
 
 -- the name of whole numbers
 abbrev pub integer_text : IntegerName → List ℕ

@@ -9,17 +9,17 @@ low_first zero n = []
 low_first (suc size) n = n % 256 ∷ low_first size (n / 256)
 
 -- the number whose bytes these are, the lowest first
-abbrev pub number_of : List ℕ → ℕ
-number_of [] = 0
-number_of (byte ∷ rest) = byte + 256 * number_of rest
+abbrev pub low_first_number : List ℕ → ℕ
+low_first_number [] = 0
+low_first_number (byte ∷ rest) = byte + 256 * low_first_number rest
 
 -- each is a byte
 abbrev pub IsBytes : List ℕ → Type 0
 IsBytes bytes = (i : ℕ) → slice_index bytes i < 256
 
 -- what stands behind a text that another begins with
-abbrev pub behind : List ℕ → List ℕ → Option (List ℕ)
-behind prefix text = if bytes_eq (take (length prefix) text) prefix then Some (drop (length prefix) text) else None
+abbrev pub behind_prefix : List ℕ → List ℕ → Option (List ℕ)
+behind_prefix prefix text = if bytes_eq (take (length prefix) text) prefix then Some (drop (length prefix) text) else None
 
 -- the bytes, where they are so many
 abbrev pub of_length : ℕ → List ℕ → Option (List ℕ)

@@ -1,7 +1,7 @@
 //! The types of elements by their names.
 ghost use Rattle.std.specs.Prelude.{◌≡◌};
 ghost use Rattle.zarrs_fill_values.specs.ElementName.{integer_bits as bits_of_integer, is_signed as has_sign, float_bits as bits_of_float, plain_type, plain_name, type_of};
-ghost use Rattle.zarrs_fill_values.specs.ElementError.{Says};
+ghost use Rattle.zarrs_fill_values.specs.ElementError.{ElementAnswers};
 ghost use Rattle.zarrs_data_type.specs.ElementType.{optional};
 ghost use Rattle.std.specs.Prelude.{Ok};
 
@@ -148,7 +148,7 @@ impl PlainName {
 }
 
 fn optional_of(alloc: Global, inner: DataType) -> Result<DataType, ElementError>
-    ensures answer { Says (λ data_type. data_type) result (Ok (optional inner)) }
+    ensures answer { ElementAnswers (λ data_type. data_type) result (Ok (optional inner)) }
 {
     match DataType::optional(alloc, inner) {
         Ok(data_type) => Ok(data_type),
@@ -168,7 +168,7 @@ impl ElementName {
     /// `UnsupportedDataType` for raw bits that are none, or no multiple of 8; `OutOfMemory`, of
     /// optional types alone.
     pub fn data_type(self, alloc: Global) -> Result<DataType, ElementError>
-        ensures answer { Says (λ data_type. data_type) result (type_of self) }
+        ensures answer { ElementAnswers (λ data_type. data_type) result (type_of self) }
     {
         let mut data_type = self.plain.data_type()?;
         for level in 0..self.levels {

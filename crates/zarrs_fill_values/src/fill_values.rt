@@ -2,8 +2,8 @@
 ghost use Rattle.std.specs.Prelude.{◌≡◌, ok_or, Ok};
 ghost use Rattle.serde_json.specs.View.{view, items_view};
 ghost use Rattle.zarrs_metadata.specs.Trees.{lent_tree};
-ghost use Rattle.zarrs_fill_values.specs.ElementError.{Says, SaysItems};
-ghost use Rattle.zarrs_fill_values.specs.FillValues.{byte_in as byte_of, bytes_in, bytes_fill as fill_of_bytes, floats_in, complex_fill as fill_of_complex, text_fill as fill_of_text, truth_fill, plain_fill as fill_of_plain, present as with_one, fill_in, fill_of, raw_fill as fill_of_raw, lone as lone_item};
+ghost use Rattle.zarrs_fill_values.specs.ElementError.{ElementAnswers, ElementBytes};
+ghost use Rattle.zarrs_fill_values.specs.FillValues.{json_byte as byte_of, json_bytes, bytes_fill as fill_of_bytes, floats_in, complex_pair as pair_fill, complex_fill as fill_of_complex, text_fill as fill_of_text, truth_fill, plain_fill as fill_of_plain, present as with_one, fill_in, fill_of, raw_fill as fill_of_raw, lone as lone_item};
 ghost use Rattle.base64.specs.Engines.{standard};
 ghost use Rattle.base64.specs.GeneralPurpose.{decoded_of};
 ghost use Rattle.std.specs.Option.{option_map};
@@ -19,7 +19,7 @@ use std::alloc::{AllocError, Global};
 use zarrs_data_type::FillValue;
 
 /// The byte that a JSON number is.
-fn byte_in(tree: &Value) -> Option<u8>
+fn json_byte(tree: &Value) -> Option<u8>
     ensures value { result ≡ byte_of (view tree.now) }
 {
     let number = tree.as_u64()?;
@@ -32,12 +32,12 @@ fn byte_in(tree: &Value) -> Option<u8>
 
 /// The bytes that the items of a list are.
 fn list_bytes(alloc: Global, items: &Vec<Value>) -> Result<Vec<u8>, ElementError>
-    ensures answer { SaysItems result
-        (ok_or (bytes_in (items_view items.now.items)) ElementError.InvalidFillValue) }
+    ensures answer { ElementBytes result
+        (ok_or (json_bytes (items_view items.now.items)) ElementError.InvalidFillValue) }
 {
     let mut bytes = Vec::new(alloc);
     for item in items {
-        let Some(byte) = byte_in(item) else {
+        let Some(byte) = json_byte(item) else {
             return Err(ElementError::InvalidFillValue);
         };
         bytes.push(byte)?;
@@ -47,7 +47,7 @@ fn list_bytes(alloc: Global, items: &Vec<Value>) -> Result<Vec<u8>, ElementError
 
 /// The bytes of a text in base64.
 fn base64_bytes(alloc: Global, text: &str) -> Result<Vec<u8>, ElementError>
-    ensures answer { SaysItems result
+    ensures answer { ElementBytes result
         (ok_or (decoded_of standard text.now) ElementError.InvalidFillValue) }
 {
     match STANDARD.decode(alloc, text.as_bytes()) {
@@ -59,7 +59,7 @@ fn base64_bytes(alloc: Global, text: &str) -> Result<Vec<u8>, ElementError>
 
 /// The bytes of a list of them, or of a text in base64.
 fn bytes_fill(alloc: Global, tree: &Value) -> Result<Vec<u8>, ElementError>
-    ensures answer { SaysItems result
+    ensures answer { ElementBytes result
         (ok_or (fill_of_bytes (view tree.now)) ElementError.InvalidFillValue) }
 {
     match tree {
@@ -71,7 +71,7 @@ fn bytes_fill(alloc: Global, tree: &Value) -> Result<Vec<u8>, ElementError>
 
 /// The same of as many bits.
 fn raw_fill(alloc: Global, bits: u64, tree: &Value) -> Result<Vec<u8>, ElementError>
-    ensures answer { SaysItems result
+    ensures answer { ElementBytes result
         (ok_or (fill_of_raw bits (view tree.now)) ElementError.InvalidFillValue) }
 {
     let bytes = bytes_fill(alloc, tree)?;
@@ -88,7 +88,7 @@ fn list_floats(
     name: FloatName,
     items: &Vec<Value>,
 ) -> Result<Vec<u8>, ElementError>
-    ensures answer { SaysItems result
+    ensures answer { ElementBytes result
         (ok_or (floats_in name (items_view items.now.items)) ElementError.InvalidFillValue) }
 {
     let mut bytes = Vec::new(alloc);
@@ -99,20 +99,30 @@ fn list_floats(
     Ok(bytes)
 }
 
+fn float_pair(alloc: Global, name: FloatName, items: &Vec<Value>) -> Result<Vec<u8>, ElementError>
+    ensures answer { ElementBytes result
+        (ok_or (pair_fill name (items_view items.now.items)) ElementError.InvalidFillValue) }
+{
+    if items.len() == 2 {
+        list_floats(alloc, name, items)
+    } else {
+        Err(ElementError::InvalidFillValue)
+    }
+}
+
 /// A complex number: a list of two floats.
 fn complex_fill(alloc: Global, name: FloatName, tree: &Value) -> Result<Vec<u8>, ElementError>
-    ensures answer { SaysItems result
-        (ok_or (fill_of_plain (PlainName.Complex name) (view tree.now))
-        ElementError.InvalidFillValue) }
+    ensures answer { ElementBytes result
+        (ok_or (fill_of_complex name (view tree.now)) ElementError.InvalidFillValue) }
 {
     match tree {
-        Value::Array(items) if items.len() == 2 => list_floats(alloc, name, items),
+        Value::Array(items) => float_pair(alloc, name, items),
         _ => Err(ElementError::InvalidFillValue),
     }
 }
 
 fn truth_bytes(alloc: Global, tree: &Value) -> Result<Vec<u8>, ElementError>
-    ensures answer { SaysItems result
+    ensures answer { ElementBytes result
         (ok_or (fill_of_plain PlainName.Bool (view tree.now)) ElementError.InvalidFillValue) }
 {
     match tree {
@@ -122,7 +132,7 @@ fn truth_bytes(alloc: Global, tree: &Value) -> Result<Vec<u8>, ElementError>
 }
 
 fn text_bytes(alloc: Global, text: &str) -> Result<Vec<u8>, ElementError>
-    ensures answer { SaysItems result
+    ensures answer { ElementBytes result
         (ok_or (fill_of_text text.now) ElementError.InvalidFillValue) }
 {
     Ok(Vec::from_slice(alloc, text.as_bytes())?)
@@ -130,7 +140,7 @@ fn text_bytes(alloc: Global, text: &str) -> Result<Vec<u8>, ElementError>
 
 /// The fill value of a type whose elements are all there.
 fn plain_fill(alloc: Global, plain: PlainName, tree: &Value) -> Result<Vec<u8>, ElementError>
-    ensures answer { SaysItems result
+    ensures answer { ElementBytes result
         (ok_or (fill_of_plain plain (view tree.now)) ElementError.InvalidFillValue) }
 {
     match plain {
@@ -163,7 +173,7 @@ fn lone(items: &Vec<Value>) -> Option<&Value>
 
 /// The bytes of an element that is there.
 fn present(mut fill: Vec<u8>) -> Result<Vec<u8>, ElementError>
-    ensures answer { SaysItems result (Ok (with_one fill.items)) }
+    ensures answer { ElementBytes result (Ok (with_one fill.items)) }
 {
     fill.push(1)?;
     Ok(fill)
@@ -176,7 +186,7 @@ fn optional_fill(
     plain: PlainName,
     tree: &Value,
 ) -> Result<Vec<u8>, ElementError>
-    ensures answer { SaysItems result
+    ensures answer { ElementBytes result
         (ok_or (fill_in levels plain (view tree.now)) ElementError.InvalidFillValue) }
 {
     if levels == 0 {
@@ -202,7 +212,7 @@ impl ElementName {
         alloc: Global,
         tree: &Value,
     ) -> Result<FillValue, ElementError>
-        ensures answer { Says (λ fill. fill) result
+        ensures answer { ElementAnswers (λ fill. fill) result
             (ok_or (fill_of self (view tree.now)) ElementError.InvalidFillValue) }
     {
         let fill = optional_fill(alloc, self.levels, self.plain, tree)?;

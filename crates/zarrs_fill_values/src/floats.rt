@@ -2,8 +2,8 @@
 ghost use Rattle.std.specs.Prelude.{◌≡◌, ◌<◌, ◌≤◌, ◌^◌, ◌*◌, length, string_bytes, IfOk, Ok, ok_or, from_bits};
 ghost use Rattle.std.specs.Float.{binary32, binary64};
 ghost use Rattle.serde_json.specs.View.{view, number_view};
-ghost use Rattle.zarrs_fill_values.specs.ElementError.{Says, SaysItems};
-ghost use Rattle.zarrs_fill_values.specs.Floats.{float_size as size_of_float, infinity_word as word_of_infinity, nan_word as word_of_nan, minus_infinity_word as word_of_minus_infinity, digits_word as word_of_digits, hex_word as word_of_hex, text_word as word_of_text, rounded, finite_word, number_word as word_of_number, float_word as word_of, float_fill as fill_of_float, number_of_bits as number_of, finite, hex_text as text_of_hex, float_text as text_of_float, shown_as as shown_of, float_shown as shown_of_float};
+ghost use Rattle.zarrs_fill_values.specs.ElementError.{ElementAnswers, ElementBytes};
+ghost use Rattle.zarrs_fill_values.specs.Floats.{float_size as size_of_float, infinity_word as word_of_infinity, nan_word as word_of_nan, minus_infinity_word as word_of_minus_infinity, digits_word as word_of_digits, hex_word as word_of_hex, text_word as word_of_text, rounded, finite_word, number_word as word_of_number, float_word as word_of, float_fill as fill_of_float, number_of_bits as bits_number, finite, hex_text as text_of_hex, float_text as text_of_float, shown_as as shown_of, float_shown as shown_of_float};
 
 use crate::element_error::ElementError;
 use crate::element_name::FloatName;
@@ -176,7 +176,7 @@ pub(crate) fn float_fill(
     name: FloatName,
     tree: &Value,
 ) -> Result<Vec<u8>, ElementError>
-    ensures answer { SaysItems result
+    ensures answer { ElementBytes result
         (ok_or (fill_of_float name (view tree.now)) ElementError.InvalidFillValue) }
 {
     match float_word(name, tree) {
@@ -187,7 +187,7 @@ pub(crate) fn float_fill(
 
 /// The text of bits: `0x` and their digits.
 fn hex_text(alloc: Global, name: FloatName, word: u64) -> Result<String, ElementError>
-    ensures answer { Says string_bytes result (Ok (text_of_hex name word)) }
+    ensures answer { ElementAnswers string_bytes result (Ok (text_of_hex name word)) }
 {
     let mut bytes = low_bytes(alloc, name.size(), word)?;
     bytes.reverse();
@@ -198,7 +198,7 @@ fn hex_text(alloc: Global, name: FloatName, word: u64) -> Result<String, Element
 
 /// The text of bits that are no number's.
 fn float_text(alloc: Global, name: FloatName, word: u64) -> Result<String, ElementError>
-    ensures answer { Says string_bytes result (Ok (text_of_float name word)) }
+    ensures answer { ElementAnswers string_bytes result (Ok (text_of_float name word)) }
 {
     let text = if word == name.nan_word() {
         "NaN"
@@ -233,7 +233,7 @@ fn finite_f64(word: u64) -> Option<f64>
 /// The number of the bits, where they are one's.
 fn number_of_bits(name: FloatName, word: u64) -> Option<f64>
     requires word { word < 256 ^ size_of_float name }
-    ensures value { result ≡ number_of name word }
+    ensures value { result ≡ bits_number name word }
 {
     match name {
         FloatName::Float16 | FloatName::Bfloat16 => None,
@@ -249,7 +249,7 @@ pub(crate) fn float_shown(
     fill: &[u8],
 ) -> Result<Value, ElementError>
     requires size { length fill.now ≡ size_of_float name }
-    ensures answer { Says view result (Ok (shown_of_float name fill.now)) }
+    ensures answer { ElementAnswers view result (Ok (shown_of_float name fill.now)) }
 {
     let word = low_number(fill);
     match number_of_bits(name, word) {

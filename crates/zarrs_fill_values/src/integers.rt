@@ -1,8 +1,8 @@
 //! Fill values of whole numbers.
 ghost use Rattle.std.specs.Prelude.{◌≡◌, ◌+◌, ◌*◌, ◌^◌, ◌<◌, ok_or, option_map};
 ghost use Rattle.serde_json.specs.View.{view, number_view};
-ghost use Rattle.zarrs_fill_values.specs.ElementError.{Says, SaysItems};
-ghost use Rattle.zarrs_fill_values.specs.Integers.{integer_size as size_of_integer, half_range as half_of, sign_bit as sign_of, is_within as is_number_within, signed_word as word_of_signed, unsigned_word as word_of_unsigned, integer_word as word_of, integer_fill as fill_of_integer, signed_of, signed_number as number_of_signed, number_of_word as number_of, integer_sized};
+ghost use Rattle.zarrs_fill_values.specs.ElementError.{ElementAnswers, ElementBytes};
+ghost use Rattle.zarrs_fill_values.specs.Integers.{integer_size as size_of_integer, half_range as half_of, sign_bit as sign_of, is_within as is_number_within, signed_word as word_of_signed, unsigned_word as word_of_unsigned, integer_word as word_of, integer_fill as fill_of_integer, signed_of, signed_number as number_of_signed, number_of_word as word_number, integer_sized};
 
 use crate::element_error::ElementError;
 use crate::element_name::IntegerName;
@@ -88,7 +88,7 @@ pub(crate) fn integer_fill(
     integer: IntegerName,
     number: &Number,
 ) -> Result<Vec<u8>, ElementError>
-    ensures answer { SaysItems result
+    ensures answer { ElementBytes result
         (ok_or (fill_of_integer integer (number_view number.now)) ElementError.InvalidFillValue) }
 {
     match integer_word(integer, number) {
@@ -123,7 +123,7 @@ fn signed_number(bound: u64, number: i64) -> Option<Number>
 /// The JSON number of the bits in a number's bytes.
 fn number_of_word(integer: IntegerName, word: u64) -> Option<Number>
     requires word { word < 2 * sign_of integer }
-    ensures value { option_map number_view result ≡ number_of integer word }
+    ensures value { option_map number_view result ≡ word_number integer word }
 {
     if integer.is_signed() {
         signed_number(integer.half_range(), signed(integer.sign_bit(), word))
@@ -135,7 +135,7 @@ fn number_of_word(integer: IntegerName, word: u64) -> Option<Number>
 
 /// The JSON number of a number's bytes.
 pub(crate) fn integer_shown(integer: IntegerName, fill: &[u8]) -> Result<Value, ElementError>
-    ensures answer { Says view result
+    ensures answer { ElementAnswers view result
         (ok_or (integer_sized integer fill.now) ElementError.InvalidFillValue) }
 {
     if fill.len() as u64 != integer.size() {

@@ -3,8 +3,8 @@ ghost use Rattle.std.specs.Prelude.{◌≡◌, Ok, IfOk, Some};
 ghost use Rattle.serde_json.specs.View.{view};
 ghost use Rattle.zarrs_metadata.specs.MetadataV3.{configuration_seen};
 ghost use Rattle.zarrs_metadata.specs.Trees.{lent_tree};
-ghost use Rattle.zarrs_fill_values.specs.ElementError.{Says};
-ghost use Rattle.zarrs_fill_values.specs.NameTree.{named as type_named, is_optional_name as is_name_of_optional, is_bare as has_no_configuration, object_in as lent_object_in, inner_tree as tree_inside, bare_name as named_barely, one_level_more as with_level, level_round as level_round_of, has_no_members as is_empty, name_in, name_object, name_tree, optional_object as optional_object_of};
+ghost use Rattle.zarrs_fill_values.specs.ElementError.{ElementAnswers};
+ghost use Rattle.zarrs_fill_values.specs.NameTree.{named as type_named, is_optional_text as is_name_of_optional, is_unconfigured as has_no_configuration, object_in as lent_object_in, inner_tree as tree_inside, bare_name as named_barely, one_level_more as with_level, level_round as level_round_of, has_no_members as is_empty, name_in, name_object, name_tree, optional_object as optional_object_of};
 
 use crate::element_error::ElementError;
 use crate::element_name::{ElementName, PlainName};
@@ -13,7 +13,7 @@ use serde_json::{Map, Value};
 use std::alloc::{AllocError, Global};
 use zarrs_metadata::{Configuration, member};
 
-fn is_optional_name(name: &str) -> bool
+fn is_optional_text(name: &str) -> bool
     ensures value { result ≡ is_name_of_optional name.now }
 {
     name == "zarrs.optional" || name == "optional"
@@ -34,7 +34,7 @@ fn has_no_members(members: &Configuration) -> bool
     members.is_empty()
 }
 
-fn is_bare(configuration: Option<&Value>) -> bool
+fn is_unconfigured(configuration: Option<&Value>) -> bool
     ensures value { result ≡ has_no_configuration (lent_tree configuration.entry) }
 {
     match configuration {
@@ -58,7 +58,7 @@ fn inner_tree(members: &Configuration) -> Option<&Value>
 {
     match member(members, "name") {
         Some(Value::String(name)) => {
-            if is_optional_name(name.as_str()) {
+            if is_optional_text(name.as_str()) {
                 object_in(member(members, "configuration"))
             } else {
                 None
@@ -72,7 +72,7 @@ fn inner_tree(members: &Configuration) -> Option<&Value>
 fn bare_name(members: &Configuration) -> Result<ElementName, ElementError>
     ensures answer { result ≡ named_barely (configuration_seen members.now) }
 {
-    if !is_bare(member(members, "configuration")) {
+    if !is_unconfigured(member(members, "configuration")) {
         return Err(ElementError::UnsupportedDataType);
     }
     match member(members, "name") {
@@ -166,7 +166,7 @@ impl ElementName {
     /// The JSON tree: a text, or of optional types an object, whose name is `zarrs.optional`. Errors:
     /// `OutOfMemory`.
     pub fn to_value(self, alloc: Global) -> Result<Value, ElementError>
-        ensures answer { Says view result (Ok (name_tree self)) }
+        ensures answer { ElementAnswers view result (Ok (name_tree self)) }
     {
         if self.levels == 0 {
             Ok(Value::String(plain_text(alloc, self.plain)?))

@@ -1,10 +1,11 @@
 //! Fill values written as JSON.
 ghost use Rattle.std.specs.Prelude.{◌≡◌, ok_or, Ok, Some, IfOk, length, ◌*◌};
 ghost use Rattle.serde_json.specs.View.{view};
-ghost use Rattle.zarrs_fill_values.specs.ElementError.{Says};
+ghost use Rattle.zarrs_fill_values.specs.ElementError.{ElementAnswers};
 ghost use Rattle.zarrs_fill_values.specs.FillValues.{fill_of, text_fill};
 ghost use Rattle.std.specs.Option.{option_map};
 ghost use Rattle.zarrs_fill_values.specs.Floats.{float_size as size_of_float};
+ghost use Rattle.zarrs_fill_values.specs.Words.{IsBytes};
 ghost use Rattle.zarrs_fill_values.specs.Shown.{complex_shown as shown_complex, bytes_list, plain_shown as shown_plain, lone_list as list_of_one, shown_in, shown};
 
 use crate::element_error::ElementError;
@@ -18,7 +19,7 @@ use std::str;
 use zarrs_data_type::FillValue;
 
 fn truth_shown(fill: &[u8]) -> Result<Value, ElementError>
-    ensures answer { Says view result
+    ensures answer { ElementAnswers view result
         (ok_or (shown_plain PlainName.Bool fill.now) ElementError.InvalidFillValue) }
 {
     match fill {
@@ -29,7 +30,7 @@ fn truth_shown(fill: &[u8]) -> Result<Value, ElementError>
 }
 
 fn sized_float(alloc: Global, name: FloatName, fill: &[u8]) -> Result<Value, ElementError>
-    ensures answer { Says view result
+    ensures answer { ElementAnswers view result
         (ok_or (shown_plain (PlainName.Float name) fill.now) ElementError.InvalidFillValue) }
 {
     if fill.len() as u64 == name.size() {
@@ -41,7 +42,7 @@ fn sized_float(alloc: Global, name: FloatName, fill: &[u8]) -> Result<Value, Ele
 
 fn complex_list(alloc: Global, name: FloatName, fill: &[u8]) -> Result<Value, ElementError>
     requires size { length fill.now ≡ 2 * size_of_float name }
-    ensures answer { Says view result (Ok (shown_complex name fill.now)) }
+    ensures answer { ElementAnswers view result (Ok (shown_complex name fill.now)) }
 {
     let size = name.size() as usize;
     let real = float_shown(alloc, name, &fill[..size])?;
@@ -53,7 +54,7 @@ fn complex_list(alloc: Global, name: FloatName, fill: &[u8]) -> Result<Value, El
 }
 
 fn sized_complex(alloc: Global, name: FloatName, fill: &[u8]) -> Result<Value, ElementError>
-    ensures answer { Says view result
+    ensures answer { ElementAnswers view result
         (ok_or (shown_plain (PlainName.Complex name) fill.now) ElementError.InvalidFillValue) }
 {
     if fill.len() as u64 == 2 * name.size() {
@@ -64,7 +65,7 @@ fn sized_complex(alloc: Global, name: FloatName, fill: &[u8]) -> Result<Value, E
 }
 
 fn list_of_bytes(alloc: Global, fill: &[u8]) -> Result<Value, ElementError>
-    ensures answer { Says view result (Ok (bytes_list fill.now)) }
+    ensures answer { ElementAnswers view result (Ok (bytes_list fill.now)) }
 {
     let mut items = Vec::with_capacity(alloc, fill.len())?;
     for byte in fill {
@@ -74,7 +75,7 @@ fn list_of_bytes(alloc: Global, fill: &[u8]) -> Result<Value, ElementError>
 }
 
 fn sized_bytes(alloc: Global, bits: u64, fill: &[u8]) -> Result<Value, ElementError>
-    ensures answer { Says view result
+    ensures answer { ElementAnswers view result
         (ok_or (shown_plain (PlainName.Raw bits) fill.now) ElementError.InvalidFillValue) }
 {
     if fill.len() as u64 == bits / 8 {
@@ -94,7 +95,7 @@ fn text_in(fill: &[u8]) -> Option<&str>
 }
 
 fn text_shown(alloc: Global, fill: &[u8]) -> Result<Value, ElementError>
-    ensures answer { Says view result
+    ensures answer { ElementAnswers view result
         (ok_or (shown_plain PlainName.String fill.now) ElementError.InvalidFillValue) }
 {
     match text_in(fill) {
@@ -105,7 +106,7 @@ fn text_shown(alloc: Global, fill: &[u8]) -> Result<Value, ElementError>
 
 /// The fill value of a type whose elements are all there.
 fn plain_shown(alloc: Global, plain: PlainName, fill: &[u8]) -> Result<Value, ElementError>
-    ensures answer { Says view result
+    ensures answer { ElementAnswers view result
         (ok_or (shown_plain plain fill.now) ElementError.InvalidFillValue) }
 {
     match plain {
@@ -119,8 +120,14 @@ fn plain_shown(alloc: Global, plain: PlainName, fill: &[u8]) -> Result<Value, El
     }
 }
 
+/// Each byte of a machine is one.
+fn are_bytes(fill: &[u8])
+    ensures bytes { IsBytes fill.now }
+{
+}
+
 fn lone_list(alloc: Global, inner: Value) -> Result<Value, ElementError>
-    ensures answer { Says view result (Ok (list_of_one (view inner))) }
+    ensures answer { ElementAnswers view result (Ok (list_of_one (view inner))) }
 {
     let mut items = Vec::new(alloc);
     items.push(inner)?;
@@ -134,7 +141,7 @@ fn optional_shown(
     plain: PlainName,
     fill: &[u8],
 ) -> Result<Value, ElementError>
-    ensures answer { Says view result
+    ensures answer { ElementAnswers view result
         (ok_or (shown_in levels plain fill.now) ElementError.InvalidFillValue) }
 {
     if levels == 0 {
@@ -156,10 +163,12 @@ impl ElementName {
         alloc: Global,
         fill: &FillValue,
     ) -> Result<Value, ElementError>
-        ensures answer { Says view result
+        ensures answer { ElementAnswers view result
             (ok_or (shown self fill.now) ElementError.InvalidFillValue) }
         ensures read_again { IfOk result (λ tree. fill_of self (view tree) ≡ Some fill.now) }
     {
-        optional_shown(alloc, self.levels, self.plain, fill.as_ne_bytes())
+        let bytes = fill.as_ne_bytes();
+        are_bytes(bytes);
+        optional_shown(alloc, self.levels, self.plain, bytes)
     }
 }
