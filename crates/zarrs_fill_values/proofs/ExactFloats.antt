@@ -21,7 +21,7 @@ to_bits-value f nan s a c h v = absurd v
 to_bits-value f (inf t) s a c h v = absurd v
 to_bits-value f (fin t m e) s a c h v =
     let same : m * up e * 2 ^ low f * c ≡ a * 2 ^ low f * down e =
-        mul_right_comm (m * up e) (2 ^ low f) c ∙ ap (λ (n : ℕ). n * 2 ^ low f) v.1 ∙ mul_right_comm a (down e) (2 ^ low f) in
+    mul_right_comm (m * up e) (2 ^ low f) c ∙ ap (λ (n : ℕ). n * 2 ^ low f) v.1 ∙ mul_right_comm a (down e) (2 ^ low f) in
     ap (λ (u : Bool). bits_of_size f u (m * up e * 2 ^ low f / down e)) v.0
     ∙ ap (bits_of_size f s) (div_same (m * up e * 2 ^ low f) (down e) (a * 2 ^ low f) c (down_pos e) h same)
 
@@ -51,8 +51,8 @@ down_bound : (m j k l e : ℕ) → j + k ≡ l → m * 1 < 2 ^ e * 2 ^ k → m *
 down_bound m j k l e is h =
     let below : m < 2 ^ e * 2 ^ k = subst (λ (n : ℕ). n < 2 ^ e * 2 ^ k) (mul-one m) h in
     let right : 2 ^ e * 2 ^ k * 2 ^ j ≡ 2 ^ (l + e) =
-        mul_assoc (2 ^ e) (2 ^ k) (2 ^ j) ∙ ap (λ (n : ℕ). 2 ^ e * n) (mul_comm (2 ^ k) (2 ^ j) ∙ sym (pow-add 2 j k) ∙ ap (λ (n : ℕ). 2 ^ n) is)
-        ∙ mul_comm (2 ^ e) (2 ^ l) ∙ sym (pow-add 2 l e) in
+    mul_assoc (2 ^ e) (2 ^ k) (2 ^ j) ∙ ap (λ (n : ℕ). 2 ^ e * n) (mul_comm (2 ^ k) (2 ^ j) ∙ sym (pow-add 2 j k) ∙ ap (λ (n : ℕ). 2 ^ n) is)
+    ∙ mul_comm (2 ^ e) (2 ^ l) ∙ sym (pow-add 2 l e) in
     subst (λ (n : ℕ). m * 2 ^ j < n) right (mul-lt-mul_of_pos_right below (pow_pos j))
 
 -- a power that isn't above another has no greater exponent
@@ -66,8 +66,8 @@ exact_value f s m (negsuc k) small fine high =
     let within : suc k ≤ low f = let no = exponent_le (suc k) (low f) fine in not_less (suc k) (low f) no in
     let is : low f - suc k + suc k ≡ low f = omega (arith, within) in
     round_exact f s (m * 1) (2 ^ suc k) m (low f - suc k) (pow_pos (suc k)) small
-        (down_bound m (low f - suc k) (suc k) (low f) (suc (emax f)) is high)
-        (down_value m (low f - suc k) (suc k) (low f) is)
+    (down_bound m (low f - suc k) (suc k) (low f) (suc (emax f)) is high)
+    (down_value m (low f - suc k) (suc k) (low f) is)
   where
     not_less : (a b : ℕ) → (b < a → ⊥) → a ≤ b
     not_less a b h = grind (arith, h)
@@ -87,9 +87,9 @@ fitting_value f s (suc m) e h =
     let C : Bool = leb (down e) (2 ^ low f) in
     let D : Bool = ltb (suc m * up e) (2 ^ suc (emax f) * down e) in
     exact_value f s (suc m) e
-        (ltb→lt (suc m) (2 ^ prec f) (and_r A B (and_l (A && B) C (and_l (A && B && C) D h))))
-        (leb→le (down e) (2 ^ low f) (and_r (A && B) C (and_l (A && B && C) D h)))
-        (ltb→lt (suc m * up e) (2 ^ suc (emax f) * down e) (and_r (A && B && C) D h))
+    (ltb→lt (suc m) (2 ^ prec f) (and_r A B (and_l (A && B) C (and_l (A && B && C) D h))))
+    (leb→le (down e) (2 ^ low f) (and_r (A && B) C (and_l (A && B && C) D h)))
+    (ltb→lt (suc m * up e) (2 ^ suc (emax f) * down e) (and_r (A && B && C) D h))
 
 -- a float that a format holds is its own nearest one there
 pub round_to_format-fits : (f : Format) (x : Float) → T (fits f x) → round_to_format f x ≡ x
@@ -98,4 +98,4 @@ round_to_format-fits f nan h = refl
 round_to_format-fits f (inf s) h = refl
 round_to_format-fits f (fin s m e) h =
     same_value f (round f s (m * up e) (down e)) (fin s m e) s (m * up e) (down e) (down_pos e)
-        (round-fits f s (m * up e) (down e)) h (fitting_value f s m e h) (refl, refl)
+    (round-fits f s (m * up e) (down e)) h (fitting_value f s m e h) (refl, refl)

@@ -58,9 +58,9 @@ complex-again name fill bytes is =
     let front = take size fill in
     let rest = drop size fill in
     let real : float_fill name (float_shown name front) ≡ Some front =
-        float-again name front (IsBytes-take size fill bytes) (length-take-le size fill (omega (arith, is))) in
+    float-again name front (IsBytes-take size fill bytes) (length-take-le size fill (omega (arith, is))) in
     let imaginary : float_fill name (float_shown name rest) ≡ Some rest =
-        float-again name rest (IsBytes-drop size fill bytes) (omega (arith, length-drop size fill, is)) in
+    float-again name rest (IsBytes-drop size fill bytes) (omega (arith, length-drop size fill, is)) in
     let whole : front ++ (rest ++ []) ≡ fill = ap (λ r. front ++ r) (append-nil rest) ∙ take-append-drop size fill in
     ap (λ o. option_and_then (λ f. option_map (λ r. f ++ r) (option_and_then (λ g. option_map (λ r. g ++ r) (Some [])) (float_fill name (float_shown name rest)))) o) real
     ∙ ap (λ o. option_map (λ r. front ++ r) (option_and_then (λ g. option_map (λ r. g ++ r) (Some [])) o)) imaginary
@@ -259,6 +259,7 @@ optional-shown inner_shown inner each tree fill h = read_optional (λ f. IsSome 
         listed : (o : Option Data) → IsSome o → IsSome (option_map lone_list o)
         listed None s = s
         listed (Some x) s = refl
+
         by_null : (b : Bool) → IsSome (cond b (Some null) (cond (ends_in_one (present f)) (option_map lone_list (inner_shown (front_of (present f)))) None))
         by_null true = refl
         by_null false = rw (one_present f, front_present f) (listed (inner_shown f) (each t f e))

@@ -24,7 +24,7 @@ hex_again name word h =
     let low = low_first (float_size name) word in
     let many : length (reverse low) ≡ float_size name = length-reverse low ∙ length-low_first (float_size name) word in
     let decoded : decode_sized (encode_lower (reverse low)) (float_size name) ≡ Ok (reverse low) =
-        decode_sized-encode_lower (reverse low) (float_size name) many (IsBytes-reverse low (IsBytes-low_first (float_size name) word)) in
+    decode_sized-encode_lower (reverse low) (float_size name) many (IsBytes-reverse low (IsBytes-low_first (float_size name) word)) in
     ap (λ r. option_map (λ bytes. low_first_number (reverse bytes)) (result_ok r)) decoded
     ∙ ap (λ bytes. Some (low_first_number bytes)) (reverse-reverse low)
     ∙ ap Some (low_first_number-low_first (float_size name) word h)
@@ -70,7 +70,7 @@ finite_again : (format : Format) (word : ℕ) (x : Float) → word < 2 * top for
 finite_again format word x h e =
     let is = finite_is (from_bits format word) x e in
     let bits : to_bits format (from_bits format word) ≡ word =
-        to_bits-of_bits format word h (no_nan (is_nan (from_bits format word)) (not_nan (from_bits format word) is.1)) in
+    to_bits-of_bits format word h (no_nan (is_nan (from_bits format word)) (not_nan (from_bits format word) is.1)) in
     ap (λ y. finite_word format (nearest_to format y)) (sym is.0)
     ∙ ap (finite_word format) (nearest_again format word)
     ∙ ap (λ b. cond b (Some (to_bits format (from_bits format word))) None) is.1

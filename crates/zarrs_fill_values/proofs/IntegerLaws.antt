@@ -87,17 +87,20 @@ word_again integer word n small h = by_sign (is_signed integer) h
   where
     it : Sizes (half_range integer) (sign_bit integer) (256 ^ integer_size integer)
     it = sizes integer
+
     size : ℕ
     size = integer_size integer
+
     half : ℕ
     half = half_range integer
+
     by_sign : (b : Bool) → cond b (signed_number half (signed_of (sign_bit integer) word)) (option_map unsigned (unsigned_word (2 * half) word)) ≡ Some n
         → option_map (low_first size) (cond b (option_and_then (signed_word half) (as_i64 n)) (option_and_then (unsigned_word (2 * half)) (as_u64 n))) ≡ Some (low_first size word)
     by_sign true h =
         let z = signed_of (sign_bit integer) word in
         let found = passed (is_within half z) (of_integer z) n h in
         rw (sym found.1, as_i64-of_integer half z it.most found.0, pass (is_within half z) (cast_unsigned w64 z) found.0)
-            (ap Some (signed_again size half (sign_bit integer) it.room word it.twice it.whole small))
+        (ap Some (signed_again size half (sign_bit integer) it.room word it.twice it.whole small))
     by_sign false h =
         let found = mapped unsigned (unsigned_word (2 * half) word) n h in
         let is = passed (nat_lt word (2 * half)) word found.0 found.1 in
@@ -142,13 +145,17 @@ word_shown integer word n h = by_sign (is_signed integer) h
   where
     it : Sizes (half_range integer) (sign_bit integer) (256 ^ integer_size integer)
     it = sizes integer
+
     size : ℕ
     size = integer_size integer
+
     half : ℕ
     half = half_range integer
+
     chained : {A : Type 0} (f : A → Option ℕ) (o : Option A) (y : ℕ) → option_and_then f o ≡ Some y → (x : A) × (f x ≡ Some y)
     chained f None y h = absurd (cc)
     chained f (Some x) y h = (x, h)
+
     by_sign : (b : Bool) → cond b (option_and_then (signed_word half) (as_i64 n)) (option_and_then (unsigned_word (2 * half)) (as_u64 n)) ≡ Some word
         → IsSome (cond b (signed_number half (signed_of (sign_bit integer) (low_first_number (low_first size word)))) (option_map unsigned (unsigned_word (2 * half) (low_first_number (low_first size word)))))
     by_sign true h =
@@ -156,7 +163,7 @@ word_shown integer word n h = by_sign (is_signed integer) h
         let z = found.0 in
         let is = passed (is_within half z) (cast_unsigned w64 z) word found.1 in
         let ok : is_within half (signed_of (sign_bit integer) (low_first_number (low_first size (cast_unsigned w64 z)))) ≡ true =
-            signed_within size half (sign_bit integer) it.room z it.within it.twice it.whole is.0 in
+        signed_within size half (sign_bit integer) it.room z it.within it.twice it.whole is.0 in
         rw (sym is.1, ok) refl
     by_sign false h =
         let found = chained (unsigned_word (2 * half)) (as_u64 n) word h in
@@ -171,8 +178,8 @@ integer-shown integer n fill h =
     let found = mapped (low_first (integer_size integer)) (integer_word integer n) fill h in
     let size = integer_size integer in
     subst (λ bytes. IsSome (integer_sized integer bytes)) found.2
-        (rw (of_length-found size (low_first size found.0) (length-low_first size found.0))
-            (some_mapped (number_of_word integer (low_first_number (low_first size found.0))) (word_shown integer found.0 n found.1)))
+    (rw (of_length-found size (low_first size found.0) (length-low_first size found.0))
+    (some_mapped (number_of_word integer (low_first_number (low_first size found.0))) (word_shown integer found.0 n found.1)))
   where
     some_mapped : (o : Option Num) → IsSome o → IsSome (option_map number o)
     some_mapped None s = s

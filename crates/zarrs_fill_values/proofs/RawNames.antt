@@ -51,8 +51,8 @@ raw_bits_of-test digits bits read true e parses h =
     raw_bits_of-found digits bits (says_small digits bits read e parses) parts.0 ((bytes_eq-Decides digits (decimal bits)).0 parts.1)
 raw_bits_of-test digits bits read false e parses h =
     raw_bits_of-none digits (λ other small whole is.
-        let again : read ≡ Ok other = raw_digits digits other read small is parses in
-        let same : other ≡ bits = ok_same read other bits again e in
-        let written : digits ≡ decimal bits = is ∙ ap decimal same in
-        let test : bytes_eq digits (decimal bits) ≡ true = (bytes_eq-Decides digits (decimal bits)).1 written in
-        false≢true (sym h ∙ ap (λ b. b && bytes_eq digits (decimal bits)) (sym (ap is_raw same) ∙ whole) ∙ test))
+    let again : read ≡ Ok other = raw_digits digits other read small is parses in
+    let same : other ≡ bits = ok_same read other bits again e in
+    let written : digits ≡ decimal bits = is ∙ ap decimal same in
+    let test : bytes_eq digits (decimal bits) ≡ true = (bytes_eq-Decides digits (decimal bits)).1 written in
+    false≢true (sym h ∙ ap (λ b. b && bytes_eq digits (decimal bits)) (sym (ap is_raw same) ∙ whole) ∙ test))

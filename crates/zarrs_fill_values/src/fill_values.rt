@@ -83,11 +83,7 @@ fn raw_fill(alloc: Global, bits: u64, tree: &Value) -> Result<Vec<u8>, ElementEr
 }
 
 /// The bytes of the floats that the items of a list are.
-fn list_floats(
-    alloc: Global,
-    name: FloatName,
-    items: &Vec<Value>,
-) -> Result<Vec<u8>, ElementError>
+fn list_floats(alloc: Global, name: FloatName, items: &Vec<Value>) -> Result<Vec<u8>, ElementError>
     ensures answer { ElementBytes result
         (ok_or (floats_in name (items_view items.now.items)) ElementError.InvalidFillValue) }
 {

@@ -68,7 +68,11 @@ fn signed_word(bound: u64, number: i64) -> Option<u64>
 fn unsigned_word(half: u64, number: u64) -> Option<u64>
     ensures value { result ≡ word_of_unsigned (2 * half) number }
 {
-    if number / 2 < half { Some(number) } else { None }
+    if number / 2 < half {
+        Some(number)
+    } else {
+        None
+    }
 }
 
 /// A JSON number as 64 bits, where it is whole and in the range of the type.

@@ -95,9 +95,7 @@ fn one_level_more(name: ElementName) -> Result<ElementName, ElementError>
 }
 
 /// One optional type more round a type that was read.
-fn level_round(
-    inner: Result<ElementName, ElementError>,
-) -> Result<ElementName, ElementError>
+fn level_round(inner: Result<ElementName, ElementError>) -> Result<ElementName, ElementError>
     ensures answer { result ≡ level_round_of inner }
 {
     match inner {

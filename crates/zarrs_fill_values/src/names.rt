@@ -28,7 +28,11 @@ fn raw_bits_of(digits: &[u8]) -> Option<u64>
     let Ok(bits) = fast_float::parse_u64(digits) else {
         return None;
     };
-    if says_raw(digits, bits) { Some(bits) } else { None }
+    if says_raw(digits, bits) {
+        Some(bits)
+    } else {
+        None
+    }
 }
 
 /// How many bits a name of raw bits says.

@@ -123,8 +123,7 @@ fn plain_shown(alloc: Global, plain: PlainName, fill: &[u8]) -> Result<Value, El
 /// Each byte of a machine is one.
 fn are_bytes(fill: &[u8])
     ensures bytes { IsBytes fill.now }
-{
-}
+{}
 
 fn lone_list(alloc: Global, inner: Value) -> Result<Value, ElementError>
     ensures answer { ElementAnswers view result (Ok (list_of_one (view inner))) }
@@ -158,11 +157,7 @@ impl ElementName {
     /// The JSON tree of a fill value: one for each.
     ///
     /// Errors: `InvalidFillValue` where the bytes are no element of this type; `OutOfMemory`.
-    pub fn metadata_fill_value(
-        self,
-        alloc: Global,
-        fill: &FillValue,
-    ) -> Result<Value, ElementError>
+    pub fn metadata_fill_value(self, alloc: Global, fill: &FillValue) -> Result<Value, ElementError>
         ensures answer { ElementAnswers view result
             (ok_or (shown self fill.now) ElementError.InvalidFillValue) }
         ensures read_again { IfOk result (λ tree. fill_of self (view tree) ≡ Some fill.now) }

@@ -13,14 +13,54 @@ struct Row {
 }
 
 const NUMBERS: &'static [Row] = &[
-    Row { data_type: r#""bool""#, fill: "true", bytes: &[1], again: "true" },
-    Row { data_type: r#""bool""#, fill: "false", bytes: &[0], again: "false" },
-    Row { data_type: r#""int8""#, fill: "-1", bytes: &[255], again: "-1" },
-    Row { data_type: r#""int2""#, fill: "-2", bytes: &[254], again: "-2" },
-    Row { data_type: r#""int4""#, fill: "7", bytes: &[7], again: "7" },
-    Row { data_type: r#""uint2""#, fill: "3", bytes: &[3], again: "3" },
-    Row { data_type: r#""int16""#, fill: "-32768", bytes: &[0, 128], again: "-32768" },
-    Row { data_type: r#""uint32""#, fill: "258", bytes: &[2, 1, 0, 0], again: "258" },
+    Row {
+        data_type: r#""bool""#,
+        fill: "true",
+        bytes: &[1],
+        again: "true",
+    },
+    Row {
+        data_type: r#""bool""#,
+        fill: "false",
+        bytes: &[0],
+        again: "false",
+    },
+    Row {
+        data_type: r#""int8""#,
+        fill: "-1",
+        bytes: &[255],
+        again: "-1",
+    },
+    Row {
+        data_type: r#""int2""#,
+        fill: "-2",
+        bytes: &[254],
+        again: "-2",
+    },
+    Row {
+        data_type: r#""int4""#,
+        fill: "7",
+        bytes: &[7],
+        again: "7",
+    },
+    Row {
+        data_type: r#""uint2""#,
+        fill: "3",
+        bytes: &[3],
+        again: "3",
+    },
+    Row {
+        data_type: r#""int16""#,
+        fill: "-32768",
+        bytes: &[0, 128],
+        again: "-32768",
+    },
+    Row {
+        data_type: r#""uint32""#,
+        fill: "258",
+        bytes: &[2, 1, 0, 0],
+        again: "258",
+    },
     Row {
         data_type: r#""int64""#,
         fill: "-9223372036854775808",
@@ -36,9 +76,24 @@ const NUMBERS: &'static [Row] = &[
 ];
 
 const FLOATS: &'static [Row] = &[
-    Row { data_type: r#""float32""#, fill: "1.0", bytes: &[0, 0, 128, 63], again: "1.0" },
-    Row { data_type: r#""float32""#, fill: "1", bytes: &[0, 0, 128, 63], again: "1.0" },
-    Row { data_type: r#""float32""#, fill: r#""NaN""#, bytes: &[0, 0, 192, 127], again: r#""NaN""# },
+    Row {
+        data_type: r#""float32""#,
+        fill: "1.0",
+        bytes: &[0, 0, 128, 63],
+        again: "1.0",
+    },
+    Row {
+        data_type: r#""float32""#,
+        fill: "1",
+        bytes: &[0, 0, 128, 63],
+        again: "1.0",
+    },
+    Row {
+        data_type: r#""float32""#,
+        fill: r#""NaN""#,
+        bytes: &[0, 0, 192, 127],
+        again: r#""NaN""#,
+    },
     Row {
         data_type: r#""float32""#,
         fill: r#""0x7fc00000""#,
@@ -63,7 +118,12 @@ const FLOATS: &'static [Row] = &[
         bytes: &[205, 204, 204, 61],
         again: "0.10000000149011612",
     },
-    Row { data_type: r#""float32""#, fill: "-0.0", bytes: &[0, 0, 0, 128], again: "-0.0" },
+    Row {
+        data_type: r#""float32""#,
+        fill: "-0.0",
+        bytes: &[0, 0, 0, 128],
+        again: "-0.0",
+    },
     Row {
         data_type: r#""float64""#,
         fill: "0.1",
@@ -76,7 +136,12 @@ const FLOATS: &'static [Row] = &[
         bytes: &[0, 0, 0, 0, 0, 0, 248, 127],
         again: r#""NaN""#,
     },
-    Row { data_type: r#""float16""#, fill: r#""NaN""#, bytes: &[0, 126], again: r#""NaN""# },
+    Row {
+        data_type: r#""float16""#,
+        fill: r#""NaN""#,
+        bytes: &[0, 126],
+        again: r#""NaN""#,
+    },
     Row {
         data_type: r#""bfloat16""#,
         fill: r#""Infinity""#,
@@ -92,10 +157,30 @@ const FLOATS: &'static [Row] = &[
 ];
 
 const BYTES: &'static [Row] = &[
-    Row { data_type: r#""r16""#, fill: "[1,2]", bytes: &[1, 2], again: "[1,2]" },
-    Row { data_type: r#""r16""#, fill: r#""AQI=""#, bytes: &[1, 2], again: "[1,2]" },
-    Row { data_type: r#""string""#, fill: r#""é""#, bytes: &[195, 169], again: r#""é""# },
-    Row { data_type: r#""bytes""#, fill: r#""AQI=""#, bytes: &[1, 2], again: r#""AQI=""# },
+    Row {
+        data_type: r#""r16""#,
+        fill: "[1,2]",
+        bytes: &[1, 2],
+        again: "[1,2]",
+    },
+    Row {
+        data_type: r#""r16""#,
+        fill: r#""AQI=""#,
+        bytes: &[1, 2],
+        again: "[1,2]",
+    },
+    Row {
+        data_type: r#""string""#,
+        fill: r#""é""#,
+        bytes: &[195, 169],
+        again: r#""é""#,
+    },
+    Row {
+        data_type: r#""bytes""#,
+        fill: r#""AQI=""#,
+        bytes: &[1, 2],
+        again: r#""AQI=""#,
+    },
     Row {
         data_type: r#""variable_length_bytes""#,
         fill: "[1,2]",
@@ -157,31 +242,93 @@ struct Refused {
 }
 
 const REFUSED: &'static [Refused] = &[
-    Refused { data_type: r#""bool""#, fill: "1" },
-    Refused { data_type: r#""uint8""#, fill: "256" },
-    Refused { data_type: r#""uint8""#, fill: "1.0" },
-    Refused { data_type: r#""int4""#, fill: "8" },
-    Refused { data_type: r#""int8""#, fill: "-129" },
-    Refused { data_type: r#""uint64""#, fill: "18446744073709551616" },
-    Refused { data_type: r#""float32""#, fill: "1e39" },
-    Refused { data_type: r#""float32""#, fill: r#""nan""# },
-    Refused { data_type: r#""float32""#, fill: r#""0x7fc0000""# },
-    Refused { data_type: r#""float64""#, fill: r#""0x7fc00000""# },
-    Refused { data_type: r#""float16""#, fill: r#""0x+e00""# },
-    Refused { data_type: r#""complex64""#, fill: "[1.0]" },
-    Refused { data_type: r#""complex64""#, fill: "[1.0,2.0,3.0]" },
-    Refused { data_type: r#""r16""#, fill: "[1]" },
-    Refused { data_type: r#""r16""#, fill: "[1,256]" },
-    Refused { data_type: r#""r16""#, fill: r#""AQI""# },
-    Refused { data_type: r#""bytes""#, fill: "null" },
-    Refused { data_type: r#""string""#, fill: "5" },
-    Refused { data_type: r#"{"name":"optional","configuration":{"name":"uint8"}}"#, fill: "5" },
-    Refused { data_type: r#"{"name":"optional","configuration":{"name":"uint8"}}"#, fill: "[5,6]" },
+    Refused {
+        data_type: r#""bool""#,
+        fill: "1",
+    },
+    Refused {
+        data_type: r#""uint8""#,
+        fill: "256",
+    },
+    Refused {
+        data_type: r#""uint8""#,
+        fill: "1.0",
+    },
+    Refused {
+        data_type: r#""int4""#,
+        fill: "8",
+    },
+    Refused {
+        data_type: r#""int8""#,
+        fill: "-129",
+    },
+    Refused {
+        data_type: r#""uint64""#,
+        fill: "18446744073709551616",
+    },
+    Refused {
+        data_type: r#""float32""#,
+        fill: "1e39",
+    },
+    Refused {
+        data_type: r#""float32""#,
+        fill: r#""nan""#,
+    },
+    Refused {
+        data_type: r#""float32""#,
+        fill: r#""0x7fc0000""#,
+    },
+    Refused {
+        data_type: r#""float64""#,
+        fill: r#""0x7fc00000""#,
+    },
+    Refused {
+        data_type: r#""float16""#,
+        fill: r#""0x+e00""#,
+    },
+    Refused {
+        data_type: r#""complex64""#,
+        fill: "[1.0]",
+    },
+    Refused {
+        data_type: r#""complex64""#,
+        fill: "[1.0,2.0,3.0]",
+    },
+    Refused {
+        data_type: r#""r16""#,
+        fill: "[1]",
+    },
+    Refused {
+        data_type: r#""r16""#,
+        fill: "[1,256]",
+    },
+    Refused {
+        data_type: r#""r16""#,
+        fill: r#""AQI""#,
+    },
+    Refused {
+        data_type: r#""bytes""#,
+        fill: "null",
+    },
+    Refused {
+        data_type: r#""string""#,
+        fill: "5",
+    },
+    Refused {
+        data_type: r#"{"name":"optional","configuration":{"name":"uint8"}}"#,
+        fill: "5",
+    },
+    Refused {
+        data_type: r#"{"name":"optional","configuration":{"name":"uint8"}}"#,
+        fill: "[5,6]",
+    },
 ];
 
 fn is_refused(rt: &impl Abort, alloc: Global, row: &Refused) -> Result<(), ElementError> {
     let name = element_name(alloc, row.data_type)?;
-    let cause = name.fill_value_from_metadata(alloc, &tree(alloc, row.fill)?).err();
+    let cause = name
+        .fill_value_from_metadata(alloc, &tree(alloc, row.fill)?)
+        .err();
     if let Some(ElementError::OutOfMemory) = cause {
         return Err(ElementError::OutOfMemory);
     }

@@ -31,15 +31,42 @@ struct Row {
 }
 
 const NAMES: &'static [Row] = &[
-    Row { read: r#""bool""#, again: r#""bool""# },
-    Row { read: r#""int2""#, again: r#""int2""# },
-    Row { read: r#""bfloat16""#, again: r#""bfloat16""# },
-    Row { read: r#""complex_float32""#, again: r#""complex64""# },
-    Row { read: r#""complex128""#, again: r#""complex128""# },
-    Row { read: r#""r24""#, again: r#""r24""# },
-    Row { read: r#""variable_length_bytes""#, again: r#""bytes""# },
-    Row { read: r#"{"name":"uint8"}"#, again: r#""uint8""# },
-    Row { read: r#"{"name":"uint8","configuration":null}"#, again: r#""uint8""# },
+    Row {
+        read: r#""bool""#,
+        again: r#""bool""#,
+    },
+    Row {
+        read: r#""int2""#,
+        again: r#""int2""#,
+    },
+    Row {
+        read: r#""bfloat16""#,
+        again: r#""bfloat16""#,
+    },
+    Row {
+        read: r#""complex_float32""#,
+        again: r#""complex64""#,
+    },
+    Row {
+        read: r#""complex128""#,
+        again: r#""complex128""#,
+    },
+    Row {
+        read: r#""r24""#,
+        again: r#""r24""#,
+    },
+    Row {
+        read: r#""variable_length_bytes""#,
+        again: r#""bytes""#,
+    },
+    Row {
+        read: r#"{"name":"uint8"}"#,
+        again: r#""uint8""#,
+    },
+    Row {
+        read: r#"{"name":"uint8","configuration":null}"#,
+        again: r#""uint8""#,
+    },
     Row {
         read: r#"{"name":"uint8","configuration":{},"must_understand":false}"#,
         again: r#""uint8""#,
@@ -51,7 +78,9 @@ const NAMES: &'static [Row] = &[
 ];
 
 fn is_written(rt: &impl Abort, alloc: Global, row: &Row) -> Result<(), ElementError> {
-    let text = element_name(alloc, row.read)?.to_value(alloc)?.to_string(alloc)?;
+    let text = element_name(alloc, row.read)?
+        .to_value(alloc)?
+        .to_string(alloc)?;
     is(rt, row.read, &text.as_str(), &row.again);
     Ok(())
 }
