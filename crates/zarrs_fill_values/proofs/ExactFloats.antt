@@ -1,8 +1,8 @@
 -- A float that a format holds is its own nearest one there.
-use Rattle.std.proofs.Common.{◌≡◌, ◌∙◌, ◌<◌, ◌≤◌, ℕ, zero, suc, ◌+◌, ◌-◌, ◌*◌, ◌/◌, ◌%◌, ◌^◌, Bool, true, false, cond, ◌&&◌, refl, ap, sym, subst, arith}
+use Rattle.std.proofs.Common.{◌≡◌, ◌∙◌, ◌<◌, ◌≤◌, ℕ, zero, suc, ◌+◌, ◌-◌, ◌*◌, ◌/◌, ◌%◌, ◌^◌, Bool, cond, ◌&&◌, refl, ap, sym, subst, arith}
 use Rattle.std.specs.Float.{round_to_format}
 use Rattle.std.proofs.lemmas.Nat.{pow-add, pow_below, pow_pos}
-use native.Mathlib.Nat.{mul_assoc, mul_comm, mul_right_comm, mul-one, one-mul, zero-mul, mul-lt-mul_of_pos_right}
+use native.Mathlib.Nat.{mul_assoc, mul_comm, mul_right_comm, mul-one, zero-mul, mul-lt-mul_of_pos_right}
 use lib.IntN.{ℤ, pos, negsuc}
 use lib.Dec.{T, leb, ltb, eqb, ltb→lt, leb→le}
 use lib.Ieee.{Float, Format, nan, inf, fin, prec, emax, low, hid, top, up, down, size, round, fits, to_bits, of_bits}

@@ -1,25 +1,24 @@
 -- Fill values are shown and read again.
-use Rattle.std.proofs.Common.{◌≡◌, ◌∙◌, ◌<◌, ◌≤◌, ℕ, zero, suc, ◌+◌, ◌-◌, ◌*◌, ◌/◌, Bool, true, false, cond, ◌&&◌, ◌||◌, ◌==◌, List, [], ◌∷◌, ◌++◌, Some, None, Option, length, take, drop, map, get_or, refl, ap, sym, subst, arith, eqb-true, eq-eqb, length-append, length-drop}
+use Rattle.std.proofs.Common.{◌≡◌, ◌∙◌, ◌<◌, ℕ, zero, suc, ◌+◌, ◌-◌, ◌*◌, ◌/◌, Bool, true, false, cond, ◌&&◌, ◌||◌, ◌==◌, List, [], ◌∷◌, ◌++◌, Some, None, Option, length, take, drop, map, get_or, refl, ap, sym, subst, arith, eqb-true, eq-eqb, length-append, length-drop}
 use Rattle.std.specs.Prelude.{nat_lt, option_map, option_and_then, slice_index, IsSome, Result, Ok, Err}
-use Rattle.std.specs.Int.{from_bool}
 use Rattle.std.specs.Str.{bytes_eq, is_utf8}
 use Rattle.std.proofs.lemmas.Bool.{and_parts, lt-ltb, ltb-true}
 use Rattle.std.proofs.lemmas.List.{take-append-drop, take_more, take_all, take_at, get_or_at, append-nil, length-take-le, length_push}
 use Rattle.std.proofs.lemmas.Slice.Eq.{bytes_eq-Decides}
 use Rattle.base64.specs.Engines.{standard}
-use Rattle.base64.specs.GeneralPurpose.{decoded_of, encode_of, decode_of}
+use Rattle.base64.specs.GeneralPurpose.{decoded_of, encode_of}
 use Rattle.base64.proofs.RoundTrip.{decode-encode}
-use Rattle.serde_json.specs.Data.{Data, Num, unsigned, null, boolean, number, string, array, object, Items, no_items, item}
+use Rattle.serde_json.specs.Data.{Data, unsigned, null, boolean, number, string, array, object, Items, no_items, item}
 use Rattle.serde_json.specs.Find.{as_array, as_bool, as_number, as_str}
 use Rattle.serde_json.specs.View.{items_of}
 use native.Mathlib.Nat.{suc-mul, zero-mul, one-mul, mul-one}
 use Rattle.zarrs_chunk.specs.Answer.{seen}
 use Rattle.zarrs_data_type.specs.ElementType.{ElementType, fixed, text as text_type, bytes as bytes_type, optional}
 use Rattle.zarrs_data_type.specs.FillValue.{is_null, ends_in_one, front_of, fill_fits}
-use Rattle.zarrs_fill_values.specs.ElementName.{float_bits, integer_bits, is_signed, is_raw, plain_type, optional_round, type_of}
-use Rattle.zarrs_fill_values.specs.FillValues.{truth_fill, json_byte, json_bytes, bytes_fill, floats_in, item_count, complex_pair, text_fill, raw_fill, plain_fill, present, lone, optional_fill, fill_in}
+use Rattle.zarrs_fill_values.specs.ElementName.{float_bits, integer_bits, is_signed, is_raw, plain_type, optional_round}
+use Rattle.zarrs_fill_values.specs.FillValues.{truth_fill, json_bytes, bytes_fill, floats_in, item_count, complex_pair, text_fill, raw_fill, plain_fill, present, optional_fill, fill_in}
 use Rattle.zarrs_fill_values.specs.Floats.{float_size, float_fill, float_shown}
-use Rattle.zarrs_fill_values.specs.Integers.{integer_size, integer_fill, integer_sized}
+use Rattle.zarrs_fill_values.specs.Integers.{integer_size, integer_fill}
 use Rattle.zarrs_fill_values.specs.Laws.{ShownIsRead, ReadIsShown, ReadFits}
 use Rattle.zarrs_fill_values.specs.Shown.{truth_shown, complex_shown, bytes_list, plain_shown, lone_list, optional_shown, shown_in}
 use Rattle.zarrs_fill_values.specs.Words.{IsBytes, of_length}
@@ -28,7 +27,6 @@ use Rattle.zarrs_fill_values.specs.declared.element_error.ElementError.TheVarian
 use Rattle.zarrs_fill_values.specs.declared.element_name.FloatName.{FloatName}
 use Rattle.zarrs_fill_values.specs.declared.element_name.FloatName.TheVariants.{Float16, Bfloat16, Float32, Float64}
 use Rattle.zarrs_fill_values.specs.declared.element_name.IntegerName.{IntegerName}
-use Rattle.zarrs_fill_values.specs.declared.element_name.IntegerName.TheVariants.{Int2, Int4, Int8, Int16, Int32, Int64, Uint2, Uint4, Uint8, Uint16, Uint32, Uint64}
 use Rattle.zarrs_fill_values.specs.declared.element_name.PlainName.{PlainName}
 use Rattle.zarrs_fill_values.specs.declared.element_name.PlainName.TheVariants as plain
 use Rattle.zarrs_fill_values.proofs.FloatLaws.{float-again, float-length}

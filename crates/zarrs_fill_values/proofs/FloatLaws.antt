@@ -1,12 +1,12 @@
 -- Fill values of floats are shown and read again.
-use Rattle.std.proofs.Common.{◌≡◌, ◌∙◌, ◌<◌, ◌≤◌, ℕ, zero, suc, ◌+◌, ◌*◌, ◌^◌, Bool, true, false, cond, ◌==◌, List, [], ◌∷◌, ◌++◌, Some, None, Option, length, refl, ap, sym, subst, arith, codes, eqb-true}
-use Rattle.std.specs.Prelude.{option_map, option_and_then, reverse, to_bits, from_bits, Ok, not}
-use Rattle.std.specs.Float.{binary32, binary64, float_is_finite, round_to_format}
+use Rattle.std.proofs.Common.{◌≡◌, ◌∙◌, ◌<◌, ℕ, ◌*◌, ◌^◌, Bool, true, false, cond, ◌==◌, List, Some, None, Option, length, refl, ap, sym, subst, codes, eqb-true}
+use Rattle.std.specs.Prelude.{option_map, reverse, to_bits, from_bits, Ok, not}
+use Rattle.std.specs.Float.{binary32, binary64, float_is_finite}
 use Rattle.std.specs.Result.{result_ok}
 use Rattle.std.proofs.lemmas.List.{reverse-reverse, length-reverse}
 use Rattle.hex.specs.Hex.{decode_sized, encode_lower}
 use Rattle.hex.proofs.HexLemmas.{decode_sized-encode_lower}
-use Rattle.serde_json.specs.Data.{Data, number, string, float}
+use Rattle.serde_json.specs.Data.{Data, float}
 use lib.Dec.{T}
 use lib.Ieee.{Float, Format, nan, inf, fin, is_nan, top}
 use lib.Ieee.Bits.{to_bits-of_bits, of_bits-fits}

@@ -1,13 +1,13 @@
 -- Fill values of whole numbers are shown and read again.
-use Rattle.std.proofs.Common.{◌≡◌, ◌∙◌, ◌<◌, ◌≤◌, ℕ, zero, suc, ◌+◌, ◌-◌, ◌*◌, ◌^◌, Bool, true, false, cond, ◌==◌, List, Some, None, Option, length, refl, ap, sym, subst, arith, lit≤, eqb-true, eq-eqb}
+use Rattle.std.proofs.Common.{◌≡◌, ◌∙◌, ◌<◌, ◌≤◌, ℕ, suc, ◌+◌, ◌-◌, ◌*◌, ◌^◌, Bool, true, false, cond, List, Some, None, Option, length, refl, ap, sym, subst, arith, lit≤}
 use Rattle.std.specs.Prelude.{ℤ, pos, negsuc, nat_lt, option_map, option_and_then, IsSome}
 use Rattle.std.specs.Int.{w64, cast_unsigned}
-use Rattle.std.proofs.lemmas.Bool.{lt-ltb, ltb-true, cases_lt}
-use Rattle.serde_json.specs.Data.{Num, Data, unsigned, negative, float, number}
+use Rattle.std.proofs.lemmas.Bool.{lt-ltb, ltb-true}
+use Rattle.serde_json.specs.Data.{Num, Data, unsigned, number}
 use Rattle.serde_json.specs.Find.{as_i64, as_u64, as_number, of_integer}
-use Rattle.zarrs_fill_values.specs.ElementName.{integer_bits, is_signed}
+use Rattle.zarrs_fill_values.specs.ElementName.{is_signed}
 use Rattle.zarrs_fill_values.specs.Integers.{integer_size, half_range, is_within, signed_word, unsigned_word, integer_word, integer_fill, signed_of, signed_number, sign_bit, number_of_word, integer_shown, integer_sized}
-use Rattle.zarrs_fill_values.specs.Words.{low_first, low_first_number, IsBytes, of_length}
+use Rattle.zarrs_fill_values.specs.Words.{low_first, low_first_number, IsBytes}
 use Rattle.zarrs_fill_values.specs.declared.element_name.IntegerName.{IntegerName}
 use Rattle.zarrs_fill_values.specs.declared.element_name.IntegerName.TheVariants.{Int2, Int4, Int8, Int16, Int32, Int64, Uint2, Uint4, Uint8, Uint16, Uint32, Uint64}
 use Rattle.zarrs_fill_values.proofs.LowBytes.{length-low_first, low_first_number-low_first, low_first_number-below, low_first-low_first_number, low_first-more}

@@ -1,8 +1,8 @@
 -- Bytes of one length.
-use Rattle.std.proofs.Common.{◌≡◌, ◌∙◌, ◌<◌, ◌≤◌, ℕ, zero, suc, ◌+◌, ◌-◌, Bool, true, false, cond, ◌==◌, List, [], ◌∷◌, ◌++◌, Some, None, Option, length, take, drop, get_or, refl, ap, sym, subst, arith, eqb-true, eq-eqb, inl, inr}
+use Rattle.std.proofs.Common.{◌≡◌, ℕ, zero, suc, ◌-◌, Bool, true, false, cond, ◌==◌, List, [], ◌∷◌, Some, None, Option, length, take, drop, get_or, refl, ap, arith, eqb-true, eq-eqb, inl, inr}
 use Rattle.std.specs.Prelude.{option_map, option_and_then, reverse}
 use Rattle.std.proofs.lemmas.Bool.{cases_lt}
-use Rattle.std.proofs.lemmas.List.{get_or-reverse, get_or_past, get_or-drop, get_or-take, length-reverse, length-take}
+use Rattle.std.proofs.lemmas.List.{get_or-reverse, get_or_past, length-reverse}
 use Rattle.zarrs_fill_values.specs.Words.{IsBytes, of_length}
 
 -- bytes of a length are answered where they have it

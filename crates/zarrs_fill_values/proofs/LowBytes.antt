@@ -2,7 +2,7 @@
 use Rattle.std.proofs.Common.{◌≡◌, ◌∙◌, ◌<◌, ◌≤◌, ℕ, zero, suc, ◌+◌, ◌-◌, ◌*◌, ◌/◌, ◌%◌, ◌^◌, List, [], ◌∷◌, ◌++◌, length, refl, ap, sym, subst, arith, lit≤, add-one, append_assoc}
 use Rattle.std.specs.Prelude.{Result, Ok, Err, OnOk}
 use Rattle.std.proofs.lemmas.Nat.{div_below}
-use native.Mathlib.Nat.{mul_assoc, mul_comm, pow-le-pow_right, pow-suc, pow-succ'}
+use native.Mathlib.Nat.{mul_assoc, pow-le-pow_right, pow-succ'}
 use Rattle.zarrs_fill_values.specs.Words.{low_first, low_first_number, IsBytes}
 
 -- the first byte, and those behind it

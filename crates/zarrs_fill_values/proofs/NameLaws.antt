@@ -1,14 +1,13 @@
 -- How a type is named is read as the type.
-use Rattle.std.proofs.Common.{◌≡◌, ◌∙◌, ◌<◌, ◌≤◌, ℕ, zero, suc, Bool, true, false, cond, ◌∷◌, Some, None, Option, List, codes, decimal, refl, ap, sym, arith}
-use Rattle.std.specs.Prelude.{nat_lt, option_map, option_and_then, ok_or, Result, Ok, Err}
+use Rattle.std.proofs.Common.{◌≡◌, ◌∙◌, ◌≤◌, ℕ, zero, suc, true, false, cond, Some, List, codes, decimal, refl, ap, arith}
+use Rattle.std.specs.Prelude.{nat_lt, option_map, ok_or, Ok, Err}
 use Rattle.std.proofs.lemmas.Bool.{lt-ltb}
-use Rattle.serde_json.specs.Data.{Data, string, object, Members, no_members, member}
+use Rattle.serde_json.specs.Data.{string, object, Members, no_members, member}
 use Rattle.zarrs_chunk.specs.Answer.{seen}
-use Rattle.zarrs_fill_values.specs.ElementName.{is_raw, plain_name}
+use Rattle.zarrs_fill_values.specs.ElementName.{plain_name}
 use Rattle.zarrs_fill_values.specs.Laws.{IsNamed, NameIsRead}
-use Rattle.zarrs_fill_values.specs.Names.{plain_named, text_of, raw_text}
-use Rattle.zarrs_fill_values.specs.NameTree.{named, is_optional_text, name_in, level_round, one_level_more, optional_object, name_object, name_written, name_tree}
-use Rattle.zarrs_fill_values.specs.declared.element_error.ElementError.{ElementError}
+use Rattle.zarrs_fill_values.specs.Names.{plain_named, text_of}
+use Rattle.zarrs_fill_values.specs.NameTree.{named, is_optional_text, name_in, level_round, optional_object, name_object, name_written}
 use Rattle.zarrs_fill_values.specs.declared.element_error.ElementError.TheVariants.{UnsupportedDataType}
 use Rattle.zarrs_fill_values.specs.declared.element_name.FloatName.{FloatName}
 use Rattle.zarrs_fill_values.specs.declared.element_name.FloatName.TheVariants.{Float16, Bfloat16, Float32, Float64}
@@ -16,7 +15,6 @@ use Rattle.zarrs_fill_values.specs.declared.element_name.IntegerName.{IntegerNam
 use Rattle.zarrs_fill_values.specs.declared.element_name.IntegerName.TheVariants.{Int2, Int4, Int8, Int16, Int32, Int64, Uint2, Uint4, Uint8, Uint16, Uint32, Uint64}
 use Rattle.zarrs_fill_values.specs.declared.element_name.PlainName.{PlainName}
 use Rattle.zarrs_fill_values.specs.declared.element_name.PlainName.TheVariants as plain
-use Rattle.zarrs_fill_values.specs.declared.element_name.ElementName.{ElementName}
 use Rattle.zarrs_fill_values.proofs.RawNames.{raw_bits_of-found}
 
 integer-named : (integer : IntegerName) → plain_named (text_of (plain.Integer integer)) ≡ Some (plain.Integer integer)

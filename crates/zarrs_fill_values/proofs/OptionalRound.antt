@@ -1,5 +1,5 @@
 -- Optional types round a type.
-use Rattle.std.proofs.Common.{◌≡◌, ℕ, zero, suc, ◌+◌, refl, ap, sym, ◌∙◌, add-one}
+use Rattle.std.proofs.Common.{◌≡◌, ℕ, ◌+◌, add-one}
 use Rattle.std.specs.Prelude.{Result, Ok, Err}
 use Rattle.zarrs_chunk.specs.Answer.{seen}
 use Rattle.zarrs_data_type.specs.ElementType.{ElementType, optional}

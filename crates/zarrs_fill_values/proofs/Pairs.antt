@@ -1,10 +1,9 @@
 -- Lists of two floats.
-use Rattle.std.proofs.Common.{◌≡◌, ◌∙◌, ℕ, suc, Bool, true, false, cond, ◌==◌, List, [], ◌∷◌, length, Some, None, refl, ap, sym, eqb-true, eq-eqb}
-use Rattle.std.specs.Prelude.{Result, Ok, Err, ok_or}
+use Rattle.std.proofs.Common.{◌≡◌, ◌∙◌, suc, Bool, true, false, cond, ◌==◌, List, [], ◌∷◌, length, None, refl, ap, sym, eqb-true, eq-eqb}
+use Rattle.std.specs.Prelude.{Err, ok_or}
 use Rattle.serde_json.specs.View.{items_view}
 use Rattle.serde_json.specs.declared.value.Value.{Value}
 use Rattle.zarrs_fill_values.specs.FillValues.{item_count, floats_in, complex_pair}
-use Rattle.zarrs_fill_values.specs.declared.element_error.ElementError.{ElementError}
 use Rattle.zarrs_fill_values.specs.declared.element_error.ElementError.TheVariants.{InvalidFillValue}
 use Rattle.zarrs_fill_values.specs.declared.element_name.FloatName.{FloatName}
 

@@ -1,5 +1,5 @@
 -- Names of raw bits.
-use Rattle.std.proofs.Common.{◌≡◌, ◌∙◌, ◌<◌, ℕ, ◌^◌, Bool, true, false, cond, ◌&&◌, List, Some, None, Option, refl, ap, sym, arith, decimal}
+use Rattle.std.proofs.Common.{◌≡◌, ◌∙◌, ◌<◌, ℕ, ◌^◌, Bool, true, false, cond, ◌&&◌, List, Some, None, refl, ap, sym, arith, decimal}
 use Rattle.std.specs.Prelude.{Result, Ok, Err, nat_lt}
 use Rattle.std.proofs.lemmas.Bool.{lt-ltb, ltb-true, and_parts, false≢true}
 use Rattle.std.proofs.lemmas.Slice.Eq.{bytes_eq-Decides}

@@ -1,5 +1,5 @@
 -- What is written of a fill value is read again.
-use Rattle.std.proofs.Common.{◌≡◌, ◌∙◌, List, ℕ, Some, None, Option, ap, sym}
+use Rattle.std.proofs.Common.{◌≡◌, ◌∙◌, List, ℕ, Some, None, Option, ap}
 use Rattle.std.specs.Prelude.{Result, Ok, Err, ok_or, IfOk}
 use Rattle.serde_json.specs.Data.{Data}
 use Rattle.serde_json.specs.View.{view}

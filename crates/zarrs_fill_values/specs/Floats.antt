@@ -1,6 +1,6 @@
 -- Fill values of floats.
 -- Source: the Zarr v3 core specification, "Fill value list": a JSON number, rounded to the nearest value; or "Infinity", "-Infinity", "NaN", or "0x" and the digits of the bits as an unsigned integer.
-use Rattle.std.specs.Prelude.{ℕ, ◌+◌, ◌*◌, ◌/◌, ◌^◌, ◌==◌, pos, List, ◌++◌, reverse, Option, Some, None, option_map, option_and_then, codes, to_bits, from_bits, if◌then◌else◌}
+use Rattle.std.specs.Prelude.{ℕ, ◌/◌, ◌==◌, pos, List, ◌++◌, reverse, Option, Some, None, option_map, option_and_then, codes, to_bits, from_bits, if◌then◌else◌}
 use Rattle.std.specs.Float.{Float, Format, binary32, binary64, float_is_finite, round_to_format}
 use Rattle.std.specs.Float.Ieee.{of_int}
 use Rattle.std.specs.Result.{result_ok}

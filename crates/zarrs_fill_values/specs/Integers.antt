@@ -1,6 +1,6 @@
 -- Fill values of whole numbers.
 -- Source: the Zarr v3 core specification, "Fill value list": a JSON number with no fraction or exponent part, in the range of the type.
-use Rattle.std.specs.Prelude.{ℕ, suc, ◌+◌, ◌-◌, ◌*◌, ◌/◌, ◌^◌, ℤ, pos, negsuc, nat_lt, Bool, List, Option, Some, None, option_map, option_and_then, if◌then◌else◌}
+use Rattle.std.specs.Prelude.{ℕ, suc, ◌-◌, ◌*◌, ◌^◌, ℤ, pos, negsuc, nat_lt, Bool, List, Option, Some, None, option_map, option_and_then, if◌then◌else◌}
 use Rattle.std.specs.Int.{w64, cast_unsigned}
 use Rattle.serde_json.specs.Data.{Num, Data, unsigned, number}
 use Rattle.serde_json.specs.Find.{as_i64, as_u64, of_integer}

@@ -1,6 +1,6 @@
 -- Names of element types as JSON: a text, or an object with a name, of optional types with a type inside.
 -- Source: the Zarr v3 core specification, data types; zarrs, data type `zarrs.optional`.
-use Rattle.std.specs.Prelude.{ℕ, zero, suc, ◌&&◌, ◌||◌, nat_lt, Bool, true, false, is_some, List, Option, Some, None, option_and_then, ok_or, Result, Ok, Err, codes, if◌then◌else◌}
+use Rattle.std.specs.Prelude.{ℕ, zero, suc, ◌||◌, nat_lt, Bool, true, false, is_some, List, Option, Some, None, option_and_then, ok_or, Result, Ok, Err, codes, if◌then◌else◌}
 use Rattle.std.specs.Ordering.{nat_cmp, match_ordering}
 use Rattle.std.specs.Cmp.Lexicographic.{slice_cmp}
 use Rattle.std.specs.Str.{bytes_eq}

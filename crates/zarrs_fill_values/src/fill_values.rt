@@ -200,7 +200,13 @@ fn optional_fill(
 
 impl ElementName {
     /// The fill value that a JSON tree says, the value of `fill_value` in `zarr.json` (Zarr v3 core
-    /// specification, "Fill value list").
+    /// specification, "Fill value list"): of `uint8` the tree `5` is the byte 5, of `r16` both `[1,2]`
+    /// and `"AQI="` are the bytes 1 and 2.
+    ///
+    /// Of whole numbers a number in their range, without fraction and exponent; of floats a number, or
+    /// `"NaN"`, `"Infinity"`, `"-Infinity"`, or `"0x"` and the digits of all bits, the highest first;
+    /// of complex numbers a list of two such; of raw bits and bytes a list of bytes, or a text in
+    /// base64; of texts a text; of optional types null (absent) or a list of one (present).
     ///
     /// Errors: `InvalidFillValue` where the tree says none of this type; `OutOfMemory`.
     pub fn fill_value_from_metadata(

@@ -154,7 +154,8 @@ fn optional_shown(
 }
 
 impl ElementName {
-    /// The JSON tree of a fill value: one for each.
+    /// The JSON tree of a fill value, one for each: of `float32` the bytes `0100c07f` are the text
+    /// `"0x7fc00001"`. Raw bits are a list of bytes, bytes of any length a text in base64.
     ///
     /// Errors: `InvalidFillValue` where the bytes are no element of this type; `OutOfMemory`.
     pub fn metadata_fill_value(self, alloc: Global, fill: &FillValue) -> Result<Value, ElementError>

@@ -1,7 +1,7 @@
-use Rattle.std.proofs.Common.{◌≡◌, ◌∙◌, ap, sym}
+use Rattle.std.proofs.Common.{◌∙◌, ap, sym}
 use Rattle.std.specs.Prelude.{ok_or}
 use Rattle.base64.specs.Engines.{standard}
-use Rattle.base64.specs.GeneralPurpose.{decode_of, IsDecodeFailure}
+use Rattle.base64.specs.GeneralPurpose.{decode_of}
 use Rattle.zarrs_fill_values.specs.declared.element_error.ElementError.TheVariants.{InvalidFillValue}
 use Rattle.zarrs_fill_values.proofs.Texts.{base64_found, base64_none}
 use Rattle.zarrs_fill_values.proofs.fill_values.base64_bytes.Goals as goal
