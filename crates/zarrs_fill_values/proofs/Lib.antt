@@ -1,0 +1,15 @@
+pub mod ExactFloats
+pub mod FillLaws
+pub mod FloatLaws
+pub mod HexWords
+pub mod IntegerLaws
+pub mod Lengths
+pub mod Levels
+pub mod LowBytes
+pub mod NameLaws
+pub mod NameTrees
+pub mod OptionalRound
+pub mod Pairs
+pub mod RawNames
+pub mod ShownAgain
+pub mod Texts

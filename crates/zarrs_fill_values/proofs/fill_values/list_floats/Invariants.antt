@@ -1,0 +1,9 @@
+use Rattle.std.proofs.Common.{◌≡◌, ◌++◌, drop}
+use Rattle.std.specs.Option.{option_map}
+use Rattle.serde_json.specs.View.{items_view}
+use Rattle.zarrs_fill_values.specs.FillValues.{floats_in}
+use Rattle.zarrs_fill_values.proofs.fill_values.list_floats.Given as goal
+
+-- the bytes so far and those to come are all
+abbrev pub invariant-loop-item : goal.invariant-loop-item
+invariant-loop-item l = option_map (λ rest. l.bytes.items ++ rest) (floats_in l.fn.name (items_view (drop l.item-index l.item-items))) ≡ floats_in l.fn.name (items_view l.item-items)
