@@ -8,7 +8,6 @@ pub mod Levels
 pub mod LowBytes
 pub mod NameLaws
 pub mod NameTrees
-pub mod OptionalRound
 pub mod Pairs
 pub mod RawNames
 pub mod ShownAgain
