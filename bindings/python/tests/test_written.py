@@ -244,7 +244,6 @@ SHARDS = {
 @pytest.mark.parametrize(
     "codecs, data_type, codec",
     [
-        ([SHARDS, "crc32c"], "int32", (0, "sharding_indexed")),
         ([LITTLE, {"name": "adler32"}], "int32", (1, "adler32")),
         ([{"name": "numcodecs.delta", "configuration": {}}, LITTLE], "int32", (0, "numcodecs.delta")),
     ],
