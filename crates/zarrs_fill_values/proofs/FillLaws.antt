@@ -238,7 +238,7 @@ read_optional P inner null fill absent there h = let e : 0 ∷ [] ≡ fill = cc 
 read_optional P inner (boolean truth) fill absent there h = absurd (cc)
 read_optional P inner (number n) fill absent there h = absurd (cc)
 read_optional P inner (string s) fill absent there h = absurd (cc)
-read_optional P inner (object members) fill absent there h = absurd (cc)
+read_optional P inner (object entries) fill absent there h = absurd (cc)
 read_optional P inner (array no_items) fill absent there h = absurd (cc)
 read_optional P inner (array (item t (item other items))) fill absent there h = absurd (cc)
 read_optional P inner (array (item t no_items)) fill absent there h = by_inner (inner t) refl h

@@ -31,7 +31,7 @@ lent_object (Some (boolean truth)) tree h = absurd (cc)
 lent_object (Some (number n)) tree h = absurd (cc)
 lent_object (Some (string text)) tree h = absurd (cc)
 lent_object (Some (array items)) tree h = absurd (cc)
-lent_object (Some (object members)) tree h = h
+lent_object (Some (object entries)) tree h = h
 
 inner_is : (b : Bool) (o : Option Data) (tree : Data) → cond b (object_in o) None ≡ Some tree → o ≡ Some tree
 inner_is true o tree h = lent_object o tree h

@@ -39,7 +39,7 @@ bytes_fill (boolean truth) = None
 bytes_fill (number n) = None
 bytes_fill (string text) = decoded_of standard text
 bytes_fill (array items) = json_bytes items
-bytes_fill (object members) = None
+bytes_fill (object entries) = None
 
 -- how many items a list has
 abbrev pub item_count : Items → ℕ

@@ -82,7 +82,7 @@ float_word name (boolean truth) = None
 float_word name (number n) = number_word name n
 float_word name (string text) = text_word name text
 float_word name (array items) = None
-float_word name (object members) = None
+float_word name (object entries) = None
 
 -- the fill value that JSON says
 abbrev pub float_fill : FloatName → Data → Option (List ℕ)

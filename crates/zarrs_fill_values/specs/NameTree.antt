@@ -38,7 +38,7 @@ names_optional (Some name) = is_optional_text name
 -- an object has no members
 abbrev pub has_no_members : Members → Bool
 has_no_members no_members = true
-has_no_members (member key tree members) = false
+has_no_members (member key tree more) = false
 
 -- nothing is configured: the key is missing, or it is null or an object without members
 abbrev pub is_unconfigured : Option Data → Bool
