@@ -295,7 +295,7 @@ def test_ranges_that_are_near_are_one_request(codecs, requests, size, tmp_path):
     array = make_array(tmp_path / "a", numbers.shape, numbers.shape, "uint16", codecs, 7)
     array[...] = numbers
     store = Ranging(files_of(tmp_path / "a"))
-    found, calls = store.calls_of(lambda: Array("bucket/a", store=store)[:40, :40])
+    found, calls = store.calls_of(lambda: Array("bucket/a", store=store, coalesce=1 << 16)[:40, :40])
     same(found, numbers[:40, :40])
     assert [len(call) for call in calls] == requests
     exact, many = store.calls_of(lambda: Array("bucket/a", store=store, coalesce=0)[:40, :40])
@@ -317,7 +317,7 @@ def test_no_request_is_too_long(tmp_path, monkeypatch):
     array = make_array(tmp_path / "a", numbers.shape, numbers.shape, "uint16", [LITTLE], 7)
     array[...] = numbers
     store = Ranging(files_of(tmp_path / "a"))
-    stored = Array("bucket/a", store=store)
+    stored = Array("bucket/a", store=store, coalesce=1 << 16)
     found, calls = store.calls_of(lambda: stored[:40, :40])
     same(found, numbers[:40, :40])
     (ranges,) = calls

@@ -24,8 +24,6 @@ from ._stores import Folder, Store
 from ._types import AnyArray, Shape, sizes_of
 from .chain import array_chain, coder_in
 from .refusals import InvalidFillValue, Refused
-# Ranges of a store's file with so many bytes between them, or fewer, are one request.
-_NEAR = 1 << 16
 
 
 class Info(dict[str, Any]):
@@ -71,8 +69,8 @@ class Array:
         `read`, and one that isn't there is a `FileNotFoundError` or a `KeyError`, as `zipfile.ZipFile` has it. Such an array
         isn't written: `io.UnsupportedOperation` is raised.
     coalesce : int, optional
-        Ranges of a store's file with so many bytes between them, or fewer, are one request, of 16 MiB at most: as many as
-        come in the time that a request takes.
+        Ranges of a store's file with so many bytes between them, or fewer, are one request, of 16 MiB at most: best as many
+        as come in the time that a request takes. Where none is given, no byte is fetched that isn't needed.
 
     Attributes
     ----------
@@ -127,7 +125,7 @@ class Array:
         cache: int = 1 << 25,
         threads: int = 1,
         store: Any = None,
-        coalesce: int = _NEAR,
+        coalesce: int = 0,
     ) -> None:
         self._store, self._settings = store, {"cache": operator.index(cache), "threads": operator.index(threads)}
         self._coalesce = operator.index(coalesce)
