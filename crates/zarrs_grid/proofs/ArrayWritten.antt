@@ -24,7 +24,7 @@ use Rattle.zarrs_grid.specs.ChunkTuples.{quotients, remainders, tuple_in_array}
 use Rattle.zarrs_grid.specs.Parts.{starts_in_chunk, starts_in_region, part_lengths}
 use Rattle.zarrs_grid.specs.Touched.{touched_counts}
 use Rattle.zarrs_grid.proofs.BoxPlaces.{box_count, box_place_at, box_places_apart}
-use Rattle.zarrs_grid.proofs.Cut.{listed, into_listed, listed_touches}
+use Rattle.zarrs_grid.proofs.Cut.{length-quotients, listed, into_listed, listed_touches}
 use Rattle.zarrs_grid.proofs.PartPlaces.{part_count, length-places, inside_at, found_in_part, same_there}
 use Rattle.zarrs_grid.proofs.PartsJoined.{place_listed}
 use Rattle.zarrs_grid.proofs.Tuples.{InBox, Touches, from_in_box, part_in_chunk, same_element, is_in_chunk, is_in_region, behind_in_box}
@@ -191,7 +191,7 @@ region_is_written old now shape region new default g w = record {
             ∙ kept_at shape region numbers r (chunk_elements old shape numbers) new default rest inside (g.starts ∙ sym g.lengths)
             (λ there. outside (subst (Contains (box_tuples region.starts region.lengths)) again there))
             ∙ chunk_has old shape numbers rest default inside)
-        | inr apart ↦ w.others numbers rest (λ c. apart (listed shape region numbers g c)) inside
+        | inr apart ↦ w.others numbers rest (length-quotients shape tuple long) (λ c. apart (listed shape region numbers g c)) inside
       ]
       ∙ ap old again;
 }

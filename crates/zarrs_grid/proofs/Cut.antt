@@ -18,7 +18,7 @@ use Rattle.zarrs_grid.specs.Touched.{FitsGrid, touched, touched_counts, touched_
 use Rattle.zarrs_grid.proofs.BoxPlaces.{box_placed}
 use Rattle.zarrs_grid.proofs.Tuples.{InBox, Touches, in_box, from_in_box, from_box_test, quotients_touched, touches, part_in_chunk, part_in_region, same_element, is_in_region, behind_in_box, chunk_of_part, chunk_with, chunk_with-touches, offsets, offset_inside, offset_there}
 
-length-quotients : (shape tuple : List ℕ) → length tuple ≡ length shape → length (quotients shape tuple) ≡ length shape
+pub length-quotients : (shape tuple : List ℕ) → length tuple ≡ length shape → length (quotients shape tuple) ≡ length shape
 length-quotients [] [] e = refl
 length-quotients [] (index ∷ tuple) e = absurd (omega arith)
 length-quotients (size ∷ shape) [] e = absurd (omega arith)

@@ -24,8 +24,8 @@ pub record AreChunksWritten {A : Type 0} (old now : List ℕ → A) (shape : Lis
   pub touched : (numbers tuple : List ℕ) → Contains (touched_chunks shape region) numbers → is_tuple_inside shape tuple ≡ true
       → now (tuple_in_array shape numbers tuple)
       ≡ get_or (chunk_with_part old shape region numbers new default) (row_major shape tuple) default
-  pub others : (numbers tuple : List ℕ) → (Contains (touched_chunks shape region) numbers → ⊥) → is_tuple_inside shape tuple ≡ true
-      → now (tuple_in_array shape numbers tuple) ≡ old (tuple_in_array shape numbers tuple)
+  pub others : (numbers tuple : List ℕ) → length numbers ≡ length shape → (Contains (touched_chunks shape region) numbers → ⊥)
+      → is_tuple_inside shape tuple ≡ true → now (tuple_in_array shape numbers tuple) ≡ old (tuple_in_array shape numbers tuple)
 
 -- The array has the new elements in the region, in order, and its old ones elsewhere.
 pub record IsRegionWritten {A : Type 0} (old now : List ℕ → A) (region : Region) (new : List A) (default : A) : Type 0 where
