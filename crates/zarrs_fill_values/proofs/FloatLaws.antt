@@ -14,7 +14,9 @@ use Rattle.zarrs_fill_values.specs.Floats.{float_size, infinity_word, nan_word, 
 use Rattle.zarrs_fill_values.specs.Words.{low_first, low_first_number, IsBytes}
 use Rattle.zarrs_fill_values.specs.declared.element_name.FloatName.{FloatName}
 use Rattle.zarrs_fill_values.specs.declared.element_name.FloatName.TheVariants.{Float16, Bfloat16, Float32, Float64}
-use Rattle.zarrs_fill_values.proofs.ExactFloats.{round_to_format-fits}
+use Rattle.zarrs_half.specs.declared.half_format.HalfFormat.TheVariants as half
+use Rattle.zarrs_half.proofs.ExactFloats.{round_to_format-fits}
+use Rattle.zarrs_half.proofs.NumbersAgain.{number_again as half_again}
 use Rattle.zarrs_fill_values.proofs.Lengths.{IsBytes-reverse}
 use Rattle.zarrs_fill_values.proofs.LowBytes.{length-low_first, low_first_number-low_first, low_first_number-below, low_first-low_first_number, IsBytes-low_first}
 
@@ -77,8 +79,8 @@ finite_again format word x h e =
     ∙ ap Some bits
 
 number_again : (name : FloatName) (word : ℕ) (x : Float) → word < 256 ^ float_size name → number_of_bits name word ≡ Some x → number_word name (float x) ≡ Some word
-number_again Float16 word x h e = absurd (cc)
-number_again Bfloat16 word x h e = absurd (cc)
+number_again Float16 word x h e = half_again half.Binary16 word x h e
+number_again Bfloat16 word x h e = half_again half.Bfloat16 word x h e
 number_again Float32 word x h e = finite_again binary32 word x h e
 number_again Float64 word x h e = finite_again binary64 word x h e
 

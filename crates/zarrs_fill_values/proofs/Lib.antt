@@ -1,4 +1,3 @@
-pub mod ExactFloats
 pub mod FillLaws
 pub mod FloatLaws
 pub mod HexWords

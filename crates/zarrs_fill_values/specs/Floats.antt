@@ -7,6 +7,8 @@ use Rattle.std.specs.Result.{result_ok}
 use Rattle.std.specs.Str.{bytes_eq}
 use Rattle.hex.specs.Hex.{decode_sized, encode_lower}
 use Rattle.serde_json.specs.Data.{Num, unsigned, negative, float, Data, null, boolean, number, string, array, object}
+use Rattle.zarrs_half.specs.HalfFloats.{half_bits, number_of}
+use Rattle.zarrs_half.specs.declared.half_format.HalfFormat.TheVariants as half
 use Rattle.zarrs_fill_values.specs.ElementName.{float_bits}
 use Rattle.zarrs_fill_values.specs.Words.{low_first, low_first_number, behind_prefix}
 use Rattle.zarrs_fill_values.specs.declared.element_name.FloatName.{FloatName}
@@ -58,7 +60,7 @@ abbrev pub nearest_to : Format → Float → Float
 nearest_to binary32 x = round_to_format binary32 x
 nearest_to binary64 x = x
 
--- The float nearest to a JSON number. One with a fraction or an exponent, and one past 64 bits, is the binary64 nearest to its text.
+-- The float nearest to a JSON number. One with a fraction or an exponent, and one past 64 bits, is the binary64 nearest to its text; of 16 bits each number is the binary64 nearest to it first.
 abbrev pub rounded : Format → Num → Float
 rounded format (unsigned n) = of_int format (pos n)
 rounded format (negative z) = of_int format z
@@ -68,10 +70,10 @@ rounded format (float x) = nearest_to format x
 abbrev pub finite_word : Format → Float → Option ℕ
 finite_word format x = if float_is_finite x then Some (to_bits format x) else None
 
--- the bits of the float nearest to a JSON number, where it isn't past the range; none of 16 bits
+-- the bits of the float nearest to a JSON number, where it isn't past the range
 abbrev pub number_word : FloatName → Num → Option ℕ
-number_word Float16 n = None
-number_word Bfloat16 n = None
+number_word Float16 n = half_bits half.Binary16 (rounded binary64 n)
+number_word Bfloat16 n = half_bits half.Bfloat16 (rounded binary64 n)
 number_word Float32 n = finite_word binary32 (rounded binary32 n)
 number_word Float64 n = finite_word binary64 (rounded binary64 n)
 
@@ -92,10 +94,10 @@ float_fill name tree = option_map (low_first (float_size name)) (float_word name
 abbrev pub finite : Float → Option Float
 finite x = if float_is_finite x then Some x else None
 
--- the number of the bits, where they are one's; none of 16 bits
+-- the number of the bits, where they are one's
 abbrev pub number_of_bits : FloatName → ℕ → Option Float
-number_of_bits Float16 word = None
-number_of_bits Bfloat16 word = None
+number_of_bits Float16 word = number_of half.Binary16 word
+number_of_bits Bfloat16 word = number_of half.Bfloat16 word
 number_of_bits Float32 word = finite (from_bits binary32 word)
 number_of_bits Float64 word = finite (from_bits binary64 word)
 

@@ -2,6 +2,7 @@
 ghost use Rattle.std.specs.Prelude.{◌≡◌, ◌<◌, ◌≤◌, ◌^◌, ◌*◌, length, string_bytes, IfOk, Ok, ok_or, from_bits};
 ghost use Rattle.std.specs.Float.{binary32, binary64};
 ghost use Rattle.serde_json.specs.View.{view, number_view};
+ghost use Rattle.zarrs_half.specs.HalfFloats.{half_bits};
 ghost use Rattle.zarrs_fill_values.specs.ElementError.{ElementAnswers, ElementBytes};
 ghost use Rattle.zarrs_fill_values.specs.Floats.{float_size as size_of_float, infinity_word as word_of_infinity, nan_word as word_of_nan, minus_infinity_word as word_of_minus_infinity, digits_word as word_of_digits, hex_word as word_of_hex, text_word as word_of_text, rounded, finite_word, number_word as word_of_number, float_word as word_of, float_fill as fill_of_float, number_of_bits as bits_number, finite, hex_text as text_of_hex, float_text as text_of_float, shown_as as shown_of, float_shown as shown_of_float};
 
@@ -15,6 +16,7 @@ use std::num::{
     nearest_f64_to_f32_with_nan, nearest_i64_to_f32, nearest_i64_to_f64, nearest_u64_to_f32,
     nearest_u64_to_f64,
 };
+use zarrs_half::HalfFormat;
 
 impl FloatName {
     pub(crate) fn size(self) -> u64
@@ -148,12 +150,22 @@ fn f64_word(number: &Number) -> Option<u64>
     }
 }
 
+fn half_word(format: HalfFormat, number: &Number) -> Option<u64>
+    ensures value { result ≡ half_bits format (rounded binary64 (number_view number.now)) }
+{
+    match format.from_f64(rounded_to_f64(number)) {
+        Some(bits) => Some(u64::from(bits)),
+        None => None,
+    }
+}
+
 /// The bits of the float nearest to a JSON number, where it isn't past the range.
 fn number_word(name: FloatName, number: &Number) -> Option<u64>
     ensures value { result ≡ word_of_number name (number_view number.now) }
 {
     match name {
-        FloatName::Float16 | FloatName::Bfloat16 => None,
+        FloatName::Float16 => half_word(HalfFormat::Binary16, number),
+        FloatName::Bfloat16 => half_word(HalfFormat::Bfloat16, number),
         FloatName::Float32 => f32_word(number),
         FloatName::Float64 => f64_word(number),
     }
@@ -236,7 +248,8 @@ fn number_of_bits(name: FloatName, word: u64) -> Option<f64>
     ensures value { result ≡ bits_number name word }
 {
     match name {
-        FloatName::Float16 | FloatName::Bfloat16 => None,
+        FloatName::Float16 => HalfFormat::Binary16.to_f64(word as u16),
+        FloatName::Bfloat16 => HalfFormat::Bfloat16.to_f64(word as u16),
         FloatName::Float32 => finite_f32(word as u32),
         FloatName::Float64 => finite_f64(word),
     }

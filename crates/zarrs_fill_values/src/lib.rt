@@ -8,9 +8,8 @@
 //! is `0501`. Each fill value is written in one way, which is read again as the same bytes ([`laws`]).
 //!
 //! A number is what `serde_json` keeps of it: a whole number of 64 bits as it is, any other as the
-//! binary64 nearest to its text. It is rounded to the nearest binary32 where the type is `float32`,
-//! and rejected past the range. Of `float16` and `bfloat16` numbers aren't read or written as yet:
-//! their finite values are texts of their bits, as `"0x3e00"`.
+//! binary64 nearest to its text. It is rounded to the nearest number of the type, a tie to the one
+//! whose last bit is 0, and rejected past the range: of `float16` from 65520 on.
 #![tactic(auto)]
 
 mod element_error;

@@ -143,10 +143,40 @@ const FLOATS: &'static [Row] = &[
         again: r#""NaN""#,
     },
     Row {
+        data_type: r#""float16""#,
+        fill: "1.5",
+        bytes: &[0, 62],
+        again: "1.5",
+    },
+    Row {
+        data_type: r#""float16""#,
+        fill: "0.1",
+        bytes: &[102, 46],
+        again: "0.0999755859375",
+    },
+    Row {
+        data_type: r#""float16""#,
+        fill: "-65519",
+        bytes: &[255, 251],
+        again: "-65504.0",
+    },
+    Row {
+        data_type: r#""float16""#,
+        fill: "-1e-9",
+        bytes: &[0, 128],
+        again: "-0.0",
+    },
+    Row {
         data_type: r#""bfloat16""#,
         fill: r#""Infinity""#,
         bytes: &[128, 127],
         again: r#""Infinity""#,
+    },
+    Row {
+        data_type: r#""bfloat16""#,
+        fill: "1.00390625",
+        bytes: &[128, 63],
+        again: "1.0",
     },
     Row {
         data_type: r#""complex64""#,
@@ -285,6 +315,14 @@ const REFUSED: &'static [Refused] = &[
     Refused {
         data_type: r#""float16""#,
         fill: r#""0x+e00""#,
+    },
+    Refused {
+        data_type: r#""float16""#,
+        fill: "65520",
+    },
+    Refused {
+        data_type: r#""bfloat16""#,
+        fill: "3.4e38",
     },
     Refused {
         data_type: r#""complex64""#,
