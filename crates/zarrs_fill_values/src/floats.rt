@@ -1,6 +1,6 @@
 //! Fill values of floats.
-ghost use Rattle.std.specs.Prelude.{◌≡◌, ◌<◌, ◌≤◌, ◌^◌, ◌*◌, length, string_bytes, IfOk, Ok, ok_or, from_bits};
-ghost use Rattle.std.specs.Float.{binary32, binary64};
+ghost use Rattle.std.specs.Prelude.{◌≡◌, ◌<◌, ◌≤◌, ◌^◌, ◌*◌, length, string_bytes, IfOk, IfSome, true, Ok, ok_or, from_bits};
+ghost use Rattle.std.specs.Float.{binary32, binary64, float_is_finite};
 ghost use Rattle.serde_json.specs.View.{view, number_view};
 ghost use Rattle.zarrs_half.specs.HalfFloats.{half_bits};
 ghost use Rattle.zarrs_fill_values.specs.ElementError.{ElementAnswers, ElementBytes};
@@ -226,6 +226,7 @@ fn float_text(alloc: Global, name: FloatName, word: u64) -> Result<String, Eleme
 
 fn finite_f32(word: u32) -> Option<f64>
     ensures value { result ≡ finite (from_bits binary32 word) }
+    ensures finite { IfSome result (λ number. float_is_finite number ≡ true) }
 {
     let float = f32_from_bits_with_nan(word);
     if float.is_finite() {
@@ -237,6 +238,7 @@ fn finite_f32(word: u32) -> Option<f64>
 
 fn finite_f64(word: u64) -> Option<f64>
     ensures value { result ≡ finite (from_bits binary64 word) }
+    ensures finite { IfSome result (λ number. float_is_finite number ≡ true) }
 {
     let float = f64_from_bits_with_nan(word);
     if float.is_finite() { Some(float) } else { None }
@@ -246,6 +248,7 @@ fn finite_f64(word: u64) -> Option<f64>
 fn number_of_bits(name: FloatName, word: u64) -> Option<f64>
     requires word { word < 256 ^ size_of_float name }
     ensures value { result ≡ bits_number name word }
+    ensures finite { IfSome result (λ number. float_is_finite number ≡ true) }
 {
     match name {
         FloatName::Float16 => HalfFormat::Binary16.to_f64(word as u16),

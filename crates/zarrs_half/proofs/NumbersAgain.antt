@@ -2,6 +2,7 @@
 use Rattle.std.proofs.Common.{◌≡◌, ◌∙◌, ◌<◌, ◌≤◌, ℕ, zero, suc, ◌+◌, ◌-◌, ◌*◌, ◌/◌, ◌%◌, ◌^◌, ◌==◌, Bool, true, false, cond, Some, None, Option, refl, ap, ap₂, sym, subst, arith, eqb-true}
 use Rattle.std.proofs.lemmas.Bool.{lt-ltb, ltb-true, leb-true, leb-false, eqb-false}
 use Rattle.std.proofs.lemmas.Nat.{pow-add, pow_pos}
+use Rattle.std.specs.Float.{float_is_finite}
 use native.Mathlib.Nat.{mul_assoc, mul_comm, mul_right_comm, mul-pos, lt_of_lt_of_le, mul-one, add-mul}
 use lib.Dec.{leb, ltb}
 use lib.IntN.{ℤ}
@@ -183,3 +184,15 @@ number_again format bits number small h = by_test (ltb (bits % 0x8000) (infinity
         ∙ half_of_value format (round binary64 (leb 0x8000 bits) (units_of format word) (2 ^ low_of format)) (leb 0x8000 bits) word below
         (units_value format (leb 0x8000 bits) word below)
         ∙ ap Some (signed (leb 0x8000 bits) refl)
+
+finite_of_value : (x : Float) (s : Bool) (a c : ℕ) → HasValue x s a c → float_is_finite x ≡ true
+unfolding float_is_finite
+finite_of_value nan s a c v = absurd v
+finite_of_value (inf t) s a c v = absurd v
+finite_of_value (fin t m e) s a c v = refl
+
+-- and that float is finite
+pub units_are_finite : (format : HalfFormat) (s : Bool) (word : ℕ) → word < infinity_of format
+    → float_is_finite (round binary64 s (units_of format word) (2 ^ low_of format)) ≡ true
+units_are_finite format s word below =
+    finite_of_value (round binary64 s (units_of format word) (2 ^ low_of format)) s (units_of format word) (2 ^ low_of format) (units_value format s word below)

@@ -1,6 +1,6 @@
 //! Floats of 16 bits.
-ghost use Rattle.std.specs.Prelude.{◌≡◌, ◌<◌, ◌≤◌, ◌^◌, ◌-◌, ◌%◌, nat_le, negsuc, to_bits};
-ghost use Rattle.std.specs.Float.{binary64, fin};
+ghost use Rattle.std.specs.Prelude.{◌≡◌, ◌<◌, ◌≤◌, ◌^◌, ◌-◌, ◌%◌, nat_le, negsuc, true, IfSome, to_bits};
+ghost use Rattle.std.specs.Float.{binary64, fin, float_is_finite};
 ghost use Rattle.std.specs.Float.Ieee.{round};
 ghost use Rattle.std.specs.Float.Ieee.Nearest.{closest};
 ghost use Rattle.zarrs_half.specs.HalfFloats.{digits_of, infinity_of, low_of, units_of, number_of, half_bits};
@@ -66,6 +66,7 @@ fn binary16_least(is_negative: bool) -> f64
 fn binary16_number(is_negative: bool, word: u64) -> f64
     requires word { word < 0x7c00 }
     ensures value { result ≡ round binary64 is_negative (units_of HalfFormat.Binary16 word) (2 ^ 24) }
+    ensures finite { float_is_finite result ≡ true }
 {
     nearest_u64_to_f64(binary16_units(word)) * binary16_least(is_negative)
 }
@@ -74,6 +75,7 @@ fn binary16_number(is_negative: bool, word: u64) -> f64
 fn bfloat16_number(bits: u16) -> f64
     requires word { bits % 0x8000 < 0x7f80 }
     ensures value { result ≡ round binary64 (nat_le 0x8000 bits) (units_of HalfFormat.Bfloat16 (bits % 0x8000)) (2 ^ 133) }
+    ensures finite { float_is_finite result ≡ true }
 {
     f64::from(f32_from_bits_with_nan(u32::from(bits) << 16))
 }
@@ -157,6 +159,7 @@ impl HalfFormat {
     /// what is no number.
     pub fn to_f64(self, bits: u16) -> Option<f64>
         ensures value { result ≡ number_of self bits }
+        ensures finite { IfSome result (λ number. float_is_finite number ≡ true) }
     {
         let word = u64::from(bits % 0x8000);
         if word >= self.infinity() {
