@@ -36,6 +36,7 @@ CAPS = {
     "words of one clause": 166,
     "definitions below a clause": 738,
     "words of README": 1300,
+    "words of pages": 48000,
 }
 
 # -- The crates and their files --------------------------------------------------------------------------------------
