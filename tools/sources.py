@@ -1,6 +1,7 @@
 """Reads the sources of the crates for the scripts beside it, once in a run: crates.txt; specs/ and proofs/, item by item, with
 their lines, remarks and imports; code, with its functions, their comments and the clauses of their contracts; the items that a
-text cites; and the edits that have to fail. A script ends by `run`, so that tools/check can call it too.
+text cites; and the edits that have to fail. It has what the scripts allow. A script ends by `run`, so that tools/check can call
+it too.
 """
 import functools
 import pathlib
@@ -21,8 +22,22 @@ FUNCTION = re.compile(r"( *)(pub(?:\([^)]*\))? )?(?:(?:const|final|unsafe|extern
 CLAUSE = re.compile(r"\s*(requires|ensures)\b")
 LABELLED = re.compile(r"\s*(?:requires|ensures)\b[ \t]*(\w*)\s*\{[\s(]*([^\s(){}\[\],;|]+)?")
 MEMBER = re.compile(r"    ghost (\w+: |Value = )\{")
+DECLARED = re.compile(r"(?m)^pub (?:const )?(?:fn|struct|enum|trait) (\w+)")
 TOGETHER = "must-fail-together"
 BLOCK = re.compile(r"(pub trait|impl [\w:]+\s+for|impl)\s+(?:&\s*)?(?:mut )?(\w+)")
+
+# What scripts allow, each a tenth above what was there when it was set: one thing more breaks no script, and a habit does.
+CAPS = {
+    "edits of a crate": 16,
+    "edits": 153,
+    "definitions by cases on the codec": 16,
+    "arms for all other codecs": 22,
+    "wide clauses": 61,
+    "words of one clause": 166,
+    "definitions below a clause": 738,
+    "words of README": 1300,
+    "words of pages": 48000,
+}
 
 # -- The crates and their files --------------------------------------------------------------------------------------
 
@@ -356,7 +371,39 @@ def code(crate):
     return [code_of(path) for path in paths(crate, "src")]
 
 
-# -- The run of a script ---------------------------------------------------------------------------------------------
+# -- What a library shows --------------------------------------------------------------------------------------------
+
+
+def exported(crate):
+    """The names that a crate shows."""
+    whole = "\n".join(file.text for file in code(crate))
+    shown = {"lib"} | set(re.findall(r"(?m)^pub mod (\w+);", whole))
+    names = set(re.findall(r"\w+", " ".join(re.findall(r"(?m)^pub use ([^;]*);", whole))))
+    for file in code(crate):
+        if shown.issuperset(file.path.relative_to(CRATES / crate / "src").with_suffix("").parts):
+            names.update(DECLARED.findall(file.text))
+    return names
+
+
+def public_clauses(crate):
+    """Each clause of what a library shows, with its file: of functions that are `pub`, of traits and of impls of these."""
+    names = exported(crate)
+    for file in code(crate):
+        public = [it for it in file.functions if (it.block.about or it.name) in names and (it.block.is_of_trait or it.is_pub)]
+        yield from ((file, clause) for function in public for clause in function.clauses)
+        yield from ((file, member) for block, member in file.members if block.about in names)
+
+
+@functools.cache
+def rests_on(item):
+    """The definitions that one rests on, itself among them: what it cites, what that cites, and so on, but for lemmas."""
+    found, waiting = set(), {item}
+    while waiting:
+        one = waiting.pop()
+        if one not in found and one.is_of_specs() and not one.is_lemma:
+            found.add(one)
+            waiting |= one.cites
+    return found
 
 
 # -- Edits that have to fail -----------------------------------------------------------------------------------------
@@ -398,6 +445,9 @@ class Edit:
 def edits(crate):
     """The edits of a crate: those that rt ci tries one by one, and those that are tried together."""
     return [Edit(path) for folder in ("must-fail", TOGETHER) for path in sorted((CRATES / crate / folder).glob("*.edit"))]
+
+
+# -- The run of a script ---------------------------------------------------------------------------------------------
 
 
 def tell(lines):

@@ -137,11 +137,11 @@ def told(file, refusals):
 """
 
 
-@pytest.mark.skipif(not (PACKAGE.parents[2] / "tools/words").is_file(), reason="it isn't the repository's package")
+@pytest.mark.skipif(not (PACKAGE.parents[2] / "tools/style").is_file(), reason="it isn't the repository's package")
 def test_the_fields_words(tmp_path, monkeypatch):
     """Those of comments, texts and names; public names are as they are."""
     monkeypatch.syspath_prepend(str(PACKAGE.parents[2] / "tools"))
-    words_of = runpy.run_path(str(PACKAGE.parents[2] / "tools/words"))["words_of"]
+    words_of = runpy.run_path(str(PACKAGE.parents[2] / "tools/style"))["words_of"]
     spoilt = tmp_path / "spoilt.py"
     spoilt.write_text(SPOILT)
     found = [line.partition("spoilt.py:")[2].partition(" (")[0] for line in words_of(spoilt)]
