@@ -7,7 +7,7 @@ use Rattle.std.specs.Result.{result_ok}
 use Rattle.std.specs.Str.{bytes_eq}
 use Rattle.hex.specs.Hex.{decode_sized, encode_lower}
 use Rattle.serde_json.specs.Data.{Num, unsigned, negative, float, Data, null, boolean, number, string, array, object}
-use Rattle.zarrs_half.specs.HalfFloats.{half_bits, number_of}
+use Rattle.zarrs_half.specs.HalfFloats.{half_bits, half_number}
 use Rattle.zarrs_half.specs.declared.half_format.HalfFormat.TheVariants as half
 use Rattle.zarrs_fill_values.specs.ElementName.{float_bits}
 use Rattle.zarrs_fill_values.specs.Words.{low_first, low_first_number, behind_prefix}
@@ -96,8 +96,8 @@ finite x = if float_is_finite x then Some x else None
 
 -- the number of the bits, where they are one's
 abbrev pub number_of_bits : FloatName → ℕ → Option Float
-number_of_bits Float16 word = number_of half.Binary16 word
-number_of_bits Bfloat16 word = number_of half.Bfloat16 word
+number_of_bits Float16 word = half_number half.Binary16 word
+number_of_bits Bfloat16 word = half_number half.Bfloat16 word
 number_of_bits Float32 word = finite (from_bits binary32 word)
 number_of_bits Float64 word = finite (from_bits binary64 word)
 

@@ -13,7 +13,7 @@ use lib.Ieee.Exact.{HasValue, round_exact}
 use lib.Ieee.Fits.{down_pos}
 use lib.Ieee.Nearest.{closest, closest_same, div_same}
 use Rattle.zarrs_half.specs.ByPattern.{above_least}
-use Rattle.zarrs_half.specs.HalfFloats.{digits_of, low_of, infinity_of, units_of, number_of, nearest_word, with_sign, finite_half, half_bits}
+use Rattle.zarrs_half.specs.HalfFloats.{digits_of, low_of, infinity_of, units_of, half_number, nearest_word, with_sign, finite_half, half_bits}
 use Rattle.zarrs_half.specs.declared.half_format.HalfFormat.{HalfFormat}
 use Rattle.zarrs_half.specs.declared.half_format.HalfFormat.TheVariants.{Binary16, Bfloat16}
 use Rattle.zarrs_half.proofs.NearestWords.{least_is}
@@ -164,7 +164,7 @@ half_of_value format (fin t m e) s word below v =
     ap₂ (finite_half format) v.0 (nearest_again format word (m * up e) (down e) (down_pos e) v.1)
     ∙ ap (λ (b : Bool). cond b (Some (with_sign s word)) None) (lt-ltb word (infinity_of format) below)
 
-pub number_again : (format : HalfFormat) (bits : ℕ) (number : Float) → bits < 65536 → number_of format bits ≡ Some number → half_bits format number ≡ Some bits
+pub number_again : (format : HalfFormat) (bits : ℕ) (number : Float) → bits < 65536 → half_number format bits ≡ Some number → half_bits format number ≡ Some bits
 number_again format bits number small h = by_test (ltb (bits % 0x8000) (infinity_of format)) refl h
   where
     word : ℕ

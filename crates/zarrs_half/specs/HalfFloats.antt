@@ -29,8 +29,8 @@ units_of format word =
     else (2 ^ digits_of format + word % 2 ^ digits_of format) * 2 ^ (word / 2 ^ digits_of format - 1)
 
 -- the number that 16 bits are, which each binary64 has room for; none of infinities and of what is no number
-abbrev pub number_of : HalfFormat → ℕ → Option Float
-number_of format bits =
+abbrev pub half_number : HalfFormat → ℕ → Option Float
+half_number format bits =
     if nat_lt (bits % 0x8000) (infinity_of format)
     then Some (round binary64 (nat_le 0x8000 bits) (units_of format (bits % 0x8000)) (2 ^ low_of format))
     else None

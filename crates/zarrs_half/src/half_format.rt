@@ -3,7 +3,7 @@ ghost use Rattle.std.specs.Prelude.{◌≡◌, ◌<◌, ◌≤◌, ◌^◌, ◌-
 ghost use Rattle.std.specs.Float.{binary64, fin, float_is_finite};
 ghost use Rattle.std.specs.Float.Ieee.{round};
 ghost use Rattle.std.specs.Float.Ieee.Nearest.{closest};
-ghost use Rattle.zarrs_half.specs.HalfFloats.{digits_of, infinity_of, low_of, units_of, number_of, half_bits};
+ghost use Rattle.zarrs_half.specs.HalfFloats.{digits_of, infinity_of, low_of, units_of, half_number, half_bits};
 ghost use Rattle.zarrs_half.specs.ByPattern.{half_of_pattern, word_of};
 
 use std::num::{
@@ -158,7 +158,7 @@ impl HalfFormat {
     /// The number that 16 bits are, exactly; of binary16 `0x3e00` is 1.5. None of infinities and of
     /// what is no number.
     pub fn to_f64(self, bits: u16) -> Option<f64>
-        ensures value { result ≡ number_of self bits }
+        ensures value { result ≡ half_number self bits }
         ensures finite { IfSome result (λ number. float_is_finite number ≡ true) }
     {
         let word = u64::from(bits % 0x8000);
