@@ -14,7 +14,7 @@ use zarrs_codec::{ByteRange, BytesPartialDecoderTraits};
 /// How a store stood when it was lent to a [`StoreHandle`], and for which key. It is for proofs alone:
 /// who lends a store to a handle `StoreHandle<'_, S, L>`, and gets that handle back from code which knows
 /// nothing of stores, learns by `L` that the values are the same, and that no other key was asked for.
-/// Where it is none, nothing is said.
+/// Where it is none, nothing is stated.
 pub trait AsLent {
     ghost as_lent: { Option Lending };
 }
@@ -39,10 +39,10 @@ impl<'s, S: ReadableStore, L: AsLent> StoreHandle<'s, S, L> {
 
     /// A handle on this key. It takes no memory, and asks for nothing.
     pub fn new(store: &'s mut S, key: &'s str) -> StoreHandle<'s, S, L>
-        requires key_is { ForSome L.as_lent (λ lending. key.now ≡ lending.key) }
+        requires same { ForSome L.as_lent (λ lending. key.now ≡ lending.key) }
         requires values { ForSome L.as_lent (λ lending. (S.state store.old).values ≡ lending.values) }
         requires asked { ForSome L.as_lent (λ lending. S.asked store.old ≡ lending.asked) }
-        ensures store { store_of result ≡ store.old }
+        ensures over { store_of result ≡ store.old }
         ensures key { result.key.now ≡ key.now }
         ensures same_reference { lender_name result ≡ store.entry.ghost_name }
     {

@@ -1,4 +1,4 @@
-use Rattle.std.proofs.Common.{ℕ, List, Ok, Option, ap, string_bytes, subst}
+use Rattle.std.proofs.Common.{ℕ, List, Option, ap, string_bytes, subst}
 use Rattle.zarrs_codec.specs.ByteRanges.{read_ranges}
 use Rattle.zarrs_codec.specs.HandleCalls.{ReadsBytes}
 use Rattle.zarrs_stores.specs.StoreState.{StoreState}

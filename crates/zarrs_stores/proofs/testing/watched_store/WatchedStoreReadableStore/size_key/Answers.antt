@@ -1,4 +1,4 @@
-use Rattle.std.proofs.Common.{ℕ, List, Ok, Option, ap, string_bytes, subst}
+use Rattle.std.proofs.Common.{ℕ, List, Option, ap, string_bytes, subst}
 use Rattle.zarrs_codec.specs.HandleCalls.{Tells}
 use Rattle.zarrs_codec.specs.StorageState.{value_size}
 use Rattle.zarrs_stores.specs.StoreState.{StoreState}
