@@ -1,0 +1,2 @@
+-- Lemmas of stores.
+pub mod StoreLemmas

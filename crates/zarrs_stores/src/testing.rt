@@ -1,0 +1,5 @@
+//! Stores for tests.
+
+mod watched_store;
+
+pub use watched_store::WatchedStore;
