@@ -2,7 +2,7 @@
 use Rattle.std.proofs.Common.{◌≡◌, ◌∙◌, ℕ, suc, ◌||◌, Bool, true, false, Option, List, [], ◌∷◌, length, map, get_or, Result, Ok, Err, arith, refl, ap, sym, subst}
 use Rattle.std.specs.Prelude.{Contains, IfErr, IfOk, IsOkAnd, string_bytes}
 use Rattle.std.specs.List.{All}
-use Rattle.std.proofs.lemmas.List.{get_or-map, get_or_default, length-map}
+use Rattle.std.proofs.lemmas.List.{get_or_default}
 use Rattle.std.proofs.lemmas.Simd.{map-map}
 use Rattle.zarrs_array_bytes.specs.Held.{Held}
 use Rattle.zarrs_array_bytes.specs.Validity.{Holds}
@@ -13,7 +13,7 @@ use Rattle.zarrs_chunk.specs.declared.codec_error.CodecError.{CodecError}
 use Rattle.zarrs_data_type.specs.Element.{Chunk, Element}
 use Rattle.zarrs_data_type.specs.ElementType.{ElementType}
 use Rattle.zarrs_grid.specs.Parts.{box_in_chunk}
-use Rattle.zarrs_grid.specs.RegionElements.{chunk_element, elements_of_part, region_elements}
+use Rattle.zarrs_grid.specs.RegionElements.{elements_of_part, region_elements}
 use Rattle.zarrs_grid.specs.Touched.{touched_chunks}
 use Rattle.zarrs_grid.specs.declared.chunk_part.ChunkPart.{ChunkPart}
 use Rattle.zarrs_array_plan.specs.ArrayForm.{ArrayForm}
@@ -23,8 +23,9 @@ use Rattle.zarrs_array_plan.specs.Joined.{AllChunksMakeTheRegion, HoldsChunks, I
 use Rattle.zarrs_array_plan.specs.PlanLaws.{PlansCutTheRegion}
 use Rattle.zarrs_array_plan.specs.Planned.{HasOwnKey, IsRegionPlan, LiesInArray, checked_plan}
 use Rattle.zarrs_array_plan.specs.declared.planned_chunk.PlannedChunk.{PlannedChunk}
-use Rattle.zarrs_region_reads.specs.JoinedRead.{IsReadAs, JoinsReads, planned_numbers, planned_read}
-use Rattle.zarrs_region_reads.specs.RegionRead.{AsksAmong, PartReads, ReadsArray, all_read, chunk_read, region_part_read, region_checked, region_read, touched_keys}
+use Rattle.zarrs_region_reads.specs.JoinedRead.{IsReadAs, JoinsReads, planned_chunks, planned_read}
+use Rattle.zarrs_region_reads.specs.RegionRead.{PartReads, ReadsArray, all_read, chunk_read, region_part_read, region_checked, region_read, touched_keys}
+use Rattle.zarrs_region_reads.proofs.RegionSteps.{no_memory}
 use Rattle.zarrs_region_reads.proofs.PartsRead.{read_again, same_parts}
 
 -- ---- reads one after another
@@ -45,10 +46,6 @@ none_refused read chunks [] each = refl
 none_refused read chunks (part ∷ parts) each =
     ap (λ (r : Result Chunk CodecError). r >>= λ _. all_read read parts) (each part (0, omega arith, refl))
     ∙ none_refused read chunks parts (λ one c. each one (suc c.0, omega (arith, c.1), c.2))
-
--- an element of a list, by its number
-contains_at : {P : Type 0} (P? : P → Type 0) (parts : List P) → ((part : P) → Contains parts part → P? part) → All P? parts
-contains_at P? parts each = λ k d l. each (get_or parts k d) (k, l, get_or_default parts k _ d l)
 
 -- ---- what is checked first
 
@@ -88,26 +85,28 @@ module _ (reads : PartReads) (values : List ℕ → Option (List ℕ)) (form : A
     own_parts = (cuts form region planned lies plan).parts
 
     -- the chunks are those that the region touches
-    chunks_are : map planned_numbers planned ≡ touched_chunks form.chunk_shape region
+    chunks_are : planned_chunks planned ≡ touched_chunks form.chunk_shape region
     chunks_are = sym (map-map (λ (part : ChunkPart). part.chunk.items) (λ (it : PlannedChunk). it.part) planned) ∙ plan.parts.chunks
 
-    own_read : (it : PlannedChunk) → Contains planned it → planned_read reads values it ≡ read (planned_numbers it)
+    own_read : (it : PlannedChunk) → Contains planned it → planned_read reads values it ≡ read it.part.chunk.items
     own_read it c =
         let own = subst (IsRegionPart form.chunk_shape region) (ap (λ (x : PlannedChunk). x.part) c.2) (own_parts c.0 it c.1) in
         let key = subst (HasOwnKey form.keys) c.2 (plan.keys c.0 it c.1) in
         ap (λ (bytes : List ℕ). reads (values bytes) it.part.in_chunk) key
-        ∙ ap (reads (values (key_of form.keys (planned_numbers it)))) own.is.in_chunk
+        ∙ ap (reads (values (key_of form.keys it.part.chunk.items))) own.is.in_chunk
 
-    is_touched : (it : PlannedChunk) → Contains planned it → Contains (touched_chunks form.chunk_shape region) (planned_numbers it)
+    is_touched : (it : PlannedChunk) → Contains planned it → Contains (touched_chunks form.chunk_shape region) it.part.chunk.items
     is_touched it c = (subst (IsRegionPart form.chunk_shape region) (ap (λ (x : PlannedChunk). x.part) c.2) (own_parts c.0 it c.1)).touched
 
     each_as_read : All (IsReadAs as_read form.chunk_shape region (planned_read reads values)) planned
-    each_as_read = contains_at (IsReadAs as_read form.chunk_shape region (planned_read reads values)) planned
-        (λ it c. at it (planned_read reads values it) (λ chunk is. has_read (planned_numbers it) chunk (is_touched it c) (sym (own_read it c) ∙ is)) refl)
+    each_as_read = λ k d l.
+        let it = get_or planned k d in
+        let c : Contains planned it = (k, l, get_or_default planned k it d l) in
+        at it (planned_read reads values it) (λ chunk is. has_read it.part.chunk.items chunk (is_touched it c) (sym (own_read it c) ∙ is)) refl
       where
         at : (it : PlannedChunk) (r : Result Chunk CodecError)
-            → ((chunk : Chunk) → planned_read reads values it ≡ Ok chunk → chunk ≡ elements_of_part as_read form.chunk_shape region (planned_numbers it))
-            → planned_read reads values it ≡ r → IfOk r (λ chunk. chunk ≡ elements_of_part as_read form.chunk_shape region (planned_numbers it))
+            → ((chunk : Chunk) → planned_read reads values it ≡ Ok chunk → chunk ≡ elements_of_part as_read form.chunk_shape region it.part.chunk.items)
+            → planned_read reads values it ≡ r → IfOk r (λ chunk. chunk ≡ elements_of_part as_read form.chunk_shape region it.part.chunk.items)
         at it (Ok chunk) h e = h chunk e
         at it (Err error) h e = tt
 
@@ -115,11 +114,11 @@ module _ (reads : PartReads) (values : List ℕ → Option (List ℕ)) (form : A
     pub keys_are : map (λ (it : PlannedChunk). string_bytes it.key) planned ≡ touched_keys form region
     keys_are =
         same_map planned (λ it c. subst (HasOwnKey form.keys) c.2 (plan.keys c.0 it c.1))
-        ∙ sym (map-map (key_of form.keys) planned_numbers planned)
+        ∙ sym (map-map (key_of form.keys) (λ (it : PlannedChunk). it.part.chunk.items) planned)
         ∙ ap (map (key_of form.keys)) chunks_are
       where
         same_map : (its : List PlannedChunk) → ((it : PlannedChunk) → Contains its it → HasOwnKey form.keys it)
-            → map (λ (it : PlannedChunk). string_bytes it.key) its ≡ map (λ (it : PlannedChunk). key_of form.keys (planned_numbers it)) its
+            → map (λ (it : PlannedChunk). string_bytes it.key) its ≡ map (λ (it : PlannedChunk). key_of form.keys it.part.chunk.items) its
         same_map [] own = refl
         same_map (it ∷ its) own = λ i.
             own it (0, omega arith, refl) i ∷ same_map its (λ one c. own one (suc c.0, omega (arith, c.1), c.2)) i
@@ -136,15 +135,15 @@ module _ (reads : PartReads) (values : List ℕ → Option (List ℕ)) (form : A
         checked_so = checks_passed type form region fill Chunk (all_read read (touched_chunks form.chunk_shape region) >>= λ _. Ok (region_elements as_read region)) n filled checked fills
 
         same : all_read (planned_read reads values) planned ≡ all_read read (touched_chunks form.chunk_shape region)
-        same = same_reads (planned_read reads values) read planned_numbers planned own_read ∙ ap (all_read read) chunks_are
+        same = same_reads (planned_read reads values) read (λ (it : PlannedChunk). it.part.chunk.items) planned own_read ∙ ap (all_read read) chunks_are
 
-        all_there : (numbers : List ℕ) → Contains (touched_chunks form.chunk_shape region) numbers → Contains (map planned_numbers planned) numbers
+        all_there : (numbers : List ℕ) → Contains (touched_chunks form.chunk_shape region) numbers → Contains (planned_chunks planned) numbers
         all_there numbers c = subst (λ (chunks : List (List ℕ)). Contains chunks numbers) (sym chunks_are) c
 
-        whole : (held : Held) → HoldsChunks type as_read form.chunk_shape region (map planned_numbers planned) held → Holds type held (region_elements as_read region)
-        whole held h = make type as_read form.chunk_shape region (map planned_numbers planned) held lies.grid all_there h
+        whole : (held : Held) → HoldsChunks type as_read form.chunk_shape region (planned_chunks planned) held → Holds type held (region_elements as_read region)
+        whole held h = make type as_read form.chunk_shape region (planned_chunks planned) held lies.grid all_there h
 
-        by : (held : Held) (r : Result (Unit {0}) CodecError) → IsOkAnd r (λ _. HoldsChunks type as_read form.chunk_shape region (map planned_numbers planned) held)
+        by : (held : Held) (r : Result (Unit {0}) CodecError) → IsOkAnd r (λ _. HoldsChunks type as_read form.chunk_shape region (planned_chunks planned) held)
             → IsOkAnd (r >>= λ _. Ok (region_elements as_read region)) (Holds type held)
         by held (Ok u) h = whole held h
         by held (Err e) h = absurd h
@@ -154,17 +153,13 @@ module _ (reads : PartReads) (values : List ℕ → Option (List ℕ)) (form : A
         refused e (Err d) h = cc
 
         at : (r : Result Held CodecError)
-            → AnswersBy memory_or_fault (λ joined _. HoldsChunks type as_read form.chunk_shape region (map planned_numbers planned) joined) r (all_read (planned_read reads values) planned)
+            → AnswersBy memory_or_fault (λ joined _. HoldsChunks type as_read form.chunk_shape region (planned_chunks planned) joined) r (all_read (planned_read reads values) planned)
             → AnswersBy memory_or_fault (Holds type) r (all_read read (touched_chunks form.chunk_shape region) >>= λ _. Ok (region_elements as_read region))
         at (Ok held) h = by held (all_read read (touched_chunks form.chunk_shape region))
-            (subst (λ (r : Result (Unit {0}) CodecError). IsOkAnd r (λ _. HoldsChunks type as_read form.chunk_shape region (map planned_numbers planned) held)) same h)
+            (subst (λ (r : Result (Unit {0}) CodecError). IsOkAnd r (λ _. HoldsChunks type as_read form.chunk_shape region (planned_chunks planned) held)) same h)
         at (Err e) h = λ loud. refused e (all_read read (touched_chunks form.chunk_shape region)) (sym same ∙ h loud)
 
 -- ---- errors before a chunk is read
-
-first_false : (a b : Bool) → (a || b) ≡ false → a ≡ false
-first_false true b h = absurd (cc)
-first_false false b h = refl
 
 -- an error of what is checked is the answer
 pub first_refused : {T V W : Type 0} (R : T → W → Type 0) (r : Result V CodecError) (e : CodecError) → Excused (memory e) (r ≡ Err e)
@@ -197,7 +192,7 @@ pub fill_first : (type : ElementType) (form : ArrayForm) (region : Region) (fill
 fill_first type form region fill n e checked h = λ quiet. rw (checked, h quiet) refl
 
 pub ends_first : {V W : Type 0} (r : Result V CodecError) (next : V → Result W CodecError) (e : CodecError) → Excused (memory e) (r ≡ Err e) → Excused (memory_or_fault e) ((r >>= next) ≡ Err e)
-ends_first r next e h = λ quiet. at next r (h (first_false (memory e) (fault e) quiet))
+ends_first r next e h = λ quiet. at next r (no_memory e (r ≡ Err e) quiet h)
   where
     at : {V W : Type 0} (next : V → Result W CodecError) (r : Result V CodecError) → r ≡ Err e → (r >>= next) ≡ Err e
     at next (Ok x) is = absurd (cc)

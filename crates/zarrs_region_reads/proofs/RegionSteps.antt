@@ -1,25 +1,22 @@
 -- Planned chunks that are read one after another.
-use Rattle.std.proofs.Common.{◌≡◌, ◌∙◌, ◌⊎◌, inl, inr, ℕ, suc, ◌+◌, ◌<◌, ◌≤◌, ◌||◌, Bool, true, false, List, [], ◌∷◌, ◌++◌, length, map, get_or, take, drop, Result, Ok, Err, arith, refl, ap, sym, subst}
-use Rattle.std.specs.Prelude.{Contains, IfErr, IfOk, IsOkAnd, Option, string_bytes}
+use Rattle.std.proofs.Common.{◌≡◌, ◌∙◌, ◌⊎◌, inl, inr, ℕ, suc, ◌+◌, ◌<◌, ◌≤◌, Bool, true, false, List, [], ◌∷◌, ◌++◌, length, map, get_or, take, drop, Result, Ok, Err, arith, refl, ap, sym, subst}
+use Rattle.std.specs.Prelude.{Contains, IsOkAnd}
 use Rattle.std.specs.List.{All}
 use Rattle.std.proofs.lemmas.List.{at_drop_more, drop_all, get_or-map, length-map, map_more, take_all}
 use Rattle.std.proofs.lemmas.List.Elements.{Contains-append_cases}
-use Rattle.zarrs_array_bytes.specs.Elements.{elements}
 use Rattle.zarrs_array_bytes.specs.Held.{Held}
 use Rattle.zarrs_array_bytes.specs.Validity.{Holds}
-use Rattle.zarrs_chunk.specs.Answer.{◌>>=◌, AnswersBy, Excused, GivesBy, fault, is_fault, memory, memory_or_fault, no_refusal}
-use Rattle.zarrs_chunk.specs.ChunkShape.{product}
+use Rattle.zarrs_chunk.specs.Answer.{◌>>=◌, AnswersBy, Excused, fault, is_fault, memory, memory_or_fault, no_refusal}
 use Rattle.zarrs_chunk.specs.Region.{Region}
 use Rattle.zarrs_chunk.specs.declared.codec_error.CodecError.{CodecError}
 use Rattle.zarrs_chunk.specs.declared.codec_error.CodecError.TheVariants.{Storage}
 use Rattle.zarrs_data_type.specs.Element.{Chunk, Element}
 use Rattle.zarrs_data_type.specs.ElementType.{ElementType}
-use Rattle.zarrs_grid.specs.RegionElements.{elements_of_part}
 use Rattle.zarrs_grid.specs.declared.chunk_part.ChunkPart.{ChunkPart}
 use Rattle.zarrs_array_plan.specs.Joined.{HoldsChunks, IsRegionPart, JoinsPart}
 use Rattle.zarrs_array_plan.specs.declared.planned_chunk.PlannedChunk.{PlannedChunk}
 use Rattle.zarrs_stores.specs.StoreState.{AsksOnly, StoreState, after_get}
-use Rattle.zarrs_region_reads.specs.JoinedRead.{IsReadAs, JoinsRead, planned_numbers}
+use Rattle.zarrs_region_reads.specs.JoinedRead.{IsReadAs, JoinsRead, planned_chunks}
 use Rattle.zarrs_region_reads.specs.RegionRead.{AsksAmong, all_read}
 
 -- ---- what calls leave of the store
@@ -47,7 +44,7 @@ pub read_refused : (read : Result Chunk CodecError) (type : ElementType) (region
     → Excused (memory_or_fault e) (read ≡ Err e) → JoinsRead read type region part answer (Err e)
 read_refused read type region part answer e h = λ element chunk_shape chunks own begun as_it. h
 
-no_memory : (e : CodecError) (P : Type 0) → memory_or_fault e ≡ false → Excused (memory e) P → P
+pub no_memory : (e : CodecError) (P : Type 0) → memory_or_fault e ≡ false → Excused (memory e) P → P
 no_memory e P quiet h = by (memory e) refl
   where
     by : (m : Bool) → memory e ≡ m → P
@@ -111,7 +108,7 @@ held_on (Err e) Q it h = absurd h
 
 -- The container holds the elements of so many planned chunks, the first ones, and the first error of all is that of those that are left.
 pub record JoinedSoFar (read : PlannedChunk → Result Chunk CodecError) (type : ElementType) (element : List ℕ → Element) (chunk_shape : List ℕ) (region : Region) (planned : List PlannedChunk) (i : ℕ) (answer : Held) : Type 0 where
-  pub holds : HoldsChunks type element chunk_shape region (map planned_numbers (take i planned)) answer
+  pub holds : HoldsChunks type element chunk_shape region (planned_chunks (take i planned)) answer
   pub left : all_read read (drop i planned) ≡ all_read read planned
 
 module _ (read : PlannedChunk → Result Chunk CodecError) (type : ElementType) (element : List ℕ → Element) (chunk_shape : List ℕ) (region : Region) (planned : List PlannedChunk)
@@ -129,31 +126,31 @@ module _ (read : PlannedChunk → Result Chunk CodecError) (type : ElementType) 
     rest_is : all_read read planned ≡ (read it >>= λ _. all_read read (drop (i + 1) planned))
     rest_is = sym so_far.left ∙ read_on read planned i it l is
 
-    numbers_more : map planned_numbers (take (i + 1) planned) ≡ map planned_numbers (take i planned) ++ planned_numbers it ∷ []
+    numbers_more : planned_chunks (take (i + 1) planned) ≡ planned_chunks (take i planned) ++ it.part.chunk.items ∷ []
     numbers_more =
-        map_more planned_numbers planned i it l ∙ ap (λ (x : PlannedChunk). map planned_numbers (take i planned) ++ planned_numbers x ∷ []) (sym is)
+        map_more (λ (it : PlannedChunk). it.part.chunk.items) planned i it l ∙ ap (λ (x : PlannedChunk). planned_chunks (take i planned) ++ x.part.chunk.items ∷ []) (sym is)
 
     pub one_joined : (more : Held) → JoinsRead (read it) type region it.part answer (Ok more) → JoinedSoFar read type element chunk_shape region planned (i + 1) more
     one_joined more joins =
-        let chunks = map planned_numbers (take i planned) in
+        let chunks = planned_chunks (take i planned) in
         let given = joins element chunk_shape chunks own_part so_far.holds own_read in
-        let Q : Held → Type 0 = HoldsChunks type element chunk_shape region (planned_numbers it ∷ chunks) in
+        let Q : Held → Type 0 = HoldsChunks type element chunk_shape region (it.part.chunk.items ∷ chunks) in
         record {
           holds = subst (λ (numbers : List (List ℕ)). HoldsChunks type element chunk_shape region numbers more) (sym numbers_more)
-              (holds_so type element chunk_shape region chunks (planned_numbers it) more (held_on (read it) Q more given));
+              (holds_so type element chunk_shape region chunks it.part.chunk.items more (held_on (read it) Q more given));
           left = sym (rest_is ∙ passed_on (read it) (all_read read (drop (i + 1) planned)) Q more given);
         }
 
     pub one_refused : (e : CodecError) (R : Held → Unit {0} → Type 0) → JoinsRead (read it) type region it.part answer (Err e) → AnswersBy memory_or_fault R (Err e) (all_read read planned)
     one_refused e R joins =
-        let chunks = map planned_numbers (take i planned) in
-        refused_on (read it) (all_read read (drop (i + 1) planned)) (all_read read planned) (λ joined _. HoldsChunks type element chunk_shape region (planned_numbers it ∷ chunks) joined) R e rest_is
+        let chunks = planned_chunks (take i planned) in
+        refused_on (read it) (all_read read (drop (i + 1) planned)) (all_read read planned) (λ joined _. HoldsChunks type element chunk_shape region (it.part.chunk.items ∷ chunks) joined) R e rest_is
         (joins element chunk_shape chunks own_part so_far.holds own_read)
 
   pub all_joined : (i : ℕ) (answer : Held) → length planned ≤ i → JoinedSoFar read type element chunk_shape region planned i answer
-      → AnswersBy memory_or_fault (λ joined _. HoldsChunks type element chunk_shape region (map planned_numbers planned) joined) (Ok answer) (all_read read planned)
+      → AnswersBy memory_or_fault (λ joined _. HoldsChunks type element chunk_shape region (planned_chunks planned) joined) (Ok answer) (all_read read planned)
   all_joined i answer l so_far =
-      let Q : Type 0 = HoldsChunks type element chunk_shape region (map planned_numbers planned) answer in
+      let Q : Type 0 = HoldsChunks type element chunk_shape region (planned_chunks planned) answer in
       let none : all_read read planned ≡ Ok tt = sym so_far.left ∙ ap (all_read read) (drop_all i planned l) in
       subst (λ (r : Result (Unit {0}) CodecError). IsOkAnd r (λ _. Q)) (sym none)
-      (subst (λ (its : List PlannedChunk). HoldsChunks type element chunk_shape region (map planned_numbers its) answer) (take_all i planned l) so_far.holds)
+      (subst (λ (its : List PlannedChunk). HoldsChunks type element chunk_shape region (planned_chunks its) answer) (take_all i planned l) so_far.holds)

@@ -25,17 +25,17 @@ JoinsRead read type region part answer result =
 abbrev pub planned_read : PartReads → (List ℕ → Option (List ℕ)) → PlannedChunk → Result Chunk CodecError
 planned_read reads values it = reads (values (string_bytes it.key)) it.part.in_chunk
 
--- the indices of a planned chunk
-abbrev pub planned_numbers : PlannedChunk → List ℕ
-planned_numbers it = it.part.chunk.items
+-- the indices of each of these planned chunks
+abbrev pub planned_chunks : List PlannedChunk → List (List ℕ)
+planned_chunks planned = map (λ it. it.part.chunk.items) planned
 
 -- a planned chunk is read as the array has it, where it is read
 abbrev pub IsReadAs : (List ℕ → Element) → List ℕ → Region → (PlannedChunk → Result Chunk CodecError) → PlannedChunk → Type 0
-IsReadAs element chunk_shape region read it = IfOk (read it) (λ chunk. chunk ≡ elements_of_part element chunk_shape region (planned_numbers it))
+IsReadAs element chunk_shape region read it = IfOk (read it) (λ chunk. chunk ≡ elements_of_part element chunk_shape region it.part.chunk.items)
 
 -- Of a container that holds a region's elements of no chunk yet, one is given that holds those of all planned chunks, which are read one after another as the array has them; or the first error of the reads. Only lack of memory or a failure of the store may come in its place.
 abbrev pub JoinsReads : (PlannedChunk → Result Chunk CodecError) → ElementType → Region → List PlannedChunk → Held → Result Held CodecError → Type 0
 JoinsReads read type region planned answer result =
     (element : List ℕ → Element) (chunk_shape : List ℕ) → All (λ it. IsRegionPart chunk_shape region it.part) planned
     → HoldsChunks type element chunk_shape region [] answer → All (IsReadAs element chunk_shape region read) planned
-    → AnswersBy memory_or_fault (λ joined _. HoldsChunks type element chunk_shape region (map planned_numbers planned) joined) result (all_read read planned)
+    → AnswersBy memory_or_fault (λ joined _. HoldsChunks type element chunk_shape region (planned_chunks planned) joined) result (all_read read planned)

@@ -7,7 +7,7 @@ use Rattle.zarrs_data_type.specs.Element.{Chunk}
 use Rattle.zarrs_stores.specs.StoreState.{StoreState, after_get}
 use Rattle.zarrs_array_plan.specs.Joined.{HoldsChunks}
 use Rattle.zarrs_array_plan.specs.declared.planned_chunk.PlannedChunk.{PlannedChunk}
-use Rattle.zarrs_region_reads.specs.JoinedRead.{JoinsRead, planned_numbers, planned_read}
+use Rattle.zarrs_region_reads.specs.JoinedRead.{JoinsRead, planned_chunks, planned_read}
 use Rattle.zarrs_region_reads.proofs.RegionSteps.{all_joined, asks_more, none_joined, one_joined, one_refused}
 use Rattle.zarrs_region_reads.proofs.region_reads.join_chunks.Goals as goal
 
@@ -62,7 +62,7 @@ returns-in_err-answer g c =
       joined = λ element chunk_shape own begun as_it.
           one_refused read type element chunk_shape region planned own as_it c.loop-it.it-index it c.loop-it.answer (omega arith) c.it-item.is
           (c.loop-it.invariant.joined element chunk_shape own begun as_it) e
-          (λ joined _. HoldsChunks type element chunk_shape region (map planned_numbers planned) joined) joins;
+          (λ joined _. HoldsChunks type element chunk_shape region (planned_chunks planned) joined) joins;
       left = c.in_err-answer.ensures.left ∙ ap (after_get refused) c.loop-it.invariant.state;
       asked = asks_more (λ (x : PlannedChunk). string_bytes x.key) planned it c.loop-it.it-index (asked c.args.store.now) (asked c.loop-it.store) (asked c.join_chunk.new.store)
           (omega arith) c.it-item.is c.loop-it.invariant.asked c.join_chunk.ensures.asked;
