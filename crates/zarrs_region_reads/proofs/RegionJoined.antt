@@ -1,12 +1,12 @@
 -- A region whose planned chunks were read one after another.
-use Rattle.std.proofs.Common.{◌≡◌, ◌∙◌, ℕ, suc, ◌||◌, Bool, true, false, Option, List, [], ◌∷◌, length, map, get_or, Result, Ok, Err, arith, refl, ap, sym, subst}
+use Rattle.std.proofs.Common.{◌≡◌, ◌∙◌, ℕ, suc, Option, List, [], ◌∷◌, length, map, get_or, Result, Ok, Err, arith, refl, ap, sym, subst}
 use Rattle.std.specs.Prelude.{Contains, IfErr, IfOk, IsOkAnd, string_bytes}
 use Rattle.std.specs.List.{All}
 use Rattle.std.proofs.lemmas.List.{get_or_default}
 use Rattle.std.proofs.lemmas.Simd.{map-map}
 use Rattle.zarrs_array_bytes.specs.Held.{Held}
 use Rattle.zarrs_array_bytes.specs.Validity.{Holds}
-use Rattle.zarrs_chunk.specs.Answer.{◌>>=◌, AnswersBy, Excused, fault, memory, memory_or_fault}
+use Rattle.zarrs_chunk.specs.Answer.{◌>>=◌, AnswersBy, Excused, memory, memory_or_fault}
 use Rattle.zarrs_chunk.specs.Region.{Region}
 use Rattle.zarrs_chunk.specs.Tuples.{box_tuples}
 use Rattle.zarrs_chunk.specs.declared.codec_error.CodecError.{CodecError}

@@ -1,4 +1,4 @@
-use Rattle.std.proofs.Common.{◌∙◌, Ok, Err, Result, ap, arith, map, refl, subst}
+use Rattle.std.proofs.Common.{◌∙◌, Ok, Err, Result, ap, arith, refl, subst}
 use Rattle.std.specs.Prelude.{string_bytes}
 use Rattle.std.proofs.lemmas.Result.{err_from_is_err_and}
 use Rattle.zarrs_array_bytes.specs.Held.{Held}
