@@ -26,6 +26,7 @@ fn join_chunk<S: ReadableStore, R: ChunkPartReader<S>>(
     answer: ArrayBytes<'static>,
 ) -> Result<ArrayBytes<'static>, CodecError>
     requires alike { R.element_type reader.now ≡ data_type.now }
+    // Wide: what is read, and where it is put.
     ensures joined { JoinsRead
         (planned_read (R.reads reader.now) (S.state store.old).values planned.now)
         data_type.now region.now planned.now.part answer.entry result }
