@@ -1,6 +1,6 @@
 -- Extension points, and the list of codecs, read from JSON.
 -- Source: the Zarr v3 core specification, "Extension definition" and `codecs`.
-use Rattle.std.specs.Prelude.{ℕ, List, [], ◌∷◌, Option, Some, None, option_and_then, ok_or, Result, Ok}
+use Rattle.std.specs.Prelude.{List, [], ◌∷◌, Option, option_and_then, ok_or, Result, Ok}
 use Rattle.std.specs.Result.{result_ok}
 use Rattle.serde_json.specs.Data.{Data, Items, no_items, item}
 use Rattle.serde_json.specs.Find.{as_array}

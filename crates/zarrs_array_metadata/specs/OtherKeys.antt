@@ -1,6 +1,6 @@
 -- Keys that the metadata of an array may have.
 -- Source: the Zarr v3 core specification, "Array metadata".
-use Rattle.std.specs.Prelude.{ℕ, ◌==◌, Bool, true, false, List, [], ◌∷◌, Vec, map, Option, Some, None, option_map, option_and_then, ok_or, Result, Ok, Err, String, string_bytes, if◌then◌else◌}
+use Rattle.std.specs.Prelude.{ℕ, ◌==◌, Bool, true, false, List, [], ◌∷◌, Vec, map, Option, Some, None, option_map, option_and_then, ok_or, Result, Ok, Err, String, string_bytes}
 use Rattle.std.specs.declared.alloc.Global.{Global}
 use Rattle.serde_json.specs.Data.{Data, null, boolean, number, string, array, object, Items, no_items, item, Members}
 use Rattle.serde_json.specs.Events.{items_len}

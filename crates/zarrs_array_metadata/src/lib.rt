@@ -13,8 +13,10 @@ mod array_metadata_v3;
 mod chunks;
 mod codecs;
 mod kept_members;
+pub mod laws;
 mod needed;
 mod others;
+mod written;
 
 pub use array_metadata_error::{ArrayKey, ArrayMetadataError, KeyName};
 pub use array_metadata_v3::ArrayMetadataV3;
