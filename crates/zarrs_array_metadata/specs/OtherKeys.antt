@@ -36,7 +36,7 @@ dimension_name_in (boolean truth) = None
 dimension_name_in (number n) = None
 dimension_name_in (string name) = Some (Some name)
 dimension_name_in (array items) = None
-dimension_name_in (object members) = None
+dimension_name_in (object entries) = None
 
 -- the names that a list's items are
 abbrev pub names_among : Items → Option (List (Option (List ℕ)))
