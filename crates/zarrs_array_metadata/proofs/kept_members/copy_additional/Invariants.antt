@@ -1,0 +1,9 @@
+use Rattle.std.proofs.Common.{◌≡◌, List, ◌++◌}
+use Rattle.serde_json.specs.View.{members_view}
+use Rattle.serde_json.proofs.Views.{Entry}
+use Rattle.zarrs_array_metadata.specs.Additional.{additional_of}
+use Rattle.zarrs_array_metadata.proofs.kept_members.copy_additional.Given as goal
+
+-- those so far are copied whose keys have no meaning
+abbrev pub invariant-loop-key : goal.invariant-loop-key
+invariant-loop-key l = (done : List Entry) × (l.members.entries ≡ done ++ l.key-iterator) × (members_view l.copies.entries ≡ additional_of (members_view done))
