@@ -18,6 +18,21 @@ pub(crate) fn with(alloc: Global, members: &str) -> Result<String, AllocError> {
     format!(in alloc; "{{{BYTES},{members}}}")
 }
 
+fn is_error(
+    rt: &impl Abort,
+    text: &str,
+    error: &ArrayMetadataError,
+    name: &str,
+    key: Option<&str>,
+) -> Result<(), ArrayMetadataError> {
+    if matches!(error, ArrayMetadataError::OutOfMemory) {
+        return Err(ArrayMetadataError::OutOfMemory);
+    }
+    is(rt, text, &error.name(), &name);
+    is(rt, text, &error.key(), &key);
+    Ok(())
+}
+
 /// The text says what can't be read, by the error's name and its key. A lack of memory is an error of
 /// the test.
 pub(crate) fn refuses(
@@ -27,13 +42,11 @@ pub(crate) fn refuses(
     name: &str,
     key: Option<&str>,
 ) -> Result<(), ArrayMetadataError> {
-    match came {
-        Ok(_) => is(rt, text, &"read", &name),
-        Err(ArrayMetadataError::OutOfMemory) => return Err(ArrayMetadataError::OutOfMemory),
-        Err(error) => {
-            is(rt, text, &error.name(), &name);
-            is(rt, text, &error.key(), &key);
+    match came.err() {
+        None => {
+            is(rt, text, &"read", &name);
+            Ok(())
         }
+        Some(error) => is_error(rt, text, &error, name, key),
     }
-    Ok(())
 }
