@@ -1,4 +1,4 @@
--- Numbers of refusals.
+-- Numbers of errors.
 use Rattle.std.proofs.Common.{◌≡◌, ℕ, true, false, Result, Err, Bool, inl, inr, refl, ◌∙◌}
 use Rattle.zarrs_chunk.specs.Answer.{Excused}
 use Rattle.zarrs_chunk.specs.declared.codec_error.CodecError.TheVariants.{OutOfMemory, Storage, UnsupportedDataType, EndiannessMissing, ArrayBytesKind, InvalidBytesLength, IncompatibleDimensionality, OutOfBounds, Overflow, InvalidFillValue, ReshapeDimension, ReshapeElements, BitRange, PaddingByte, IndexLength, InvalidOffsets, OffsetTooLarge, OffsetNotKept, MaskValue, HeaderOverflow, InvalidByteRange, BytesCodec, DataMismatch, UnsupportedTarget, TargetMismatch, ReversedRange, ElementCount, IndivisibleShape, IndexNotFixed}
@@ -6,7 +6,7 @@ use Rattle.zarrs_array_calls.specs.Refusals.{refusal_wants, refusal_number, Refu
 use Rattle.zarrs_array_calls.specs.declared.refusal.ArrayRefusal.{ArrayRefusal}
 use Rattle.zarrs_array_calls.specs.declared.refusal.ArrayRefusal.TheVariants.{Argument, ZeroSize, Codec}
 
--- a refusal that says that memory is wanting has the number 10
+-- an error that says that memory is wanting has the number 10
 wanting : (refusal : ArrayRefusal) → refusal_wants refusal ≡ true → refusal_number refusal ≡ 10
 wanting Argument e = absurd (cc)
 wanting ZeroSize e = absurd (cc)
@@ -40,7 +40,7 @@ wanting (Codec ElementCount) e = absurd (cc)
 wanting (Codec IndivisibleShape) e = absurd (cc)
 wanting (Codec IndexNotFixed) e = absurd (cc)
 
--- a call that fails for the refusal that is due, or out of memory, returns its number
+-- a call that fails for the error that is due, or out of memory, returns its number
 pub refuses : {A : Type 0} (refusal : ArrayRefusal) (expected : Result A ArrayRefusal) (code : ℕ) → Excused (refusal_wants refusal) (expected ≡ Err refusal)
     → code ≡ refusal_number refusal → RefusesWith expected code
 refuses {A} refusal expected code gives is = by (refusal_wants refusal) refl

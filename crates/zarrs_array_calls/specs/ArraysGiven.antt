@@ -23,7 +23,7 @@ keys_given encoding separator = do
   between ← separator_given separator
   if encoding == 0 then Ok (Default between) else if encoding == 1 then Ok (V2 between) else Err Argument
 
--- an array of this shape in chunks of these sizes, or the first refusal: there is such a key encoding, no size of a chunk is zero, and the array has as many axes
+-- an array of this shape in chunks of these sizes, or the first error: there is such a key encoding, no size of a chunk is zero, and the array has as many axes
 abbrev pub array_given : List ℕ → List ℕ → ℕ → ℕ → Result ArrayForm ArrayRefusal
 array_given shape sizes encoding separator = do
   keys ← keys_given encoding separator

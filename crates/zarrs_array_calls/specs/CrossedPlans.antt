@@ -43,7 +43,7 @@ plan_of form region =
     let keys = bytes_with_offsets (key_of form.keys) chunks in
     plan_lists keys.0 keys.1 (flat_map (part_numbers form.chunk_shape region) chunks)
 
--- the plan of a region of an array, which are given as numbers, or the first refusal: of the array; of the region's form; it lies inside the array, and 64 bits count its elements
+-- the plan of a region of an array, which are given as numbers, or the first error: of the array; of the region's form; it lies inside the array, and 64 bits count its elements
 abbrev pub array_plan : List ℕ → List ℕ → ℕ → ℕ → List ℕ → Result PlanLists ArrayRefusal
 array_plan shape sizes encoding separator numbers = do
   form ← array_given shape sizes encoding separator

@@ -17,7 +17,7 @@ use Rattle.zarrs_array_calls.specs.declared.refusal.ArrayRefusal.TheVariants.{Ze
 abbrev pub runs_view : List ℕ → ℕ → List ℕ → Vec (ℕ × ℕ) Global → FixedView
 runs_view bytes size sizes runs = record { bytes = bytes; element_size = size; count = product sizes; places = places_in runs }
 
--- the places of a part's elements among the bytes of a region of these lengths, or the first refusal: no length is zero, since a region without elements has no parts; there are a part's numbers; an element has a byte, the part lies in the region, 64 bits count the region's elements and bytes, and there are as many bytes; and as many of the part's elements
+-- the places of a part's elements among the bytes of a region of these lengths, or the first error: no length is zero, since a region without elements has no parts; there are a part's numbers; an element has a byte, the part lies in the region, 64 bits count the region's elements and bytes, and there are as many bytes; and as many of the part's elements
 abbrev pub part_places : ℕ → List ℕ → List ℕ → List ℕ → ℕ → Result (List ℕ) ArrayRefusal
 part_places size lengths numbers region part_bytes = do
   shape ← ok_or (shape_of lengths) ZeroSize
@@ -26,12 +26,12 @@ part_places size lengths numbers region part_bytes = do
   _ ← demand (part_bytes == view_length view) (Codec TargetMismatch)
   Ok view.places
 
--- the region's bytes, with the part's elements replaced by the new ones; or the first refusal
+-- the region's bytes, with the part's elements replaced by the new ones; or the first error
 abbrev pub part_put : ℕ → List ℕ → List ℕ → List ℕ → List ℕ → Result (List ℕ) ArrayRefusal
 part_put size lengths numbers new region =
     seen (λ places. pieces_update size (product lengths) region places new) (part_places size lengths numbers region (length new))
 
--- the part's elements out of the region's bytes, which fill a buffer of so many bytes; or the first refusal
+-- the part's elements out of the region's bytes, which fill a buffer of so many bytes; or the first error
 abbrev pub part_taken : ℕ → List ℕ → List ℕ → List ℕ → ℕ → Result (List ℕ) ArrayRefusal
 part_taken size lengths numbers region room = seen (λ places. pieces_at size region places) (part_places size lengths numbers region room)
 

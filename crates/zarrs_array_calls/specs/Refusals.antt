@@ -12,7 +12,7 @@ refusal_wants Argument = false
 refusal_wants ZeroSize = false
 refusal_wants (Codec error) = memory error
 
--- an answer of the library, whose error is a refusal
+-- an answer of the library, whose error is one of these calls'
 abbrev pub grid_answer : {A : Type 0} → Result A CodecError → Result A ArrayRefusal
 grid_answer (Ok value) = Ok value
 grid_answer (Err error) = Err (Codec error)
@@ -27,12 +27,12 @@ error_number Overflow = 18
 error_number TargetMismatch = 34
 error_number _ = 3
 
--- the number of a refusal
+-- the number of what a call fails for
 abbrev pub refusal_number : ArrayRefusal → ℕ
 refusal_number Argument = 3
 refusal_number ZeroSize = 56
 refusal_number (Codec error) = error_number error
 
--- a call that fails returns this number: that of the refusal that is due, or 10, since memory may be lacking at any time
+-- a call that fails returns this number: that of the error that is due, or 10, since memory may be lacking at any time
 abbrev pub RefusesWith : {A : Type 0} → Result A ArrayRefusal → ℕ → Type 0
 RefusesWith expected code = ((refusal : ArrayRefusal) × (expected ≡ Err refusal) × (code ≡ refusal_number refusal)) ⊎ (code ≡ 10)

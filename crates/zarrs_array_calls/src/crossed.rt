@@ -62,7 +62,7 @@ fn joined_numbers(alloc: Global, planned: &[PlannedChunk]) -> Result<Vec<u64>, A
 
 /// What planned chunks cross as.
 pub(crate) fn crossed(alloc: Global, planned: &[PlannedChunk]) -> Result<CrossedPlan, AllocError>
-    ensures lists { IfOk result (λ plan. lists_in plan ≡ crossed_chunks planned.now) }
+    ensures value { IfOk result (λ plan. lists_in plan ≡ crossed_chunks planned.now) }
 {
     let (keys, offsets) = joined_keys(alloc, planned)?;
     let numbers = joined_numbers(alloc, planned)?;

@@ -34,7 +34,7 @@ fn put(
     elements: &[u8],
     region: &mut [u8],
 ) -> Result<(), ArrayRefusal>
-    ensures put { Answers refusal_wants (λ _. region.new) result
+    ensures written { Answers refusal_wants (λ _. region.new) result
         (part_put size lengths.now part.now elements.now region.old) }
     ensures kept { OnErr result (region.new ≡ region.old) }
 {

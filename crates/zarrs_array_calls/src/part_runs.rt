@@ -21,7 +21,7 @@ fn box_runs(
     shape: &ChunkShape,
     subset: &ArraySubset,
 ) -> Result<Vec<(u64, u64)>, CodecError>
-    ensures view { Answers memory (runs_view region.now size shape.now) result
+    ensures answer { Answers memory (runs_view region.now size shape.now) result
         (fixed_view region.now size shape.now subset.now) }
     ensures whole { IfOk result (λ _. length region.now ≡ product shape.now * size) }
     ensures inside { IfOk result (λ v. EndWithin (product shape.now) v.items) }

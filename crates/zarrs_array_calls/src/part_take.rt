@@ -14,7 +14,7 @@ use std::alloc::Global;
 fn copy_runs(elements: &mut [u8], region: &[u8], size: usize, runs: &[(u64, u64)])
     requires inside { All (λ run. (run.0 + run.1) * size ≤ length region.now) runs.now }
     requires room { length elements.old ≡ length (joined_runs runs.now) * size }
-    ensures copied { elements.new ≡ pieces_at size region.now (joined_runs runs.now) }
+    ensures written { elements.new ≡ pieces_at size region.now (joined_runs runs.now) }
 {
     let mut done = 0;
     for run in runs {
@@ -34,7 +34,7 @@ fn take(
     region: &[u8],
     elements: &mut [u8],
 ) -> Result<(), ArrayRefusal>
-    ensures taken { Answers refusal_wants (λ _. elements.new) result
+    ensures written { Answers refusal_wants (λ _. elements.new) result
         (part_taken size lengths.now part.now region.now (length elements.old)) }
     ensures kept { OnErr result (elements.new ≡ elements.old) }
 {

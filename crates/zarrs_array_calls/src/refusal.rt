@@ -82,7 +82,7 @@ fn error_number(error: &CodecError) -> u32
     }
 }
 
-/// The number of a refusal.
+/// The number of what a call fails for.
 pub(crate) fn refusal_number(refusal: &ArrayRefusal) -> u32
     ensures value { result ≡ number_of_refusal refusal.now }
 {

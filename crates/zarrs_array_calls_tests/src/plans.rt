@@ -6,7 +6,7 @@ use std::fmt::Debug;
 use std::process::Abort;
 use zarrs_array_calls::{PlanSizes, zarrs_array_plan};
 
-/// What is given, and what is told: the code, the keys, and where they end; and the first two parts.
+/// What is given, and what comes: the code, the keys, where they end, and the numbers of all parts.
 struct Row {
     name: &'static str,
     shape: &'static [u64],

@@ -12,8 +12,8 @@ write_runs-requires c = record {
   enough = rw c.as_slice.ensures.value (omega (arith, c.in_ok-runs.ensures.enough));
 }
 
-pub returns-clause-put : goal.returns-clause-put
-returns-clause-put c =
+pub returns-clause-written : goal.returns-clause-written
+returns-clause-written c =
     let size = c.args.size in
     let region = c.args.region.now in
     let new = c.args.elements.now in

@@ -45,6 +45,6 @@ loop-run-preserved c =
 pub returns : goal.returns
 returns c =
     record {
-      copied = c.loop-run.invariant.told
+      written = c.loop-run.invariant.told
           ∙ copied_all c.args.size c.args.region.now c.args.elements.now c.args.runs.now c.loop-run.run-index c.loop-run.done (omega (arith, c.loop-run-test.false)) c.loop-run.invariant.left;
     }

@@ -11,9 +11,9 @@ copy_runs-requires c = record {
   room = rw c.as_slice.ensures.value (c.in_ok-runs.ensures.enough);
 }
 
-pub returns-clause-taken : goal.returns-clause-taken
-returns-clause-taken c =
+pub returns-clause-written : goal.returns-clause-written
+returns-clause-written c =
     let size = c.args.size in
     let region = c.args.region.now in
-    let copied = c.copy_runs.ensures.copied ∙ ap (λ rs. pieces_at size region (joined_runs rs)) c.as_slice.ensures.value in
+    let copied = c.copy_runs.ensures.written ∙ ap (λ rs. pieces_at size region (joined_runs rs)) c.as_slice.ensures.value in
     ap (seen (λ places. pieces_at size region places)) c.in_ok-runs.ensures.places ∙ ap Ok (sym copied)
