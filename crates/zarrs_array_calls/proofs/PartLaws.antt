@@ -1,11 +1,10 @@
 -- Parts put into a region's bytes, and taken out of them.
-use Rattle.std.proofs.Common.{◌≡◌, ◌∙◌, ℕ, ◌+◌, ◌*◌, ◌<◌, ◌^◌, Ok, List, [], ◌∷◌, length, map, get_or, arith, refl, ap, ap₂, sym, subst, eq-eqb}
-use Rattle.std.specs.List.{All, concat, flat_map, Contains}
+use Rattle.std.proofs.Common.{◌≡◌, ◌∙◌, ℕ, ◌*◌, Ok, List, [], ◌∷◌, length, map, get_or, arith, ap, sym, subst}
+use Rattle.std.specs.List.{All, concat}
 use Rattle.std.proofs.lemmas.List.{length-map}
-use Rattle.std.proofs.lemmas.List.Elements.{All-head, All-tail, All-cons, All-nil}
+use Rattle.std.proofs.lemmas.List.Elements.{All-head, All-tail}
 use Rattle.std.proofs.lemmas.List.FromFn.{get_or-map-range_with_len}
 use Rattle.zarrs_chunk.specs.ChunkShape.{product}
-use Rattle.zarrs_chunk.specs.Region.{Region}
 use Rattle.zarrs_chunk.specs.Tuples.{box_tuples}
 use Rattle.zarrs_array_bytes.specs.Elements.{piece}
 use Rattle.zarrs_array_bytes.specs.Pieces.{pieces, pieces_at}
@@ -21,9 +20,7 @@ use Rattle.zarrs_grid.specs.RegionWrites.{new_of_part}
 use Rattle.zarrs_grid.proofs.Cut.{listed_touches}
 use Rattle.zarrs_grid.proofs.PartPlaces.{length-places, length-elements}
 use Rattle.zarrs_grid.proofs.PartsJoined.{part_joined}
-use Rattle.zarrs_array_calls.specs.ArrayLaws.{IsPartOfBytes, HoldsBytes, PutsAreJoined, PartsAreTaken}
-use Rattle.zarrs_array_calls.specs.CrossedPlans.{part_numbers}
-use Rattle.zarrs_array_calls.specs.PartBytes.{part_put, part_taken}
+use Rattle.zarrs_array_calls.specs.ArrayLaws.{PutsAreJoined, PartsAreTaken}
 use Rattle.zarrs_array_calls.proofs.PlanLemmas.{map_by}
 use Rattle.zarrs_array_calls.proofs.PartNumbers.{places_are, places_inside}
 

@@ -18,9 +18,8 @@ use Rattle.zarrs_array_plan.specs.ChunkKeys.{key_of}
 use Rattle.zarrs_array_plan.specs.Planned.{checked_plan, IsRegionPlan}
 use Rattle.zarrs_array_plan.specs.declared.planned_chunk.PlannedChunk.{PlannedChunk}
 use Rattle.zarrs_array_calls.specs.ArraysGiven.{array_given, region_given}
-use Rattle.zarrs_array_calls.specs.CrossedPlans.{PlanLists, plan_lists, part_numbers, plan_of, array_plan, numbers_of_part, crossed_chunks}
+use Rattle.zarrs_array_calls.specs.CrossedPlans.{plan_lists, part_numbers, plan_of, array_plan, numbers_of_part, crossed_chunks}
 use Rattle.zarrs_array_calls.specs.Refusals.{grid_answer}
-use Rattle.zarrs_array_calls.specs.declared.refusal.ArrayRefusal.{ArrayRefusal}
 
 -- ---- a chunk more
 

@@ -1,4 +1,4 @@
-use Rattle.std.proofs.Common.{◌≡◌, ◌+◌, ◌*◌, ◌-◌, ◌≤◌, ◌++◌, get_or, take, drop, length, ap, sym, ◌∙◌, arith, length-append}
+use Rattle.std.proofs.Common.{◌≡◌, ◌+◌, ◌*◌, ◌-◌, ◌++◌, get_or, take, drop, length, ap, sym, ◌∙◌, arith, length-append}
 use Rattle.zarrs_array_bytes.specs.Pieces.{pieces_at}
 use Rattle.zarrs_array_bytes.specs.Update.{with_items_at}
 use Rattle.zarrs_array_bytes.proofs.RunLemmas.{left_of_runs}
