@@ -1,7 +1,6 @@
 -- The numbers of a part, and its places by them.
 use Rattle.std.proofs.Common.{◌≡◌, ◌∙◌, ℕ, ◌+◌, ◌*◌, ◌<◌, ◌≤◌, ◌^◌, ◌==◌, Bool, true, false, Ok, Some, Result, List, [], ◌∷◌, ◌++◌, length, take, drop, arith, refl, ap, ap₂, sym, eq-eqb, eqb-true, take_at, drop_at, drop-drop, length-append}
 use Rattle.std.specs.List.{All, list_any}
-use Rattle.std.proofs.Math.Nat.{mul-le-mul}
 use Rattle.std.proofs.lemmas.Bool.{false_from_ne_true}
 use Rattle.zarrs_chunk.specs.Answer.{◌>>=◌, demand}
 use Rattle.zarrs_chunk.specs.ArraySubset.{subset_of_start_shape}
@@ -12,6 +11,7 @@ use Rattle.zarrs_chunk.specs.Selection.{subset, places_of}
 use Rattle.zarrs_chunk.specs.Tuples.{is_box_inside}
 use Rattle.zarrs_chunk.proofs.Inside.{lt_test, is_box_inside-at, is_box_inside-lengths}
 use Rattle.zarrs_chunk.proofs.PlaceLaws.{known_below}
+use Rattle.zarrs_chunk.proofs.RowLaws.{few_fronts}
 use Rattle.zarrs_array_bytes.specs.FixedView.{fixed_view}
 use Rattle.zarrs_grid.specs.ChunkTuples.{quotients}
 use Rattle.zarrs_grid.specs.Parts.{box_in_region, starts_in_chunk, starts_in_region, part_lengths}
@@ -73,12 +73,6 @@ places_due sizes box within small =
     let long = is_box_inside-lengths sizes box.starts box.lengths within in
     rw (eq-eqb (length box.starts) (length sizes) long.0, within, lt_test (product sizes) (2 ^ 64) small) refl
 
--- where 64 bits count bytes, they count elements
-fewer : (count size : ℕ) → 0 < size → count * size < 2 ^ 64 → count < 2 ^ 64
-fewer count size some fits =
-    let wide : count * 1 ≤ count * size = mul-le-mul {n₁ = count} {m₁ = 1} {n₂ = count} {m₂ = size} (omega arith) some in
-    omega (arith, wide, fits)
-
 -- bytes of as many elements as a shape has are seen by a box inside
 view_due : (size : ℕ) (sizes bytes : List ℕ) (box : Region) → 0 < size → is_box_inside sizes box.starts box.lengths ≡ true
     → product sizes * size < 2 ^ 64 → length bytes ≡ product sizes * size
@@ -87,7 +81,7 @@ view_due : (size : ℕ) (sizes bytes : List ℕ) (box : Region) → 0 < size →
 view_due size sizes bytes box some within fits whole =
     rw (
       lt_test 0 size some,
-      places_due sizes box within (fewer (product sizes) size some fits),
+      places_due sizes box within (few_fronts (product sizes) size some fits),
       lt_test (product sizes * size) (2 ^ 64) fits,
       eq-eqb (length bytes) (product sizes * size) whole,
     ) refl
@@ -140,4 +134,4 @@ module _ (chunk_shape : List ℕ) (region : Region) (chunk : List ℕ) (size : �
   pub places_inside : All (λ place. place < product region.lengths) (places_in_region chunk_shape region chunk)
   places_inside =
       known_below (subset (box_in_region chunk_shape region chunk)) region.lengths (places_in_region chunk_shape region chunk)
-      (places_due region.lengths (box_in_region chunk_shape region chunk) there (fewer (product region.lengths) size own.some own.counted))
+      (places_due region.lengths (box_in_region chunk_shape region chunk) there (few_fronts (product region.lengths) size own.some own.counted))
