@@ -206,7 +206,12 @@ fn plan(alloc: Global, row: &Row, keys: usize, room: &mut Room) -> u32 {
 }
 
 fn are_sizes(rt: &impl Abort, row: &Row, came: &PlanSizes) {
-    is(rt, row.name, &came.chunks, &(row.offsets.len() - 1));
+    is(
+        rt,
+        row.name,
+        &came.chunks.checked_add(1),
+        &Some(row.offsets.len()),
+    );
     is(rt, row.name, &came.keys, &row.keys.len());
     is(rt, row.name, &came.offsets, &row.offsets.len());
     is(rt, row.name, &came.numbers, &row.numbers.len());
