@@ -1,5 +1,5 @@
 -- The numbers of a part, and its places by them.
-use Rattle.std.proofs.Common.{◌≡◌, ◌∙◌, ℕ, ◌+◌, ◌*◌, ◌<◌, ◌≤◌, ◌^◌, ◌==◌, Bool, true, false, Ok, Some, Result, List, [], ◌∷◌, ◌++◌, length, take, drop, arith, refl, ap, ap₂, sym, eq-eqb, eqb-true, take_at, drop_at, drop-drop, length-append}
+use Rattle.std.proofs.Common.{◌≡◌, ◌∙◌, ℕ, ◌+◌, ◌*◌, ◌<◌, ◌^◌, ◌==◌, Bool, true, false, Ok, Some, Result, List, [], ◌∷◌, ◌++◌, length, take, drop, arith, refl, ap, ap₂, sym, eq-eqb, eqb-true, take_at, drop_at, drop-drop, length-append}
 use Rattle.std.specs.List.{All, list_any}
 use Rattle.std.proofs.lemmas.Bool.{false_from_ne_true}
 use Rattle.zarrs_chunk.specs.Answer.{◌>>=◌, demand}

@@ -57,6 +57,7 @@ pub(crate) fn tell_plan(
     numbers: &mut [u64],
     needed: &mut PlanSizes,
 ) -> u32
+    // Wide: a caller's three buffers, before and after.
     ensures told { ToldChunks (lists_in plan.now) result
         (plan_lists keys.old offsets.old numbers.old) (plan_lists keys.new offsets.new numbers.new)
         needed.new }
