@@ -42,7 +42,7 @@ pub extern "C" fn zarrs_part_take(
     region: &[u8],
     elements: &mut [u8],
 ) -> u32
-    // Wide: what is taken has five parts, and the caller's buffer is told before and after.
+    // Wide: what is taken has five parts, and the buffer is given before and after.
     ensures told { FillsBuffer
         (part_taken size lengths.now part.now region.now (length elements.old)) result
         elements.old elements.new }
