@@ -1,7 +1,8 @@
 /* Codecs of Zarr v3, proved: encode, decode and re-encode chunks, and read and write parts of
  * them.
  *
- * Every call begins with a header, or with a chain that was made of one (zarrs_chain). A header is the
+ * Every call of a chunk begins with a header, or with a chain that was made of one (zarrs_chain); zarrs_array_plan,
+ * zarrs_part_put and zarrs_part_take are for arrays of many chunks, and know no codecs. A header is the
  * JSON text of a chunk's shape, the type of its elements, its fill value in hex and its codecs, as
  *
  *   {"shape":[2,3],"data_type":"uint16","fill_value":"0000","codecs":[
@@ -73,7 +74,7 @@ enum zarrs_code {
     ZARRS_DONE = 0,
     ZARRS_SHORT = 1, /* a buffer is too short for the answer */
     ZARRS_SYNTAX = 2, /* the header, or a list of codecs, isn't of its form */
-    ZARRS_ARGUMENT = 3, /* masks of several lengths, numbers that are no selection, or no ranges of the bytes fetched */
+    ZARRS_ARGUMENT = 3, /* masks of several lengths, numbers that are no selection, no ranges of the bytes fetched, no part, or no key encoding */
     ZARRS_NOT_IN_PLACE = 4, /* a value can't be edited where it stands */
     ZARRS_OUT_OF_MEMORY = 10, /* an allocation failed: may come in place of any other */
     ZARRS_STORAGE = 11, /* a byte is needed that isn't among the pieces */
@@ -110,7 +111,7 @@ enum zarrs_code {
     ZARRS_MULTIPLE_ARRAY_TO_BYTES = 53, /* more than one array-to-bytes codec */
     ZARRS_BIT_ORDER = 54, /* a bit range ends before it starts */
     ZARRS_MULTIPLE_AUTO = 55, /* several automatic sizes */
-    ZARRS_ZERO_SIZE = 56, /* a size of a reshape, or of an inner chunk, is zero */
+    ZARRS_ZERO_SIZE = 56, /* a size of a reshape, of an inner chunk, or of an array's chunks is zero, or a length of a region with a part */
     ZARRS_NOT_A_PERMUTATION = 57 /* an order that doesn't name each axis once */
 };
 
@@ -138,6 +139,18 @@ typedef struct zarrs_edit_size {
     size_t numbers;
     size_t bytes;
 } zarrs_edit_size;
+
+/* How many chunks a plan has, and how many items its three buffers have, or need. */
+typedef struct zarrs_plan_sizes {
+    size_t chunks;
+    size_t keys;
+    size_t offsets;
+    size_t numbers;
+} zarrs_plan_sizes;
+
+/* How the indices of a chunk make its key: with '/' as separator, the chunk 1, 2 has c/1/2 or 1/2. */
+#define ZARRS_KEYS_DEFAULT 0
+#define ZARRS_KEYS_V2 1
 
 /* The version of this header, and that of the library: the same text, with the word unproved behind it where the
  * library was made without a proof. */
@@ -284,6 +297,47 @@ uint32_t zarrs_lacking(const uint8_t *header, size_t header_len,
                        const uint8_t *fetched, size_t fetched_len,
                        uint64_t tuples, const uint64_t *numbers, size_t numbers_len,
                        uint64_t *lacking, size_t lacking_len, size_t *needed);
+
+/* What a region of an array needs of each chunk that it touches: the key of the chunk, and the region's part in it.
+ * shape is the array's and chunk_shape that of its chunks; encoding is one of ZARRS_KEYS_, and separator '/' or '.'.
+ * The region is a box of the array, as a selection: first where each axis starts, then how long it is there.
+ *
+ * The keys are joined in keys, with no zero behind one, and offsets is where each begins and the last ends, so one
+ * more than chunks. numbers has for each chunk four numbers an axis: the chunk's indices; where the part begins in
+ * the chunk; how long it is; where it begins in the region. The second and the third are the box to read of the
+ * chunk, or to write there. Parts have all elements of the region and each once, and no key comes twice; an empty
+ * region has no parts. Chunks at an array's end are whole, though the array has no elements there.
+ *
+ * The first error is told: ZARRS_ARGUMENT of the encoding or the separator; ZARRS_ZERO_SIZE of chunk_shape;
+ * ZARRS_INCOMPATIBLE_DIMENSIONALITY where it has more or fewer axes than shape; of the region ZARRS_ARGUMENT where it has
+ * an odd number of numbers, ZARRS_OVERFLOW where a range ends past 2^64 - 1, ZARRS_INCOMPATIBLE_DIMENSIONALITY,
+ * ZARRS_OUT_OF_BOUNDS, and ZARRS_OVERFLOW where it has 2^64 elements or more. examples/c/array.c reads a region so. */
+uint32_t zarrs_array_plan(const uint64_t *shape, size_t shape_len,
+                          const uint64_t *chunk_shape, size_t chunk_shape_len,
+                          uint32_t encoding, uint32_t separator,
+                          const uint64_t *region, size_t region_len,
+                          uint8_t *keys, size_t keys_len,
+                          uint64_t *offsets, size_t offsets_len,
+                          uint64_t *numbers, size_t numbers_len, zarrs_plan_sizes *needed);
+
+/* Puts the elements of a part, as a read of its box of the chunk returns them, at their places among those of the region:
+ * elements of one size, of size bytes each, row by row. lengths is how long the region is along each axis, and part
+ * the part's numbers in a plan of it. All other bytes of the region stay as they were, so parts may come in any order;
+ * once all were put, the region has the array's elements. One call at a time has a region. ZARRS_ZERO_SIZE where the
+ * region has no elements, and so no parts; ZARRS_ARGUMENT where the part hasn't four numbers an axis; ZARRS_TARGET_MISMATCH
+ * where size is 0, or elements_len isn't what the part's elements have; ZARRS_INVALID_BYTES_LENGTH where region_len isn't
+ * what the region's have; ZARRS_OVERFLOW or ZARRS_OUT_OF_BOUNDS of a part that isn't the region's. */
+uint32_t zarrs_part_put(size_t size, const uint64_t *lengths, size_t lengths_len,
+                        const uint64_t *part, size_t part_len,
+                        const uint8_t *elements, size_t elements_len,
+                        uint8_t *region, size_t region_len);
+
+/* The other way round: takes the elements of a part out of those of a region, row by row, as a write of its box of the
+ * chunk needs them. elements_len is just what they have. Codes are those of zarrs_part_put. */
+uint32_t zarrs_part_take(size_t size, const uint64_t *lengths, size_t lengths_len,
+                         const uint64_t *part, size_t part_len,
+                         const uint8_t *region, size_t region_len,
+                         uint8_t *elements, size_t elements_len);
 
 /* A chain that is kept from one call to the next, so that its header is read once: a call over it begins at once,
  * which is most of what a small read costs otherwise. It begins as {0}, which keeps none, and is given to

@@ -5,7 +5,8 @@
 #include "zarrs_codecs.h"
 
 enum { ROOM = 1 << 14, PAGE = 4096, AXES = 5, PATTERN = 0xA5 };
-enum { CHECK, REPRESENTATION, ENCODE, DECODE, READ, WRITE, REENCODE, PLAN, PIECES, NAME, MANY, EDIT, LACKING, KEEP, SHARE, KINDS };
+enum { CHECK, REPRESENTATION, ENCODE, DECODE, READ, WRITE, REENCODE, PLAN, PIECES, NAME, MANY, EDIT, LACKING, KEEP, SHARE, ARRAY_PLAN, PART_PUT, PART_TAKE,
+       KINDS };
 /* Memory that ends where none is; a call may write the last `len` bytes of it. */
 typedef struct { uint8_t *begin; size_t len; } room;
 
@@ -106,6 +107,8 @@ bool same_elements(const elements *a, const elements *b);
  * and `plan` the ranges that it plans, where it does. */
 void read_in_rounds(fuzzer *f, const header *h, const value *v, const selection *s, uint32_t code, const elements *read,
     const uint64_t *plan, size_t planned);
+/* Plans a region of an array, puts its parts and takes them, and looks at each beside plain loops. */
+void look_at_array(fuzzer *f, const header *h);
 void turn(fuzzer *f);
 
 #endif

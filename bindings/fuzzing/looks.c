@@ -205,6 +205,7 @@ void turn(fuzzer *f)
     memcpy(&told, to, sizeof told);
     EXPECT(code == check || code == ZARRS_OUT_OF_MEMORY, "check and representation differ");
     EXPECT(code == ZARRS_DONE ? told.kind <= 2 : untouched(f->to_counts, sizeof told, 0), "a representation that is none");
+    look_at_array(f, h);
     make_elements(f, h, h->count, &given);
     write_value(f, h, ENCODE, true, (lent){0}, NULL, &given, (lent){0}, &v);
     if (check != ZARRS_DONE) {

@@ -8,6 +8,7 @@
  * - that offsets begin at 0 and end at the bytes' end, and mask bytes are 0 or 1 (not looked at with `loose`);
  * - that decode, encode, read, write, reencode and reads by pieces agree with each other;
  * - that a read of pieces says which bytes it lacks, and is answered in at most three rounds when these are fetched;
+ * - that plans of arrays, and parts put into regions and taken out of them, are what plain loops make;
  * - that several selections are read, and several edits made, by one call as by one call each;
  * - that each call over a chain that is kept answers and writes what the call with the header's text does, while other threads
  *   use the same chain and free it; that what is kept stays where a new chain is refused, or isn't shared; and that a call over
@@ -24,7 +25,8 @@
 
 static const char *const KIND_NAMES[] = {"check", "representation", "encode", "decode", "read", "write",
                                          "reencode", "planned_ranges", "read_pieces", "error_name",
-                                         "read_many", "edit", "lacking", "chain_new", "chain_share"};
+                                         "read_many", "edit", "lacking", "chain_new", "chain_share",
+                                         "array_plan", "part_put", "part_take"};
 static double limit;
 
 static double now(void)

@@ -1,7 +1,9 @@
-//! The library's calls as C calls them: each is the call of the same name in `zarrs_c_calls`, with its
-//! contract. `include/zarrs_codecs.h` declares them, and says what C has to keep.
+//! The library's calls as C calls them: each is the call of the same name in `zarrs_c_calls`, or of arrays in
+//! `zarrs_array_calls`, with its contract. `include/zarrs_codecs.h` declares them, and says what C has to keep.
 #![tactic(auto)]
 
+mod array_parts;
+mod array_plan;
 mod chain;
 mod check;
 mod decode;
@@ -17,6 +19,8 @@ mod reencode;
 mod representation;
 mod write;
 
+pub use array_parts::{zarrs_part_put, zarrs_part_take};
+pub use array_plan::zarrs_array_plan;
 pub use chain::{zarrs_chain_free, zarrs_chain_new, zarrs_chain_share};
 pub use check::zarrs_check;
 pub use decode::{zarrs_chain_decode, zarrs_decode};
