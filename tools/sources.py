@@ -32,7 +32,7 @@ CAPS = {
     "edits": 153,
     "definitions by cases on the codec": 16,
     "arms for all other codecs": 22,
-    "wide clauses": 61,
+    "wide clauses": 68,
     "words of one clause": 166,
     "definitions below a clause": 738,
     "words of README": 1300,
